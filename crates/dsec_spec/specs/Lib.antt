@@ -1,0 +1,14 @@
+pub mod Reading
+pub mod Names
+pub mod Numbers
+pub mod Layouts
+pub mod RecordData
+pub mod Records
+pub mod KeyTag
+pub mod Digests
+pub mod Accepts
+pub mod Period
+pub mod SignedBytes
+pub mod Signed
+pub mod DelegationSigner
+pub mod Chain

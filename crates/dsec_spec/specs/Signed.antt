@@ -1,0 +1,28 @@
+-- When a zone's key has signed a set (RFC 4035 5.3.1).
+use Rattle.std.specs.Prelude.{◌≡◌, ℕ, ◌/◌, ◌%◌, ◌≤◌, length, IsTrue}
+use Rattle.dsec_spec.specs.Names.{Place, place, IsAtOrBelow}
+use Rattle.dsec_spec.specs.Records.{RecordSet, Key, Signature}
+use Rattle.dsec_spec.specs.KeyTag.{key_tag}
+use Rattle.dsec_spec.specs.Period.{InPeriod}
+use Rattle.dsec_spec.specs.Accepts.{Accepts}
+use Rattle.dsec_spec.specs.SignedBytes.{signed_bytes}
+
+-- a key for zone data: it has the zone flag 0x0100 and the protocol 3 (RFC 4034 2.1.1, 2.1.2)
+pub record IsZoneKey (key : Key) : Type 0 where
+  pub flag : key.flags / 256 % 2 ≡ 1
+  pub of_dnssec : key.protocol ≡ 3
+
+-- The signature shows at the moment t that the zone's key signed the set. All eleven tests of RFC 4035
+-- 5.3.1; that the key stands in the zone's DNSKEY set is said where a chain is followed.
+pub record Signed (accepts : Accepts) (set : RecordSet) (sig : Signature) (key : Key) (zone : Place) (t : ℕ) : Type 0 where
+  pub same_owner : place sig.owner ≡ place set.owner
+  pub same_class : sig.class ≡ set.class
+  pub covers : sig.rrsig.covered ≡ set.rtype
+  pub signer : place sig.rrsig.signer ≡ zone
+  pub within : IsAtOrBelow (place set.owner) zone
+  pub labels : sig.rrsig.labels ≤ length set.owner
+  pub algorithm : sig.rrsig.algorithm ≡ key.algorithm
+  pub tag : sig.rrsig.tag ≡ key_tag key
+  pub zone_key : IsZoneKey key
+  pub period : InPeriod sig.rrsig.inception sig.rrsig.expiration t
+  pub accepted : IsTrue (accepts key.flags key.protocol key.algorithm key.public_key (signed_bytes sig.rrsig set) sig.rrsig.signature)
