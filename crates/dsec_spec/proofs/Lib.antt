@@ -1,0 +1,6 @@
+pub mod NameOrder
+pub mod NamesBelow
+pub mod CanonicalNames
+pub mod AscendingOrder
+pub mod SignedBytesLaws
+pub mod Examples
