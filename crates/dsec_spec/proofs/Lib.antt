@@ -4,3 +4,5 @@ pub mod CanonicalNames
 pub mod AscendingOrder
 pub mod SignedBytesLaws
 pub mod Examples
+pub mod ChainExample
+pub mod ChainLaws

@@ -1,15 +1,6 @@
 -- Which signatures a verifier accepts.
-use Rattle.std.specs.Prelude.{ℕ, List, [], ◌∷◌, Bool, nat_eq}
-use Rattle.std.specs.List.{list_any}
+use Rattle.std.specs.Prelude.{ℕ, List, Bool}
 
 -- a test of a key's flags, protocol, algorithm and octets, of a message and of a signature over it
 abbrev pub Accepts : Type 0
 Accepts = ℕ → ℕ → ℕ → List ℕ → List ℕ → List ℕ → Bool
-
--- the algorithms whose signatures are checked here: RSA/SHA-1 twice, RSA/SHA-256, RSA/SHA-512 and
--- ECDSA P-256 (RFC 4034 A.1, RFC 5155 2, RFC 5702, RFC 6605)
-abbrev pub supported_algorithms : List ℕ
-supported_algorithms = 5 ∷ 7 ∷ 8 ∷ 10 ∷ 13 ∷ []
-
-abbrev pub is_supported_algorithm : ℕ → Bool
-is_supported_algorithm algorithm = list_any (nat_eq algorithm) supported_algorithms

@@ -4,7 +4,7 @@ use Rattle.dsec_spec.specs.Names.{Labels, canonical_octets}
 use Rattle.dsec_spec.specs.Records.{Key, key_octets, Ds}
 use Rattle.dsec_spec.specs.KeyTag.{key_tag}
 use Rattle.dsec_spec.specs.Digests.{digest_by, is_supported_digest}
-use Rattle.dsec_spec.specs.Accepts.{is_supported_algorithm}
+use Rattle.dsec_spec.specs.Algorithms.{is_supported_algorithm}
 
 -- The DS record speaks of the owner's key: its digest is that of the owner's canonical name and the DNSKEY data,
 -- under SHA-1, SHA-256 or SHA-384 (RFC 4034 5.1.4)

@@ -1,5 +1,6 @@
 -- The tag of a key (RFC 4034 B).
 use Rattle.std.specs.Prelude.{ℕ, ◌+◌, ◌*◌, ◌/◌, ◌%◌, ◌^◌, ◌==◌, List, [], ◌∷◌, reverse, if◌then◌else◌}
+use Rattle.dsec_spec.specs.Algorithms.{RSAMD5}
 use Rattle.dsec_spec.specs.Records.{Key, key_octets}
 
 -- the sum of the 16-bit words, each with its high octet first; a last odd octet is a high one
@@ -16,10 +17,6 @@ checksum octets = let sum = word_sum octets in (sum + sum / 2 ^ 16) % 2 ^ 16
 abbrev pub modulus_tag : List ℕ → ℕ
 modulus_tag (last ∷ second ∷ third ∷ octets) = third * 256 + second
 modulus_tag _ = 0
-
--- the algorithm whose keys have their tag in the modulus, RSA/MD5 (RFC 4034 A.1)
-abbrev pub RSAMD5 : ℕ
-RSAMD5 = 1
 
 -- the key's tag: the checksum of its DNSKEY data, but for RSA/MD5 octets of its modulus (RFC 4034 B)
 abbrev pub key_tag : Key → ℕ

@@ -4,6 +4,9 @@ pub mod Numbers
 pub mod Layouts
 pub mod RecordData
 pub mod Records
+pub mod WireNames
+pub mod Messages
+pub mod Algorithms
 pub mod KeyTag
 pub mod Digests
 pub mod Accepts

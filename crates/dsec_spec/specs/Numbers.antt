@@ -62,6 +62,9 @@ KX = 36
 abbrev pub DNAME : ℕ
 DNAME = 39
 
+abbrev pub OPT : ℕ
+OPT = 41
+
 abbrev pub DS : ℕ
 DS = 43
 

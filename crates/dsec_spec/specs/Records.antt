@@ -80,11 +80,11 @@ abbrev pub rrsig_octets : Rrsig → List ℕ
 rrsig_octets sig = fixed_octets sig ++ wire_octets sig.signer ++ sig.signature
 
 -- an RRSIG record: what it says, and where it stands
-pub record Signature : Type 0 where
+pub record RrsigRecord : Type 0 where
   pub owner : Labels
   pub class : ℕ
   pub rrsig : Rrsig
 
 -- an RRSIG beside a set
-abbrev pub beside : RecordSet → Rrsig → Signature
+abbrev pub beside : RecordSet → Rrsig → RrsigRecord
 beside set sig = record { owner = set.owner; class = set.class; rrsig = sig }

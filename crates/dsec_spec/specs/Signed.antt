@@ -1,7 +1,7 @@
 -- When a zone's key has signed a set (RFC 4035 5.3.1).
 use Rattle.std.specs.Prelude.{◌≡◌, ℕ, ◌/◌, ◌%◌, ◌≤◌, length, IsTrue}
 use Rattle.dsec_spec.specs.Names.{Place, place, IsAtOrBelow}
-use Rattle.dsec_spec.specs.Records.{RecordSet, Key, Signature}
+use Rattle.dsec_spec.specs.Records.{RecordSet, Key, RrsigRecord}
 use Rattle.dsec_spec.specs.KeyTag.{key_tag}
 use Rattle.dsec_spec.specs.Period.{InPeriod}
 use Rattle.dsec_spec.specs.Accepts.{Accepts}
@@ -14,7 +14,7 @@ pub record IsZoneKey (key : Key) : Type 0 where
 
 -- The signature shows at the moment t that the zone's key signed the set. All eleven tests of RFC 4035
 -- 5.3.1; that the key stands in the zone's DNSKEY set is said where a chain is followed.
-pub record Signed (accepts : Accepts) (set : RecordSet) (sig : Signature) (key : Key) (zone : Place) (t : ℕ) : Type 0 where
+pub record Signed (accepts : Accepts) (set : RecordSet) (sig : RrsigRecord) (key : Key) (zone : Place) (t : ℕ) : Type 0 where
   pub same_owner : place sig.owner ≡ place set.owner
   pub same_class : sig.class ≡ set.class
   pub covers : sig.rrsig.covered ≡ set.rtype

@@ -1,0 +1,157 @@
+-- A chain that holds: the key of `example.` as an anchor, its DNSKEY set, and the address of `www.example.`.
+use Rattle.std.proofs.Common.{◌≡◌, ℕ, List, [], ◌∷◌, ◌++◌, refl, sym, ap, ◌∙◌, subst, inl, arith, rules, ◌&&◌, ◌||◌}
+use Rattle.std.specs.Prelude.{codes, Some}
+use Rattle.std.specs.Str.{bytes_eq}
+use Rattle.dsec_spec.specs.Names.{Labels, wire_octets}
+use Rattle.dsec_spec.specs.RecordData.{parts_in}
+use Rattle.dsec_spec.specs.Records.{Key, Record, Rrsig, RecordSet, beside}
+use Rattle.dsec_spec.specs.Period.{InPeriod}
+use Rattle.dsec_spec.specs.SignedBytes.{inserted, ascending}
+use Rattle.dsec_spec.specs.Accepts.{Accepts}
+use Rattle.dsec_spec.specs.Signed.{Signed}
+use Rattle.dsec_spec.specs.Chain.{Link, anchor_key, set, IsAnchorKeyLink, IsSetLink, Holds}
+
+abbrev example : Labels
+example = codes "example" ∷ []
+
+abbrev www : Labels
+www = codes "www" ∷ codes "example" ∷ []
+
+abbrev zone_key : Key
+zone_key = record { flags = 257; protocol = 3; algorithm = 13; public_key = 1 ∷ 2 ∷ [] }
+
+abbrev key_data : List ℕ
+key_data = 1 ∷ 1 ∷ 3 ∷ 13 ∷ 1 ∷ 2 ∷ []
+
+-- a signature by the key, from 0 to 1000
+abbrev sig_over : ℕ → ℕ → List ℕ → Rrsig
+sig_over covered labels signature = record {
+  covered = covered;
+  algorithm = 13;
+  labels = labels;
+  original_ttl = 3600;
+  expiration = 1000;
+  inception = 0;
+  tag = 1296;
+  signer = example;
+  signature = signature;
+}
+
+abbrev key_set : RecordSet
+key_set = record { owner = example; class = 1; rtype = 48; datas = key_data ∷ [] }
+
+abbrev address_set : RecordSet
+address_set = record { owner = www; class = 1; rtype = 1; datas = (192 ∷ 0 ∷ 2 ∷ 1 ∷ []) ∷ [] }
+
+-- what is signed of the DNSKEY set, in octets
+abbrev key_message : List ℕ
+key_message =
+    0 ∷ 48 ∷ 13 ∷ 1 ∷ 0 ∷ 0 ∷ 14 ∷ 16 ∷ 0 ∷ 0 ∷ 3 ∷ 232 ∷ 0 ∷ 0 ∷ 0 ∷ 0 ∷ 5 ∷ 16 ∷ wire_octets example
+    ++ wire_octets example ++ 0 ∷ 48 ∷ 0 ∷ 1 ∷ 0 ∷ 0 ∷ 14 ∷ 16 ∷ 0 ∷ 6 ∷ key_data
+
+-- what is signed of the address
+abbrev address_message : List ℕ
+address_message =
+    0 ∷ 1 ∷ 13 ∷ 2 ∷ 0 ∷ 0 ∷ 14 ∷ 16 ∷ 0 ∷ 0 ∷ 3 ∷ 232 ∷ 0 ∷ 0 ∷ 0 ∷ 0 ∷ 5 ∷ 16 ∷ wire_octets example
+    ++ wire_octets www ++ 0 ∷ 1 ∷ 0 ∷ 1 ∷ 0 ∷ 0 ∷ 14 ∷ 16 ∷ 0 ∷ 4 ∷ 192 ∷ 0 ∷ 2 ∷ 1 ∷ []
+
+-- a verifier that accepts one signature, an octet, over each of these
+abbrev accepts_two : Accepts
+accepts_two flags protocol algorithm key message signature =
+    (bytes_eq message key_message && bytes_eq signature (7 ∷ [])) || (bytes_eq message address_message && bytes_eq signature (8 ∷ []))
+
+abbrev anchor : Record
+anchor = record { owner = example; class = 1; rtype = 48; ttl = 3600; rdata = key_data }
+
+abbrev anchor_link : Link
+anchor_link = record { kind = anchor_key; records = key_set; via = Some key_data; signing_key = key_data; rrsig = sig_over 48 1 (7 ∷ []) }
+
+abbrev address_link : Link
+address_link = record { kind = set; records = address_set; via = Some []; signing_key = key_data; rrsig = sig_over 1 2 (8 ∷ []) }
+
+key_set_signed : Signed accepts_two key_set (beside key_set anchor_link.rrsig) zone_key (example) 500
+unfolding inserted ascending parts_in
+key_set_signed = record {
+  same_owner = refl;
+  same_class = refl;
+  covers = refl;
+  signer = refl;
+  within = record { under = []; is = refl };
+  labels = omega arith;
+  algorithm = refl;
+  tag = refl;
+  zone_key = record { flag = refl; of_dnssec = refl };
+  period = record { ordered = omega arith; within = omega arith };
+  accepted = refl;
+}
+
+address_signed : Signed accepts_two address_set (beside address_set address_link.rrsig) zone_key (example) 500
+unfolding inserted ascending parts_in
+address_signed = record {
+  same_owner = refl;
+  same_class = refl;
+  covers = refl;
+  signer = refl;
+  within = record { under = codes "www" ∷ []; is = refl };
+  labels = omega arith;
+  algorithm = refl;
+  tag = refl;
+  zone_key = record { flag = refl; of_dnssec = refl };
+  period = record { ordered = omega arith; within = omega arith };
+  accepted = refl;
+}
+
+-- the first link's set is signed by the anchor itself
+anchor_link_holds : IsAnchorKeyLink accepts_two (anchor ∷ []) anchor_link 500
+anchor_link_holds = record {
+  of_kind = refl;
+  key_set = record {
+    of_class = refl;
+    of_type = refl;
+    its_own = search rules;
+    signed = record { public_key = zone_key; reads = refl; signed = key_set_signed };
+  };
+  by_way_of = refl;
+  anchored = record { anchor = anchor; listed = search rules; of_class = refl; of_type = refl; stands_at = refl; says = refl };
+}
+
+-- and the last link's by the same key
+address_link_holds : IsSetLink accepts_two example (key_data ∷ []) address_link 500
+address_link_holds = record {
+  of_kind = refl;
+  within = record { under = codes "www" ∷ []; is = refl };
+  ds_above = λ is_ds not_root. record { next = codes "www"; under = []; is = refl };
+  by_held = search rules;
+  signed = record { public_key = zone_key; reads = refl; signed = address_signed };
+}
+
+-- the two links show the address at the moment 500
+pub address_holds : Holds accepts_two (anchor ∷ []) (anchor_link ∷ address_link ∷ []) address_set 500
+address_holds = record {
+  chain = anchor_link ∷ [];
+  last = address_link;
+  zone = example;
+  keys = key_data ∷ [];
+  are = refl;
+  leads = (inl anchor_link_holds, (refl, refl));
+  shows = address_link_holds;
+  same = refl;
+}
+
+-- the last of some links, or this one
+abbrev last_of : Link → List Link → Link
+last_of link [] = link
+last_of link (first ∷ links) = last_of first links
+
+last_of-append : (link last : Link) (links : List Link) → last_of link (links ++ last ∷ []) ≡ last
+last_of-append link last [] = refl
+last_of-append link last (first ∷ links) = last_of-append first last links
+
+-- after the period they don't
+pub address_fails_later : Holds accepts_two (anchor ∷ []) (anchor_link ∷ address_link ∷ []) address_set 1001 → ⊥
+address_fails_later h =
+    let is_last : address_link ≡ h.last = ap (last_of anchor_link) h.are ∙ last_of-append anchor_link h.last h.chain in
+    let period = h.shows.signed.signed.period in
+    let at_end : InPeriod 0 1000 1001 = subst (λ (link : Link). InPeriod link.rrsig.inception link.rrsig.expiration 1001) (sym is_last) period in
+    let late = at_end.within in
+    absurd (omega (arith, late))
