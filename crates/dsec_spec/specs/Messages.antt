@@ -1,29 +1,13 @@
 -- Messages: the header, questions and records (RFC 1035 4.1).
-use Rattle.std.specs.Prelude.{ℕ, zero, suc, ◌+◌, ◌-◌, ◌*◌, ◌/◌, ◌%◌, ◌^◌, ◌==◌, nat_lt, List, [], ◌∷◌, length, drop, slice_range, Option, Some, None, if◌then◌else◌}
+use Rattle.std.specs.Prelude.{ℕ, zero, suc, ◌+◌, ◌-◌, ◌*◌, ◌/◌, ◌%◌, ◌^◌, ◌==◌, nat_lt, List, [], ◌∷◌, length, slice_range, Option, Some, None, if◌then◌else◌}
 use Rattle.std.specs.List.{flat_map}
-use Rattle.dsec_spec.specs.Reading.{◌>>=◌, many_of}
+use Rattle.dsec_spec.specs.Reading.{◌>>=◌, many_of, u16_at, u32_at}
 use Rattle.dsec_spec.specs.Names.{Labels}
 use Rattle.dsec_spec.specs.Numbers.{OPT}
 use Rattle.dsec_spec.specs.Layouts.{Field, lowered_name, kept_name, layout_of}
 use Rattle.dsec_spec.specs.RecordData.{Part, lowered, kept, part_octets, part_in}
 use Rattle.dsec_spec.specs.Records.{Record}
 use Rattle.dsec_spec.specs.WireNames.{name_at}
-
--- a number of two octets at the front, the high one first
-abbrev pub u16_in : List ℕ → Option ℕ
-u16_in (high ∷ low ∷ octets) = Some (high * 256 + low)
-u16_in _ = None
-
--- a number of four octets at the front, the high one first
-abbrev pub u32_in : List ℕ → Option ℕ
-u32_in (a ∷ b ∷ c ∷ d ∷ octets) = Some (((a * 256 + b) * 256 + c) * 256 + d)
-u32_in _ = None
-
-abbrev pub u16_at : List ℕ → ℕ → Option ℕ
-u16_at message at = u16_in (drop at message)
-
-abbrev pub u32_at : List ℕ → ℕ → Option ℕ
-u32_at message at = u32_in (drop at message)
 
 -- the header: 12 octets (RFC 1035 4.1.1)
 pub record Header : Type 0 where

@@ -1,5 +1,5 @@
 -- Reading: what octets or text give, or that they give nothing; and what a call may answer.
-use Rattle.std.specs.Prelude.{◌≡◌, ℕ, zero, suc, List, [], ◌∷◌, Bool, Option, Some, None, Result, Ok, Err}
+use Rattle.std.specs.Prelude.{◌≡◌, ℕ, zero, suc, ◌+◌, ◌*◌, List, [], ◌∷◌, drop, Bool, Option, Some, None, Result, Ok, Err}
 use Rattle.std.specs.Bool.{OnFalse}
 
 -- what was read goes on to the next reader; from nothing comes nothing
@@ -15,6 +15,22 @@ many_of read (suc n) at = do
   first ← read at
   others ← many_of read n first.1
   Some (first.0 ∷ others.0, others.1)
+
+-- a number of two octets at the front, the high one first
+abbrev pub u16_in : List ℕ → Option ℕ
+u16_in (high ∷ low ∷ octets) = Some (high * 256 + low)
+u16_in _ = None
+
+-- a number of four octets at the front, the high one first
+abbrev pub u32_in : List ℕ → Option ℕ
+u32_in (a ∷ b ∷ c ∷ d ∷ octets) = Some (((a * 256 + b) * 256 + c) * 256 + d)
+u32_in _ = None
+
+abbrev pub u16_at : List ℕ → ℕ → Option ℕ
+u16_at message at = u16_in (drop at message)
+
+abbrev pub u32_at : List ℕ → ℕ → Option ℕ
+u32_at message at = u32_in (drop at message)
 
 -- A call answers as defined: the value, as seen by `view`, or the refusal. The errors that `free` marks,
 -- which stand for want of memory, may come at any time; no other answer may.

@@ -48,7 +48,6 @@ pub record IsBitmap (blocks : List Block) (bitmap_octets : List ℕ) : Type 0 wh
 -- the octets are a length octet and so many octets (RFC 1035 3.3)
 pub record IsString (string_octets : List ℕ) : Type 0 where
   pub text : List ℕ
-  pub at_most : length text ≤ 255
   pub is : string_octets ≡ length text ∷ text
 
 -- the part is what its field says

@@ -1,7 +1,9 @@
 -- Records, sets of records, and what the data of DNSKEY, DS and RRSIG records say.
-use Rattle.std.specs.Prelude.{ℕ, ◌+◌, ◌*◌, List, ◌∷◌, ◌++◌, map, Option, Some, None}
+use Rattle.std.specs.Prelude.{ℕ, ◌+◌, ◌*◌, List, ◌∷◌, ◌++◌, map, drop, slice_get, Option, Some, None}
 use Rattle.std.specs.Int.{w16, w32, to_be_bytes}
+use Rattle.dsec_spec.specs.Reading.{◌>>=◌, u16_at, u32_at}
 use Rattle.dsec_spec.specs.Names.{Labels, wire_octets}
+use Rattle.dsec_spec.specs.RecordData.{name_in}
 
 -- a resource record; the TTL is in seconds, names in the data are uncompressed (RFC 1035 3.2.1)
 pub record Record : Type 0 where
@@ -57,6 +59,10 @@ ds_of (high ∷ low ∷ algorithm ∷ digest_type ∷ digest) =
     Some (record { tag = high * 256 + low; algorithm = algorithm; digest_type = digest_type; digest = digest })
 ds_of _ = None
 
+-- a DS record's data
+abbrev pub ds_octets : Ds → List ℕ
+ds_octets ds = to_be_bytes w16 ds.tag ++ ds.algorithm ∷ ds.digest_type ∷ ds.digest
+
 -- the data of an RRSIG record; times are in seconds since 1970, modulo 2 ^ 32 (RFC 4034 3.1)
 pub record Rrsig : Type 0 where
   pub covered : ℕ
@@ -78,6 +84,29 @@ fixed_octets sig =
 -- an RRSIG record's data
 abbrev pub rrsig_octets : Rrsig → List ℕ
 rrsig_octets sig = fixed_octets sig ++ wire_octets sig.signer ++ sig.signature
+
+-- what an RRSIG record's data say
+unfoldable pub rrsig_of : List ℕ → Option Rrsig
+rrsig_of x = do
+  covered ← u16_at x 0
+  algorithm ← slice_get x 2
+  labels ← slice_get x 3
+  original_ttl ← u32_at x 4
+  expiration ← u32_at x 8
+  inception ← u32_at x 12
+  tag ← u16_at x 16
+  signer ← name_in (drop 18 x)
+  Some (record {
+    covered = covered;
+    algorithm = algorithm;
+    labels = labels;
+    original_ttl = original_ttl;
+    expiration = expiration;
+    inception = inception;
+    tag = tag;
+    signer = signer.0;
+    signature = signer.1;
+  })
 
 -- an RRSIG record: what it says, and where it stands
 pub record RrsigRecord : Type 0 where

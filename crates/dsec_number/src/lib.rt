@@ -1,0 +1,18 @@
+//! The numbers of DNS and DNSSEC, each a type of its own: types, classes, algorithms, rcodes and times.
+#![tactic(auto)]
+
+mod algorithm;
+mod class;
+mod rcode;
+mod rtype;
+mod serial;
+mod timestamp;
+mod ttl;
+
+pub use algorithm::{DigestAlgorithm, Nsec3HashAlgorithm, SecurityAlgorithm};
+pub use class::Class;
+pub use rcode::Rcode;
+pub use rtype::Rtype;
+pub use serial::Serial;
+pub use timestamp::Timestamp;
+pub use ttl::Ttl;
