@@ -8,6 +8,7 @@ pub mod CanonicalDataLemmas
 pub mod StepLemmas
 pub mod RecordLemmas
 pub mod HeadLemmas
+pub mod NamesInMessages
 pub mod AscendingOrder
 pub mod SignedBytesLaws
 pub mod ChainLaws
