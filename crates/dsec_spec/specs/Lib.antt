@@ -15,3 +15,4 @@ pub mod SignedBytes
 pub mod Signed
 pub mod DelegationSigner
 pub mod Chain
+pub mod Outside

@@ -1,0 +1,124 @@
+//! Sources and sinks in memory: those that never fail by themselves, and those whose calls of given numbers fail.
+
+ghost use Rattle.std.specs.Prelude.{◌≡◌, [], Some};
+
+use crate::sink::Sink;
+use crate::source::{Failed, Source};
+use std::alloc::Global;
+use std::io::Read;
+
+/// Octets as a source that never fails.
+#[derive(Drop)]
+pub struct OctetsSource<'a> {
+    /// What is left to read.
+    pub rest: &'a [u8],
+}
+
+impl<'a> Source for OctetsSource<'a> {
+    ghost left = { λ source. Some source.rest.now };
+
+    ghost faults = { λ _. 0 };
+
+    fn read(&mut self, buffer: &mut [u8]) -> Result<usize, Failed> {
+        self.rest.read(buffer).map_err(|_| Failed)
+    }
+}
+
+/// Octets as a source whose calls of given numbers fail.
+#[derive(Drop)]
+pub struct FailingSource<'a> {
+    /// What is left to read.
+    pub rest: &'a [u8],
+    /// The numbers of the calls that fail; the first call has the number 0.
+    pub failing: &'a [u64],
+    /// How many calls were made: a count that stays at 2^64 - 1.
+    pub calls: u64,
+    /// How many of them failed: a count that stays at 2^64 - 1.
+    pub faults: u64,
+}
+
+impl<'a> Source for FailingSource<'a> {
+    ghost left = { λ source. Some source.rest.now };
+
+    ghost faults = { λ source. source.faults };
+
+    fn read(&mut self, buffer: &mut [u8]) -> Result<usize, Failed> {
+        let fails = self.failing.contains(&self.calls);
+        self.calls = self.calls.saturating_add(1);
+        if !fails {
+            if let Ok(count) = self.rest.read(buffer) {
+                return Ok(count);
+            }
+        }
+        self.faults = self.faults.saturating_add(1);
+        Err(Failed)
+    }
+}
+
+/// A sink that keeps all octets. It fails only where there is no memory to keep them, and counts that.
+#[derive(Drop)]
+pub struct OctetsSink {
+    /// What was written.
+    pub octets: Vec<u8>,
+    /// How often there was no memory: a count that stays at 2^64 - 1.
+    pub faults: u64,
+}
+
+impl OctetsSink {
+    /// A sink with nothing written.
+    pub fn new(alloc: Global) -> Self
+        ensures empty { result.octets.items ≡ [] }
+        ensures faultless { result.faults ≡ 0 }
+    {
+        OctetsSink {
+            octets: Vec::new(alloc),
+            faults: 0,
+        }
+    }
+}
+
+impl Sink for OctetsSink {
+    ghost written = { λ sink. Some sink.octets.items };
+
+    ghost faults = { λ sink. sink.faults };
+
+    fn write(&mut self, octets: &[u8]) -> Result<usize, Failed> {
+        if self.octets.extend_from_slice(octets).is_ok() {
+            return Ok(octets.len());
+        }
+        self.faults = self.faults.saturating_add(1);
+        Err(Failed)
+    }
+}
+
+/// A sink that keeps octets, takes at most so many in a call, and whose calls of given numbers fail.
+#[derive(Drop)]
+pub struct FailingSink<'a> {
+    /// What was written.
+    pub octets: Vec<u8>,
+    /// How many octets a call takes at most; a sink that takes none fails.
+    pub piece: usize,
+    /// The numbers of the calls that fail; the first call has the number 0.
+    pub failing: &'a [u64],
+    /// How many calls were made: a count that stays at 2^64 - 1.
+    pub calls: u64,
+    /// How many of them failed: a count that stays at 2^64 - 1.
+    pub faults: u64,
+}
+
+impl<'a> Sink for FailingSink<'a> {
+    ghost written = { λ sink. Some sink.octets.items };
+
+    ghost faults = { λ sink. sink.faults };
+
+    fn write(&mut self, octets: &[u8]) -> Result<usize, Failed> {
+        let fails = self.failing.contains(&self.calls) || self.piece == 0;
+        self.calls = self.calls.saturating_add(1);
+        let count = octets.len().min(self.piece);
+        if !fails && self.octets.extend_from_slice(&octets[..count]).is_ok() {
+            return Ok(count);
+        }
+        self.faults = self.faults.saturating_add(1);
+        Err(Failed)
+    }
+}

@@ -1,0 +1,52 @@
+//! Std's readers and writers as a source and a sink. What a real file, terminal or stream holds is not
+//! proved: here is the trusted edge, and it only counts the errors.
+
+use crate::sink::Sink;
+use crate::source::{Failed, Source};
+use std::io::{Read, Write};
+
+/// A reader of std with its errors counted.
+#[derive(Drop)]
+pub struct Reading<R> {
+    pub inner: R,
+    pub faults: u64,
+}
+
+impl<R: Read> Source for Reading<R> {
+    ghost left = { λ source. R.remaining source.inner };
+
+    ghost faults = { λ source. source.faults };
+
+    fn read(&mut self, buffer: &mut [u8]) -> Result<usize, Failed> {
+        match self.inner.read(buffer) {
+            Ok(count) => Ok(count),
+            Err(_) => {
+                self.faults = self.faults.saturating_add(1);
+                Err(Failed)
+            }
+        }
+    }
+}
+
+/// A writer of std with its errors counted. A write that takes nothing of a piece is an error.
+#[derive(Drop)]
+pub struct Writing<W> {
+    pub inner: W,
+    pub faults: u64,
+}
+
+impl<W: Write> Sink for Writing<W> {
+    ghost written = { λ sink. W.contents sink.inner };
+
+    ghost faults = { λ sink. sink.faults };
+
+    fn write(&mut self, octets: &[u8]) -> Result<usize, Failed> {
+        match self.inner.write(octets) {
+            Ok(count) if count > 0 || octets.is_empty() => Ok(count),
+            _ => {
+                self.faults = self.faults.saturating_add(1);
+                Err(Failed)
+            }
+        }
+    }
+}

@@ -1,0 +1,42 @@
+-- The outside: counts that stay at their last value, faults and their causes, and what an upstream answers.
+use Rattle.std.specs.Prelude.{◌≡◌, ℕ, ◌+◌, ◌-◌, ◌^◌, ◌≤◌, ◌==◌, ◌&&◌, min, List, Bool, find, Option, None, Some, Result, OnErr}
+use Rattle.dsec_spec.specs.Names.{Labels, place, same_place}
+
+-- the last value of a count
+abbrev pub last_count : ℕ
+last_count = 2 ^ 64 - 1
+
+-- a count that rises by one, or stays at its last value
+abbrev pub risen : ℕ → ℕ
+risen before = min (before + 1) last_count
+
+-- a count rose, or stands at its last value
+abbrev pub Rose : ℕ → ℕ → Type 0
+Rose before now = risen before ≤ now
+
+-- a count of faults never falls, and a call fails only where it rose
+pub record HasCause {T E : Type 0} (before now : ℕ) (result : Result T E) : Type 0 where
+  pub later : before ≤ now
+  pub failed : OnErr result (Rose before now)
+
+-- an answer that is kept for a question: a reply, or none where the question fails
+pub record Entry : Type 0 where
+  pub name : Labels
+  pub rtype : ℕ
+  pub reply : Option (List ℕ)
+
+abbrev pub Table : Type 0
+Table = List Entry
+
+-- whether the entry is the question's
+abbrev pub answers : Labels → ℕ → Entry → Bool
+answers name rtype entry = same_place (place entry.name) (place name) && (entry.rtype == rtype)
+
+-- what is found of a question: the reply of its first entry; none where that fails, or there is no entry
+abbrev pub reply_of : Option Entry → Option (List ℕ)
+reply_of None = None
+reply_of (Some entry) = entry.reply
+
+-- the reply to a question of class IN, or none where it fails
+abbrev pub asked_of : Table → Labels → ℕ → Option (List ℕ)
+asked_of table name rtype = reply_of (find (answers name rtype) table)
