@@ -3,14 +3,17 @@
 
 mod algorithm;
 mod class;
+mod error;
 mod rcode;
 mod rtype;
 mod serial;
 mod timestamp;
 mod ttl;
+mod word;
 
 pub use algorithm::{DigestAlgorithm, Nsec3HashAlgorithm, SecurityAlgorithm};
 pub use class::Class;
+pub use error::UnknownWord;
 pub use rcode::Rcode;
 pub use rtype::Rtype;
 pub use serial::Serial;

@@ -1,8 +1,14 @@
 //! Types of records (RFC 1035 3.2.2).
 
 ghost use Rattle.std.specs.Prelude.{◌≡◌};
+ghost use Rattle.dsec_number.specs.Rows.{words_in};
+ghost use Rattle.dsec_number.specs.Words.{type_words};
 
+use crate::error::UnknownWord;
+use crate::word::{Row, number, word};
+use std::fmt;
 use std::marker::Model;
+use std::str::FromStr;
 
 /// The type of a record, or of the records that are asked for.
 #[derive(Clone, Copy, Debug, PartialEq, Eq, PartialOrd, Ord, Hash)]
@@ -96,5 +102,130 @@ impl Rtype {
         ensures { result ≡ self }
     {
         self.number
+    }
+}
+
+/// The words of types.
+fn rows() -> [Row; 21]
+    ensures { words_in result ≡ type_words }
+{
+    [
+        Row {
+            word: "A",
+            number: 1,
+        },
+        Row {
+            word: "NS",
+            number: 2,
+        },
+        Row {
+            word: "CNAME",
+            number: 5,
+        },
+        Row {
+            word: "SOA",
+            number: 6,
+        },
+        Row {
+            word: "PTR",
+            number: 12,
+        },
+        Row {
+            word: "HINFO",
+            number: 13,
+        },
+        Row {
+            word: "MX",
+            number: 15,
+        },
+        Row {
+            word: "TXT",
+            number: 16,
+        },
+        Row {
+            word: "AAAA",
+            number: 28,
+        },
+        Row {
+            word: "SRV",
+            number: 33,
+        },
+        Row {
+            word: "DNAME",
+            number: 39,
+        },
+        Row {
+            word: "OPT",
+            number: 41,
+        },
+        Row {
+            word: "DS",
+            number: 43,
+        },
+        Row {
+            word: "RRSIG",
+            number: 46,
+        },
+        Row {
+            word: "NSEC",
+            number: 47,
+        },
+        Row {
+            word: "DNSKEY",
+            number: 48,
+        },
+        Row {
+            word: "NSEC3",
+            number: 50,
+        },
+        Row {
+            word: "NSEC3PARAM",
+            number: 51,
+        },
+        Row {
+            word: "CDS",
+            number: 59,
+        },
+        Row {
+            word: "CDNSKEY",
+            number: 60,
+        },
+        Row {
+            word: "ANY",
+            number: 255,
+        },
+    ]
+}
+
+/// Reads a word in either case, and each number also as `TYPE` and decimal digits (RFC 3597 5).
+impl FromStr for Rtype {
+    type Err = UnknownWord;
+
+    ghost use Rattle.std.specs.Prelude.{codes};
+    ghost use Rattle.std.specs.Result.{result_ok};
+    ghost use Rattle.dsec_number.specs.Words.{IsNumberOf, type_words};
+
+    ghost from_str_gives = { λ text result. IsNumberOf type_words (codes "TYPE") text (result_ok result) };
+
+    fn from_str(text: &str) -> Result<Self, UnknownWord> {
+        match number(&rows(), b"TYPE", text.as_bytes()) {
+            Some(number) => Ok(Rtype { number }),
+            None => Err(UnknownWord),
+        }
+    }
+}
+
+/// The word, or `TYPE` and the number.
+impl fmt::Display for Rtype {
+    ghost use Rattle.std.specs.Prelude.{codes, Some};
+    ghost use Rattle.dsec_number.specs.Words.{type_words, word_of};
+
+    ghost output = { λ it. Some (word_of type_words (codes "TYPE") it) };
+
+    fn fmt<W: fmt::Write>(&self, f: &mut fmt::Formatter<W>) -> fmt::Result {
+        match word(&rows(), self.number) {
+            Some(word) => f.write_str(word),
+            None => write!(f, "TYPE{}", self.number),
+        }
     }
 }

@@ -1,0 +1,4 @@
+pub mod Digest
+pub mod StandIn
+pub mod Table
+pub mod Row
