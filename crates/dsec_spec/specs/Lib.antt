@@ -15,4 +15,6 @@ pub mod SignedBytes
 pub mod Signed
 pub mod DelegationSigner
 pub mod Chain
+pub mod Groups
+pub mod Sound
 pub mod Outside

@@ -1,5 +1,5 @@
 -- The outside: counts that stay at their last value, faults and their causes, and what an upstream answers.
-use Rattle.std.specs.Prelude.{◌≡◌, ℕ, ◌+◌, ◌-◌, ◌^◌, ◌≤◌, ◌==◌, ◌&&◌, min, List, Bool, find, Option, None, Some, Result, OnErr}
+use Rattle.std.specs.Prelude.{ℕ, ◌+◌, ◌-◌, ◌^◌, ◌≤◌, ◌==◌, ◌&&◌, min, List, Bool, find, Option, None, Some, Result, OnErr}
 use Rattle.dsec_spec.specs.Names.{Labels, place, same_place}
 
 -- the last value of a count
