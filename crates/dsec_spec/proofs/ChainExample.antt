@@ -1,8 +1,8 @@
 -- A chain that holds: the key of `example.` as an anchor, its DNSKEY set, and the address of `www.example.`.
 use Rattle.std.proofs.Common.{◌≡◌, ℕ, List, [], ◌∷◌, ◌++◌, refl, sym, ap, ◌∙◌, subst, inl, arith, rules, ◌&&◌, ◌||◌}
-use Rattle.std.specs.Prelude.{codes, Some}
+use Rattle.std.specs.Prelude.{codes, None, Some}
 use Rattle.std.specs.Str.{bytes_eq}
-use Rattle.dsec_spec.specs.Names.{Labels, wire_octets}
+use Rattle.dsec_spec.specs.Names.{Labels, place, wire_octets}
 use Rattle.dsec_spec.specs.RecordData.{parts_in}
 use Rattle.dsec_spec.specs.Records.{Key, Record, Rrsig, RecordSet, beside}
 use Rattle.dsec_spec.specs.Period.{InPeriod}
@@ -67,9 +67,9 @@ abbrev anchor_link : Link
 anchor_link = record { kind = anchor_key; records = key_set; via = Some key_data; signing_key = key_data; rrsig = sig_over 48 1 (7 ∷ []) }
 
 abbrev address_link : Link
-address_link = record { kind = set; records = address_set; via = Some []; signing_key = key_data; rrsig = sig_over 1 2 (8 ∷ []) }
+address_link = record { kind = set; records = address_set; via = None; signing_key = key_data; rrsig = sig_over 1 2 (8 ∷ []) }
 
-key_set_signed : Signed accepts_two key_set (beside key_set anchor_link.rrsig) zone_key (example) 500
+key_set_signed : Signed accepts_two key_set (beside key_set anchor_link.rrsig) zone_key (place example) 500
 unfolding inserted ascending parts_in
 key_set_signed = record {
   same_owner = refl;
@@ -85,7 +85,7 @@ key_set_signed = record {
   accepted = refl;
 }
 
-address_signed : Signed accepts_two address_set (beside address_set address_link.rrsig) zone_key (example) 500
+address_signed : Signed accepts_two address_set (beside address_set address_link.rrsig) zone_key (place example) 500
 unfolding inserted ascending parts_in
 address_signed = record {
   same_owner = refl;

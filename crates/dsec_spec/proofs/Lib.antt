@@ -15,3 +15,5 @@ pub mod ChainLaws
 pub mod Examples
 pub mod RecordDataExamples
 pub mod ChainExample
+pub mod DelegationExample
+pub mod RrsigLemmas

@@ -9,6 +9,7 @@ use Rattle.sha2.specs.Sha512.{sha384}
 abbrev pub supported_digests : List ℕ
 supported_digests = 1 ∷ 2 ∷ 4 ∷ []
 
+-- whether a digest type is one of them
 abbrev pub is_supported_digest : ℕ → Bool
 is_supported_digest digest_type = list_any (nat_eq digest_type) supported_digests
 

@@ -12,7 +12,7 @@ use Rattle.dsec_spec.specs.Records.{Record, RecordSet}
 abbrev pub is_signature : Record → Bool
 is_signature r = r.rtype == RRSIG
 
--- the type that a record is grouped by: of a signature the type that it covers (RFC 4034 3.1.1)
+-- the type that a record of readable data is grouped by: of a signature the type that it covers (RFC 4034 3.1.1)
 abbrev pub grouped_type : Record → ℕ
 grouped_type r = if is_signature r then unwrap_or (u16_at r.rdata 0) 0 else r.rtype
 
@@ -31,8 +31,8 @@ unfoldable pub firsts : {A : Type 0} → (A → A → Bool) → List A → List 
 firsts alike [] = []
 firsts alike (x ∷ xs) = x ∷ filter (λ y. not (alike x y)) (firsts alike xs)
 
--- a group: its first record's owner and class; the type of its records, or RRSIG where it has signatures alone; its records and
--- its signatures, without duplicates and in order of arrival; and whether there were duplicates
+-- a group: the owner of its first record, or of its first signature where it has no record; its class; the type of its records, or
+-- RRSIG where it has none; its records and its signatures, without duplicates and in order of arrival; and whether there were duplicates
 pub record Group : Type 0 where
   pub owner : Labels
   pub class : ℕ
@@ -45,10 +45,15 @@ pub record Group : Type 0 where
 abbrev pub plain_records : List Record → List Record
 plain_records members = filter (λ r. not (is_signature r)) members
 
+-- the owner of the first of these records, or of the member given where there is none
+abbrev pub owner_among : Record → List Record → Labels
+owner_among first [] = first.owner
+owner_among first (r ∷ rs) = r.owner
+
 -- the group that these records make, the first of which is given
 abbrev pub group_of : Record → List Record → Group
 group_of first members = let kept = firsts are_duplicates members in record {
-  owner = first.owner;
+  owner = owner_among first (plain_records kept);
   class = first.class;
   rtype = if nat_eq (length (plain_records kept)) 0 then RRSIG else grouped_type first;
   records = plain_records kept;

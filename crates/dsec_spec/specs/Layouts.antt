@@ -36,6 +36,6 @@ layouts =
     ∷ (DNSKEY ∷ DS ∷ [], octets 4 ∷ rest ∷ [])
     ∷ []
 
--- the fields of a type's data; data of a type that isn't listed is opaque (RFC 3597 2)
+-- the fields of a type's data; data of a type that isn't listed is opaque (RFC 3597 3)
 abbrev pub layout_of : ℕ → List Field
 layout_of rtype = unwrap_or (option_map (λ row. row.1) (find (λ row. list_any (nat_eq rtype) row.0) layouts)) (rest ∷ [])

@@ -18,6 +18,7 @@ pub record Header : Type 0 where
   pub authorities : ℕ
   pub additionals : ℕ
 
+-- the header of a message, which has 12 octets or more (RFC 1035 4.1.1)
 abbrev pub header_of : List ℕ → Option Header
 header_of message = do
   id ← u16_at message 0
@@ -114,7 +115,7 @@ first_opt message (suc n) at = do
   first ← record_at message at
   if first.0.rtype == OPT then Some first.0 else first_opt message n first.1
 
--- the OPT record of the additional section (RFC 6891 6.1.1)
+-- the first OPT record of the additional section; none where a record before it is unreadable (RFC 6891 6.1.1)
 unfoldable pub opt_of : List ℕ → Option Record
 opt_of message = do
   header ← header_of message
@@ -126,7 +127,7 @@ abbrev pub upper_rcode : Option Record → ℕ
 upper_rcode None = 0
 upper_rcode (Some opt) = opt.ttl / 2 ^ 24
 
--- the rcode: the last four bits of the flags, below the upper octet
+-- the rcode: the last four bits of the flags, below the upper octet (RFC 1035 4.1.1, RFC 6891 6.1.3)
 abbrev pub rcode_of : List ℕ → Option ℕ
 rcode_of message = do
   header ← header_of message

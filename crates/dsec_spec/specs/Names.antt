@@ -67,12 +67,12 @@ name_cmp = on place place_cmp
 abbrev pub Before : Place → Place → Type 0
 Before m n = place_cmp m n ≡ Less
 
--- n is z, or a name under it
+-- n is z, or a name under it (RFC 1034 3.1)
 pub record IsAtOrBelow (n z : Place) : Type 0 where
   pub under : Place
   pub is : n ≡ z ++ under
 
--- n is a name under z, and not z
+-- n is a name under z, and not z (RFC 1034 3.1)
 pub record IsStrictlyBelow (n z : Place) : Type 0 where
   pub next : List ℕ
   pub under : Place

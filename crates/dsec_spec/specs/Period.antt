@@ -1,7 +1,7 @@
 -- Moments on a circle of 2 ^ 32 seconds (RFC 4034 3.1.5, RFC 1982 3).
 use Rattle.std.specs.Prelude.{ℕ, ◌+◌, ◌-◌, ◌%◌, ◌^◌, ◌<◌, ◌≤◌}
 
--- how many seconds the moment b comes after the moment a
+-- how many seconds the moment b comes after the moment a, of moments below 2 ^ 32
 abbrev pub seconds_after : ℕ → ℕ → ℕ
 seconds_after a b = (b + (2 ^ 32 - a)) % 2 ^ 32
 

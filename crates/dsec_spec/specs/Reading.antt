@@ -26,14 +26,16 @@ abbrev pub u32_in : List ℕ → Option ℕ
 u32_in (a ∷ b ∷ c ∷ d ∷ octets) = Some (((a * 256 + b) * 256 + c) * 256 + d)
 u32_in _ = None
 
+-- the number of two octets at a place
 abbrev pub u16_at : List ℕ → ℕ → Option ℕ
 u16_at message at = u16_in (drop at message)
 
+-- the number of four octets at a place
 abbrev pub u32_at : List ℕ → ℕ → Option ℕ
 u32_at message at = u32_in (drop at message)
 
--- A call answers as defined: the value, as seen by `view`, or the refusal. The errors that `free` marks,
--- which stand for want of memory, may come at any time; no other answer may.
+-- A call answers as defined: the value, as seen by `view`, or the refusal. The errors that `free` marks, which stand for want of
+-- memory, may come at any time; any other answer is the defined one.
 abbrev pub Gives : {X Y E : Type 0} → (E → Bool) → (X → Y) → Result X E → Result Y E → Type 0
 Gives free view (Ok x) defined = defined ≡ Ok (view x)
 Gives free view (Err e) defined = OnFalse (free e) (defined ≡ Err e)

@@ -27,11 +27,12 @@ canonical_part (lowered name) = canonical_octets name
 canonical_part (kept name) = wire_octets name
 canonical_part (plain data_octets) = data_octets
 
--- a block of a type bitmap: its window, and 1 to 32 octets of bits (RFC 4034 4.1.2)
+-- a block of a type bitmap: its window, and its octets of bits (RFC 4034 4.1.2)
 pub record Block : Type 0 where
   pub window : ℕ
   pub bits : List ℕ
 
+-- a block has 1 to 32 octets of bits (RFC 4034 4.1.2)
 pub record IsBlock (block : Block) : Type 0 where
   pub not_empty : 0 < length block.bits
   pub at_most : length block.bits ≤ 32
@@ -141,6 +142,6 @@ parts_in (field ∷ fields) x = do
 abbrev pub parts_of : ℕ → List ℕ → Option (List Part)
 parts_of rtype rdata = parts_in (layout_of rtype) rdata
 
--- canonical data: the same, with each part as it is signed (RFC 4034 6.2)
+-- canonical data: the same, with each part as it is signed; data that can't be read stay as they came (RFC 4034 6.2)
 abbrev pub canonical_data : ℕ → List ℕ → List ℕ
 canonical_data rtype rdata = unwrap_or (option_map (flat_map canonical_part) (parts_of rtype rdata)) rdata

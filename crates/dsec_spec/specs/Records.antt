@@ -114,6 +114,6 @@ pub record RrsigRecord : Type 0 where
   pub class : ℕ
   pub rrsig : Rrsig
 
--- an RRSIG beside a set
+-- an RRSIG, taken to stand at the set's owner and class
 abbrev pub beside : RecordSet → Rrsig → RrsigRecord
 beside set sig = record { owner = set.owner; class = set.class; rrsig = sig }

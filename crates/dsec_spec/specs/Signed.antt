@@ -12,8 +12,8 @@ pub record IsZoneKey (key : Key) : Type 0 where
   pub flag : key.flags / 256 % 2 ≡ 1
   pub of_dnssec : key.protocol ≡ 3
 
--- The signature shows at the moment t that the zone's key signed the set. All eleven tests of RFC 4035
--- 5.3.1; that the key stands in the zone's DNSKEY set is said where a chain is followed.
+-- The signature counts at the moment t as the zone key's over the set: ten tests of RFC 4035 5.3.1 and RFC 4034 2.1, and last the
+-- verifier's yes (RFC 4035 5.3.3). That the key stands in the zone's DNSKEY set is asked where a chain is followed.
 pub record Signed (accepts : Accepts) (set : RecordSet) (sig : RrsigRecord) (key : Key) (zone : Place) (t : ℕ) : Type 0 where
   pub same_owner : place sig.owner ≡ place set.owner
   pub same_class : sig.class ≡ set.class

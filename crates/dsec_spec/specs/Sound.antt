@@ -1,7 +1,7 @@
 -- What a verdict Secure means (RFC 4033 5, RFC 4035 5).
-use Rattle.std.specs.Prelude.{◌≡◌, ◌≢◌, ◌⊎◌, ℕ, List, [], ◌∷◌, ◌++◌, Contains, slice_get, Some}
-use Rattle.dsec_spec.specs.Names.{Place, place, IsAtOrBelow}
-use Rattle.dsec_spec.specs.Numbers.{DS}
+use Rattle.std.specs.Prelude.{◌≡◌, ◌≢◌, ◌⊎◌, ℕ, List, [], ◌∷◌, ◌++◌, Contains, slice_get, length, Some}
+use Rattle.dsec_spec.specs.Names.{Place, place, IsAtOrBelow, IsStrictlyBelow}
+use Rattle.dsec_spec.specs.Numbers.{CNAME, DNAME, DS}
 use Rattle.dsec_spec.specs.Records.{Record, rrsig_of}
 use Rattle.dsec_spec.specs.Messages.{Question, questions_of, answers_of, rcode_of}
 use Rattle.dsec_spec.specs.SignedBytes.{IsExpansion}
@@ -35,7 +35,16 @@ pub record IsAtQuestion (question : Question) (group : Group) : Type 0 where
   pub of_class : group.class ≡ question.class
   pub of_type : group.rtype ≡ question.rtype
 
--- The message answers its one question, without error, by a set that the kept links show at the moment t: from the anchor of the
+-- the group leads on from the question's name: a CNAME at it, unless CNAME is asked for, or a DNAME strictly above it and
+-- not strictly above its island (RFC 1034 3.6.2, RFC 6672 2.2)
+abbrev pub LeadsOn : List Record → Question → Group → Type 0
+LeadsOn anchors question group =
+    (group.class ≡ question.class) × (length group.records ≡ 1)
+    × (((group.rtype ≡ CNAME) × (question.rtype ≢ CNAME) × (place group.owner ≡ place question.name))
+    ⊎ ((group.rtype ≡ DNAME) × IsStrictlyBelow (place question.name) (place group.owner)
+    × ((island : Place) → IsIsland anchors (place question.name) question.rtype island → IsStrictlyBelow island (place group.owner) → ⊥)))
+
+-- The message answers its one question, without error and without an alias at or above its name, by a set that the kept links show at the moment t: from the anchor of the
 -- set's island to the set, which stands in the answer section, no expansion of a wildcard, with the signature of the last link.
 pub record IsSound (accepts : Accepts) (anchors : List Record) (t : ℕ) (message : List ℕ) (why : Why) : Type 0 where
   pub question : Question
@@ -47,7 +56,9 @@ pub record IsSound (accepts : Accepts) (anchors : List Record) (t : ℕ) (messag
   pub no_error : rcode_of message ≡ Some 0
   pub answer : Group
   pub stands : slice_get (groups_of answers) why.group ≡ Some answer
+  pub no_alias : (group : Group) → Contains (groups_of answers) group → LeadsOn anchors question group → ⊥
   pub at_question : IsAtQuestion question answer
+  pub has_records : answer.records ≢ []
   pub holds : Holds accepts anchors why.links (set_in answer) t
   pub first : Link
   pub others : List Link
