@@ -1,0 +1,12 @@
+pub mod KeyOrder
+pub mod NameParts
+pub mod WireReading
+pub mod NameReading
+pub mod WireNames
+pub mod OctetText
+pub mod LabelText
+pub mod TextSteps
+pub mod NameTexts
+pub mod TextNames
+pub mod NameShown
+pub mod DisplayLaw

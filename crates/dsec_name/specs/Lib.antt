@@ -1,0 +1,10 @@
+pub mod Errors
+pub mod OctetsLaws
+pub mod Keys
+pub mod NameLaws
+pub mod Wire
+pub mod Parts
+pub mod NameText
+pub mod TextReading
+pub mod TextParts
+pub mod NameDisplay

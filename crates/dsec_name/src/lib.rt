@@ -1,0 +1,19 @@
+//! Octet strings and domain names (RFC 1035 3.1, RFC 4034 6).
+#![tactic(auto)]
+
+mod display;
+mod error;
+mod key;
+mod laws;
+mod name;
+mod octets;
+mod order;
+mod text;
+
+pub use error::{NameError, NoMemory};
+pub use laws::{law_of_display, law_of_equality, law_of_text, law_of_wire};
+pub use name::Name;
+pub use octets::Octets;
+
+#[cfg(test)]
+mod tests;
