@@ -65,3 +65,7 @@ word_or_number prefix number (Some row) = row.0
 -- the word for a number: the first with it, else the prefix and the number
 abbrev pub word_of : Words → List ℕ → ℕ → List ℕ
 word_of words prefix number = word_or_number prefix number (find (λ row. nat_eq row.1 number) words)
+
+-- each number below 2 ^ 16 is the one that its own word stands for
+abbrev pub ReadsBack : Words → List ℕ → Type 0
+ReadsBack words prefix = (n : ℕ) → n < 2 ^ 16 → IsNumberOf words prefix (word_of words prefix n) (Some n)

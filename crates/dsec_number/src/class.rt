@@ -55,11 +55,11 @@ fn rows() -> [Row; 2]
     [
         Row {
             word: "IN",
-            number: 1,
+            number: Class::IN.number,
         },
         Row {
             word: "CH",
-            number: 3,
+            number: Class::CH.number,
         },
     ]
 }

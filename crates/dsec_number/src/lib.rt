@@ -4,9 +4,12 @@
 mod algorithm;
 mod class;
 mod error;
+mod laws;
 mod rcode;
 mod rtype;
 mod serial;
+#[cfg(test)]
+mod tests;
 mod timestamp;
 mod ttl;
 mod word;
@@ -14,6 +17,7 @@ mod word;
 pub use algorithm::{DigestAlgorithm, Nsec3HashAlgorithm, SecurityAlgorithm};
 pub use class::Class;
 pub use error::UnknownWord;
+pub use laws::{law_of_classes, law_of_types};
 pub use rcode::Rcode;
 pub use rtype::Rtype;
 pub use serial::Serial;

@@ -112,87 +112,87 @@ fn rows() -> [Row; 21]
     [
         Row {
             word: "A",
-            number: 1,
+            number: Rtype::A.number,
         },
         Row {
             word: "NS",
-            number: 2,
+            number: Rtype::NS.number,
         },
         Row {
             word: "CNAME",
-            number: 5,
+            number: Rtype::CNAME.number,
         },
         Row {
             word: "SOA",
-            number: 6,
+            number: Rtype::SOA.number,
         },
         Row {
             word: "PTR",
-            number: 12,
+            number: Rtype::PTR.number,
         },
         Row {
             word: "HINFO",
-            number: 13,
+            number: Rtype::HINFO.number,
         },
         Row {
             word: "MX",
-            number: 15,
+            number: Rtype::MX.number,
         },
         Row {
             word: "TXT",
-            number: 16,
+            number: Rtype::TXT.number,
         },
         Row {
             word: "AAAA",
-            number: 28,
+            number: Rtype::AAAA.number,
         },
         Row {
             word: "SRV",
-            number: 33,
+            number: Rtype::SRV.number,
         },
         Row {
             word: "DNAME",
-            number: 39,
+            number: Rtype::DNAME.number,
         },
         Row {
             word: "OPT",
-            number: 41,
+            number: Rtype::OPT.number,
         },
         Row {
             word: "DS",
-            number: 43,
+            number: Rtype::DS.number,
         },
         Row {
             word: "RRSIG",
-            number: 46,
+            number: Rtype::RRSIG.number,
         },
         Row {
             word: "NSEC",
-            number: 47,
+            number: Rtype::NSEC.number,
         },
         Row {
             word: "DNSKEY",
-            number: 48,
+            number: Rtype::DNSKEY.number,
         },
         Row {
             word: "NSEC3",
-            number: 50,
+            number: Rtype::NSEC3.number,
         },
         Row {
             word: "NSEC3PARAM",
-            number: 51,
+            number: Rtype::NSEC3PARAM.number,
         },
         Row {
             word: "CDS",
-            number: 59,
+            number: Rtype::CDS.number,
         },
         Row {
             word: "CDNSKEY",
-            number: 60,
+            number: Rtype::CDNSKEY.number,
         },
         Row {
             word: "ANY",
-            number: 255,
+            number: Rtype::ANY.number,
         },
     ]
 }

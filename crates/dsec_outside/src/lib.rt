@@ -2,12 +2,20 @@
 //! in memory; and the adapters over std's readers and writers, which are the trusted edge.
 #![tactic(auto)]
 
+mod answers;
 mod memory;
 mod sink;
 mod source;
 mod std_io;
+#[cfg(test)]
+mod tests;
+mod upstream;
+mod whole;
 
+pub use answers::{FailingUpstream, FixedUpstream, TableEntry, TableUpstream};
 pub use memory::{FailingSink, FailingSource, OctetsSink, OctetsSource};
 pub use sink::Sink;
 pub use source::{Failed, Source};
 pub use std_io::{Reading, Writing};
+pub use upstream::{AskError, Upstream};
+pub use whole::{LIMIT, PIECE, Stop, read_all, write_all};

@@ -1,6 +1,9 @@
 //! Sources and sinks in memory: those that never fail by themselves, and those whose calls of given numbers fail.
 
-ghost use Rattle.std.specs.Prelude.{◌≡◌, [], Some};
+ghost use Rattle.std.specs.Prelude.{◌≡◌, ◌<◌, ◌≤◌, ◌↔◌, ◌⊎◌, [], Some, Contains, IfOk, IsErr, length, min};
+ghost use Rattle.std.specs.Io.{ReadsAtMost};
+ghost use Rattle.std.specs.Io.KnownBytes.{ReadConsumes, WriteAppends};
+ghost use Rattle.dsec_spec.specs.Outside.{HasCause, risen};
 
 use crate::sink::Sink;
 use crate::source::{Failed, Source};
@@ -42,7 +45,14 @@ impl<'a> Source for FailingSource<'a> {
 
     ghost faults = { λ source. source.faults };
 
-    fn read(&mut self, buffer: &mut [u8]) -> Result<usize, Failed> {
+    fn read(&mut self, buffer: &mut [u8]) -> Result<usize, Failed>
+        ensures bound { ReadsAtMost result buffer.new }
+        ensures octets { ReadConsumes (Some self.old.rest.now) (Some self.new.rest.now) result buffer.new }
+        ensures cause { HasCause self.old.faults self.new.faults result }
+        ensures as_listed { IsErr result ↔ Contains self.old.failing.now self.old.calls }
+        ensures counted { self.new.calls ≡ risen self.old.calls }
+        ensures same_list { self.new.failing.now ≡ self.old.failing.now }
+    {
         let fails = self.failing.contains(&self.calls);
         self.calls = self.calls.saturating_add(1);
         if !fails {
@@ -82,7 +92,11 @@ impl Sink for OctetsSink {
 
     ghost faults = { λ sink. sink.faults };
 
-    fn write(&mut self, octets: &[u8]) -> Result<usize, Failed> {
+    fn write(&mut self, octets: &[u8]) -> Result<usize, Failed>
+        ensures whole { IfOk result (λ count. count ≡ length octets.now) }
+        ensures octets { WriteAppends (Some self.old.octets.items) (Some self.new.octets.items) result octets.now }
+        ensures cause { HasCause self.old.faults self.new.faults result }
+    {
         if self.octets.extend_from_slice(octets).is_ok() {
             return Ok(octets.len());
         }
@@ -111,7 +125,17 @@ impl<'a> Sink for FailingSink<'a> {
 
     ghost faults = { λ sink. sink.faults };
 
-    fn write(&mut self, octets: &[u8]) -> Result<usize, Failed> {
+    fn write(&mut self, octets: &[u8]) -> Result<usize, Failed>
+        ensures bound { IfOk result (λ count. count ≤ length octets.now) }
+        ensures progress { IfOk result (λ count. 0 < length octets.now → 0 < count) }
+        ensures piece { IfOk result (λ count. count ≡ min (length octets.now) self.old.piece) }
+        ensures octets { WriteAppends (Some self.old.octets.items) (Some self.new.octets.items) result octets.now }
+        ensures cause { HasCause self.old.faults self.new.faults result }
+        ensures as_listed { Contains self.old.failing.now self.old.calls ⊎ (self.old.piece ≡ 0) → IsErr result }
+        ensures counted { self.new.calls ≡ risen self.old.calls }
+        ensures same_list { self.new.failing.now ≡ self.old.failing.now }
+        ensures same_piece { self.new.piece ≡ self.old.piece }
+    {
         let fails = self.failing.contains(&self.calls) || self.piece == 0;
         self.calls = self.calls.saturating_add(1);
         let count = octets.len().min(self.piece);

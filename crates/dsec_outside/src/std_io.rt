@@ -8,7 +8,9 @@ use std::io::{Read, Write};
 /// A reader of std with its errors counted.
 #[derive(Drop)]
 pub struct Reading<R> {
+    /// The reader.
     pub inner: R,
+    /// How many reads failed: a count that stays at 2^64 - 1.
     pub faults: u64,
 }
 
@@ -31,7 +33,9 @@ impl<R: Read> Source for Reading<R> {
 /// A writer of std with its errors counted. A write that takes nothing of a piece is an error.
 #[derive(Drop)]
 pub struct Writing<W> {
+    /// The writer.
     pub inner: W,
+    /// How many writes failed: a count that stays at 2^64 - 1.
     pub faults: u64,
 }
 

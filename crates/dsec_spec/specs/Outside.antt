@@ -1,5 +1,7 @@
--- The outside: counts that stay at their last value, faults and their causes, and what an upstream answers.
-use Rattle.std.specs.Prelude.{ℕ, ◌+◌, ◌-◌, ◌^◌, ◌≤◌, ◌==◌, ◌&&◌, min, List, Bool, find, Option, None, Some, Result, OnErr}
+-- The outside: counts that stay at their last value, faults and their causes, what went out, and what an
+-- upstream answers.
+use Rattle.std.specs.Prelude.{◌≡◌, ℕ, ◌+◌, ◌-◌, ◌^◌, ◌≤◌, ◌==◌, ◌&&◌, min, List, take, Bool, find, Option, None, Some, IfSome, Result, OnErr}
+use Rattle.std.specs.Io.KnownBytes.{Appends}
 use Rattle.dsec_spec.specs.Names.{Labels, place, same_place}
 
 -- the last value of a count
@@ -18,6 +20,10 @@ Rose before now = risen before ≤ now
 pub record HasCause {T E : Type 0} (before now : ℕ) (result : Result T E) : Type 0 where
   pub later : before ≤ now
   pub failed : OnErr result (Rose before now)
+
+-- where it is told what was written, a front of the text was added to it: all, a part or nothing
+abbrev pub SentFront : Option (List ℕ) → Option (List ℕ) → List ℕ → Type 0
+SentFront before after text = (n : ℕ) × Appends before after (take n text)
 
 -- an answer that is kept for a question: a reply, or none where the question fails
 pub record Entry : Type 0 where
@@ -40,3 +46,11 @@ reply_of (Some entry) = entry.reply
 -- the reply to a question of class IN, or none where it fails
 abbrev pub asked_of : Table → Labels → ℕ → Option (List ℕ)
 asked_of table name rtype = reply_of (find (answers name rtype) table)
+
+-- where the table is told, this is its reply to the question
+abbrev pub IsReplyOf : Option Table → Labels → ℕ → List ℕ → Type 0
+IsReplyOf told name rtype reply = IfSome told (λ table. asked_of table name rtype ≡ Some reply)
+
+-- where the table is told, it has no reply to the question
+abbrev pub HasNoReply : Option Table → Labels → ℕ → Type 0
+HasNoReply told name rtype = IfSome told (λ table. asked_of table name rtype ≡ None)

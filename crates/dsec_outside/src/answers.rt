@@ -1,0 +1,182 @@
+//! Upstreams in memory: one over a table, one that never fails, and one whose calls of given numbers fail.
+
+ghost use Rattle.std.specs.Prelude.{◌≡◌, ◌≤◌, ◌⊎◌, None, Some, Contains, IfOk, IsErrOf, find};
+ghost use Rattle.std.specs.Option.{option_map};
+ghost use Rattle.dsec_spec.specs.Outside.{HasNoReply, IsReplyOf, Rose, answers, asked_of, risen};
+
+use crate::upstream::{AskError, Upstream};
+use dsec_name::Name;
+use dsec_number::Rtype;
+use std::alloc::Global;
+use std::marker::Model;
+
+/// An answer that is kept for a question of class IN.
+#[derive(Drop)]
+pub struct TableEntry {
+    name: Name,
+    rtype: Rtype,
+    reply: Option<Vec<u8>>,
+}
+
+impl Model for TableEntry {
+    ghost use Rattle.std.specs.Option.{option_map};
+    ghost use Rattle.dsec_spec.specs.Outside.{Entry};
+
+    ghost Value = { Entry };
+
+    ghost view = { λ it. record { name = it.name; rtype = it.rtype; reply = option_map (λ reply. reply.items) it.reply } };
+}
+
+impl TableEntry {
+    /// The reply to a question; none where the question is to fail.
+    pub fn new(name: Name, rtype: Rtype, reply: Option<Vec<u8>>) -> Self
+        ensures name { result.name ≡ name }
+        ensures rtype { result.rtype ≡ rtype }
+        ensures reply { result.reply ≡ option_map (λ reply. reply.items) reply }
+    {
+        TableEntry { name, rtype, reply }
+    }
+
+    /// Whether it is kept for this question; names compare without regard to ASCII case (RFC 4343 3).
+    fn is_for(&self, name: &Name, rtype: Rtype) -> bool
+        ensures { result ≡ answers name.now rtype self.now }
+    {
+        self.name == *name && self.rtype == rtype
+    }
+
+    /// The reply, if the question isn't to fail.
+    fn reply(&self) -> Option<&[u8]>
+        ensures { option_map (λ reply. reply.now) result ≡ self.now.reply }
+    {
+        self.reply.as_deref()
+    }
+}
+
+/// The first answer that is kept for a question.
+fn first_in<'a>(entries: &'a [TableEntry], name: &Name, rtype: Rtype) -> Option<&'a TableEntry>
+    ensures { option_map (λ entry. entry.now) result ≡ find (answers name.now rtype) entries.now }
+{
+    entries.iter().find(|entry| entry.is_for(name, rtype))
+}
+
+/// The reply to a question; none where it fails.
+fn reply_in<'a>(entries: &'a [TableEntry], name: &Name, rtype: Rtype) -> Option<&'a [u8]>
+    ensures { option_map (λ reply. reply.now) result ≡ asked_of entries.now name.now rtype }
+{
+    match first_in(entries, name, rtype) {
+        Some(entry) => entry.reply(),
+        None => None,
+    }
+}
+
+/// An upstream that answers from a table: the first answer that is kept for a question counts, and a
+/// question without an answer fails.
+#[derive(Drop)]
+pub struct TableUpstream {
+    /// The answers, in order.
+    pub entries: Vec<TableEntry>,
+    /// How many questions were asked: a count that stays at 2^64 - 1.
+    pub asked: u64,
+    /// How many of them failed: a count that stays at 2^64 - 1.
+    pub faults: u64,
+}
+
+impl TableUpstream {
+    /// An upstream with these answers, which nobody has asked.
+    pub fn new(entries: Vec<TableEntry>) -> Self
+        ensures entries { result.entries ≡ entries }
+        ensures asked { result.asked ≡ 0 }
+        ensures faultless { result.faults ≡ 0 }
+    {
+        TableUpstream {
+            entries,
+            asked: 0,
+            faults: 0,
+        }
+    }
+}
+
+impl Upstream for TableUpstream {
+    ghost table = { λ upstream. Some upstream.entries.items };
+
+    ghost faults = { λ upstream. upstream.faults };
+
+    ghost asked = { λ upstream. upstream.asked };
+
+    fn ask(&mut self, alloc: Global, name: &Name, rtype: Rtype) -> Result<Vec<u8>, AskError> {
+        self.asked = self.asked.saturating_add(1);
+        if let Some(reply) = reply_in(&self.entries, name, rtype) {
+            return Ok(reply.to_vec(alloc)?);
+        }
+        self.faults = self.faults.saturating_add(1);
+        Err(AskError::Failed)
+    }
+}
+
+/// An upstream that never fails: it has the same reply to all questions.
+#[derive(Drop)]
+pub struct FixedUpstream<'a> {
+    /// The reply.
+    pub reply: &'a [u8],
+    /// How many questions were asked: a count that stays at 2^64 - 1.
+    pub asked: u64,
+}
+
+impl<'a> Upstream for FixedUpstream<'a> {
+    ghost table = { λ _. None };
+
+    ghost faults = { λ _. 0 };
+
+    ghost asked = { λ upstream. upstream.asked };
+
+    fn ask(&mut self, alloc: Global, _name: &Name, _rtype: Rtype) -> Result<Vec<u8>, AskError> {
+        self.asked = self.asked.saturating_add(1);
+        Ok(self.reply.to_vec(alloc)?)
+    }
+}
+
+/// An upstream over another one, whose calls of given numbers fail.
+#[derive(Drop)]
+pub struct FailingUpstream<'a, U> {
+    /// Who is asked at the other calls.
+    pub inner: U,
+    /// The numbers of the calls that fail; the first call has the number 0.
+    pub failing: &'a [u64],
+    /// How many questions were asked: a count that stays at 2^64 - 1.
+    pub asked: u64,
+    /// How many of them failed: a count that stays at 2^64 - 1.
+    pub faults: u64,
+}
+
+impl<'a, U: Upstream> Upstream for FailingUpstream<'a, U> {
+    ghost table = { λ _. None };
+
+    ghost faults = { λ upstream. upstream.faults };
+
+    ghost asked = { λ upstream. upstream.asked };
+
+    fn ask(&mut self, alloc: Global, name: &Name, rtype: Rtype) -> Result<Vec<u8>, AskError>
+        ensures as_listed { Contains self.old.failing.now self.old.asked → IsErrOf result AskError.Failed }
+        ensures inner_reply { IfOk result (λ reply. IsReplyOf (U.table self.old.inner) name.now rtype reply.items) }
+        ensures inner_failed { IsErrOf result AskError.Failed
+            → Contains self.old.failing.now self.old.asked ⊎ HasNoReply (U.table self.old.inner) name.now rtype }
+        ensures inner_table { U.table self.new.inner ≡ U.table self.old.inner }
+        ensures same_list { self.new.failing.now ≡ self.old.failing.now }
+        ensures reply { IfOk result (λ reply. IsReplyOf None name.now rtype reply.items) }
+        ensures later { self.old.faults ≤ self.new.faults }
+        ensures failed { IsErrOf result AskError.Failed → Rose self.old.faults self.new.faults }
+        ensures counted { self.new.asked ≡ risen self.old.asked }
+    {
+        let fails = self.failing.contains(&self.asked);
+        self.asked = self.asked.saturating_add(1);
+        if !fails {
+            match self.inner.ask(alloc, name, rtype) {
+                Ok(reply) => return Ok(reply),
+                Err(AskError::NoMemory) => return Err(AskError::NoMemory),
+                Err(AskError::Failed) => {}
+            }
+        }
+        self.faults = self.faults.saturating_add(1);
+        Err(AskError::Failed)
+    }
+}
