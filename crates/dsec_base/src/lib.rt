@@ -12,4 +12,13 @@ pub use dsec_number::{
     Class, DigestAlgorithm, Nsec3HashAlgorithm, Rcode, Rtype, SecurityAlgorithm, Serial, Timestamp,
     Ttl, UnknownWord,
 };
+pub use dsec_outside::{
+    AskError, Failed, FailingSink, FailingSource, FailingUpstream, FixedUpstream, LIMIT,
+    OctetsSink, OctetsSource, PIECE, Reading, Sink, Source, Stop, TableEntry, TableUpstream,
+    Upstream, Writing, read_all, write_all,
+};
+pub use dsec_wire::{
+    Data, Dnskey, Header, Message, MessageError, Question, Questions, Record, Records, Rrsig,
+    Sections, ShortMessage, read_name,
+};
 pub use laws::law_of_causes;

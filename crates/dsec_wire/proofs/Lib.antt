@@ -1,0 +1,11 @@
+pub mod NameLoop
+pub mod NameReads
+pub mod PartLoops
+pub mod FieldLoops
+pub mod Readable
+pub mod RecordReading
+pub mod ManyLoop
+pub mod SectionReading
+pub mod KeyTags
+pub mod RrsigReading
+pub mod CanonicalLoops

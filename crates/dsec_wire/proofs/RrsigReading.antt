@@ -1,0 +1,163 @@
+-- The data of an RRSIG record, read in steps: 18 octets, the signer's name and the signature.
+use Rattle.std.proofs.Common.{◌≡◌, ◌↔◌, ℕ, zero, suc, Bool, true, false, not, eqb, ◌+◌, ◌<◌, ◌≤◌, List, [], ◌∷◌, length, take, drop, Option, Some, None, Result, Ok, Err, refl, sym, ap, ◌∙◌, subst, arith, length-append, length-drop}
+use Rattle.std.specs.Prelude.{IfOk, IsSome, slice_get}
+use Rattle.std.specs.Option.{option_map}
+use Rattle.std.proofs.lemmas.List.{append-nil, take_at, drop_at}
+use Rattle.std.proofs.lemmas.Bool.{eqb-true}
+use Rattle.std.proofs.lemmas.Option.{same_Some}
+use Rattle.dsec_spec.specs.Names.{Labels, IsName, wire_octets}
+use Rattle.dsec_spec.specs.Numbers.{RRSIG}
+use Rattle.dsec_spec.specs.Layouts.{octets, lowered_name, rest}
+use Rattle.dsec_spec.specs.Reading.{◌>>=◌, u32_in, u16_at, u32_at}
+use Rattle.dsec_spec.specs.RecordData.{Part, lowered, plain, IsReadable, octets_in, name_in, part_in, parts_in}
+use Rattle.dsec_spec.specs.Records as records
+use Rattle.dsec_spec.specs.Records.{rrsig_of}
+use Rattle.dsec_spec.proofs.ReadingLemmas.{from_bind}
+use Rattle.dsec_spec.proofs.RecordDataLemmas.{parts_of-readable}
+use Rattle.dsec_spec.proofs.WireNameLemmas.{from_octets_in, from_name_in, same_names}
+use Rattle.dsec_name.specs.Wire.{IsOnWire}
+use Rattle.dsec_name.specs.declared.error.NoMemory.{NoMemory}
+use Rattle.dsec_wire.specs.declared.rrsig.Rrsig.{Rrsig}
+use Rattle.dsec_wire.specs.declared.rrsig.RrsigHead.{RrsigHead}
+use Rattle.dsec_wire.specs.Fields.{name_size_in}
+use Rattle.dsec_wire.specs.RrsigHeads.{rrsig_head}
+use Rattle.dsec_wire.specs.Views.{rrsig_view}
+use Rattle.dsec_wire.proofs.SectionReading.{number_there}
+
+-- the name at the front, by its size
+pub record HasName (x : List ℕ) (size : ℕ) : Type 0 where
+  pub name : Labels
+  pub read : name_in x ≡ Some (name, drop size x)
+  pub octets : take size x ≡ wire_octets name
+  pub good : IsName name
+
+pub from_name_size : (x : List ℕ) (size : ℕ) → name_size_in x ≡ Some size → HasName x size
+from_name_size x size e =
+    let b = from_bind (name_in x) (λ (name : Labels × List ℕ). Some (length (wire_octets name.0))) size e in
+    let n : length (wire_octets b.0.0) ≡ size = same_Some _ _ b.2 in
+    let read = from_name_in x b.0.0 b.0.1 b.1 in
+    record {
+      name = b.0.0;
+      read = b.1 ∙ ap (λ (y : List ℕ). Some (b.0.0, y)) (sym (ap (drop size) read.1 ∙ drop_at (wire_octets b.0.0) b.0.1 size n));
+      octets = ap (take size) read.1 ∙ take_at (wire_octets b.0.0) b.0.1 size n;
+      good = read.0;
+    }
+
+no_name_size : (x : List ℕ) → name_size_in x ≡ None → name_in x ≡ None
+no_name_size x e = elim (name_in x) as (λ o. (o >>= λ name. Some (length (wire_octets name.0))) ≡ None → o ≡ None) [
+  | Some name ↦ λ f. absurd cc
+  | None ↦ λ f. refl
+] e
+
+-- a signature of a head, and what follows it
+abbrev pub rrsig_with : RrsigHead → Labels × List ℕ → records.Rrsig
+rrsig_with head signer = record {
+  covered = head.type_covered;
+  algorithm = head.algorithm;
+  labels = head.labels;
+  original_ttl = head.original_ttl;
+  expiration = head.expiration;
+  inception = head.inception;
+  tag = head.key_tag;
+  signer = signer.0;
+  signature = signer.1;
+}
+
+abbrev head_of : ℕ → ℕ → ℕ → ℕ → ℕ → ℕ → ℕ → RrsigHead
+head_of covered algorithm labels ttl expiration inception tag =
+    record { type_covered = covered; algorithm = algorithm; labels = labels; original_ttl = ttl; expiration = expiration; inception = inception; key_tag = tag }
+
+regroup : {A : Type 0} (a b c d e f g : Option ℕ) (others : RrsigHead → Option A)
+    → (a >>= λ i. b >>= λ j. c >>= λ k. d >>= λ l. e >>= λ m. f >>= λ n. g >>= λ o. others (head_of i j k l m n o))
+    ≡ ((a >>= λ i. b >>= λ j. c >>= λ k. d >>= λ l. e >>= λ m. f >>= λ n. g >>= λ o. Some (head_of i j k l m n o)) >>= others)
+regroup None b c d e f g others = refl
+regroup (Some i) None c d e f g others = refl
+regroup (Some i) (Some j) None d e f g others = refl
+regroup (Some i) (Some j) (Some k) None e f g others = refl
+regroup (Some i) (Some j) (Some k) (Some l) None f g others = refl
+regroup (Some i) (Some j) (Some k) (Some l) (Some m) None g others = refl
+regroup (Some i) (Some j) (Some k) (Some l) (Some m) (Some n) None others = refl
+regroup (Some i) (Some j) (Some k) (Some l) (Some m) (Some n) (Some o) others = refl
+
+by_head : (x : List ℕ) → rrsig_of x ≡ (rrsig_head x >>= λ head. name_in (drop 18 x) >>= λ signer. Some (rrsig_with head signer))
+unfolding rrsig_of
+by_head x =
+    regroup (u16_at x 0) (slice_get x 2) (slice_get x 3) (u32_at x 4) (u32_at x 8) (u32_at x 12) (u16_at x 16) (λ head. name_in (drop 18 x) >>= λ signer. Some (rrsig_with head signer))
+
+pub rrsig_no_head : (x : List ℕ) → rrsig_head x ≡ None → rrsig_of x ≡ None
+rrsig_no_head x e = by_head x ∙ rw e refl
+
+pub rrsig_no_signer : (x : List ℕ) (head : RrsigHead) → rrsig_head x ≡ Some head → name_size_in (drop 18 x) ≡ None → rrsig_of x ≡ None
+rrsig_no_signer x head h e = by_head x ∙ rw (h, no_name_size (drop 18 x) e) refl
+
+pub rrsig_whole : (x : List ℕ) (head : RrsigHead) (size : ℕ) (name : Labels) → rrsig_head x ≡ Some head → name_size_in (drop 18 x) ≡ Some size → IsOnWire name (take size (drop 18 x)) → IsName name
+    → rrsig_of x ≡ Some (rrsig_with head (name, drop size (drop 18 x)))
+rrsig_whole x head size name h e wire good =
+    let has = from_name_size (drop 18 x) size e in
+    let same = same_names has.name name [] [] has.good good (append-nil (wire_octets has.name) ∙ (sym has.octets ∙ (wire.is ∙ sym (append-nil (wire_octets name))))) in
+    by_head x ∙ (rw (h, has.read) refl ∙ ap (λ (n : Labels). Some (rrsig_with head (n, drop size (drop 18 x)))) same.0)
+
+octet_there : (x : List ℕ) (i : ℕ) → i < length x → (n : ℕ) × (slice_get x i ≡ Some n)
+octet_there [] i below = absurd (omega arith)
+octet_there (first ∷ x) zero below = (first, refl)
+octet_there (first ∷ x) (suc i) below = octet_there x i (omega arith)
+
+long_number_there : (m : List ℕ) (at : ℕ) → at + 4 ≤ length m → (n : ℕ) × (u32_at m at ≡ Some n)
+long_number_there m at fits = there (drop at m) (omega (arith, length-drop at m))
+  where
+    there : (x : List ℕ) → 4 ≤ length x → (n : ℕ) × (u32_in x ≡ Some n)
+    there [] long = absurd (omega arith)
+    there (a ∷ []) long = absurd (omega arith)
+    there (a ∷ b ∷ []) long = absurd (omega arith)
+    there (a ∷ b ∷ c ∷ []) long = absurd (omega arith)
+    there (a ∷ b ∷ c ∷ d ∷ x) long = (_, refl)
+
+head_there : (x : List ℕ) → 18 ≤ length x → (head : RrsigHead) × (rrsig_head x ≡ Some head)
+head_there x long =
+    let a = number_there x 0 (omega arith) in
+    let b = octet_there x 2 (omega arith) in
+    let c = octet_there x 3 (omega arith) in
+    let d = long_number_there x 4 (omega arith) in
+    let e = long_number_there x 8 (omega arith) in
+    let f = long_number_there x 12 (omega arith) in
+    let g = number_there x 16 (omega arith) in
+    (head_of a.0 b.0 c.0 d.0 e.0 f.0 g.0, rw (a.1, b.1, c.1, d.1, e.1, f.1, g.1) refl)
+
+-- readable data begin with 18 octets and a name
+signer_there : (x : List ℕ) → IsReadable RRSIG x → (18 ≤ length x) × ((signer : Labels × List ℕ) × (name_in (drop 18 x) ≡ Some signer))
+unfolding parts_in
+signer_there x readable =
+    let b = from_bind (part_in (octets 18) x) _ _ (parts_of-readable RRSIG x readable) in
+    let t = from_bind (octets_in 18 x) (λ (taken : List ℕ × List ℕ). Some (plain taken.0, taken.1)) b.0 b.1 in
+    let front = from_octets_in 18 x t.0.0 t.0.1 t.1 in
+    let others = from_bind (parts_in (lowered_name ∷ rest ∷ []) b.0.1) _ _ b.2 in
+    let name = from_bind (part_in lowered_name b.0.1) _ _ others.1 in
+    let signer = from_bind (name_in b.0.1) (λ (n : Labels × List ℕ). Some (lowered n.0, n.1)) name.0 name.1 in
+    let after : drop 18 x ≡ b.0.1 = (ap (drop 18) front.1 ∙ drop_at t.0.0 t.0.1 18 front.0) ∙ ap (λ (part : Part × List ℕ). part.1) (same_Some _ _ t.2) in
+    (omega (arith, ap length front.1, length-append t.0.0 t.0.1, front.0), (signer.0, ap name_in after ∙ signer.1))
+
+-- readable data of an RRSIG record say a signature
+pub rrsig_from_readable : (x : List ℕ) → IsReadable RRSIG x → (sig : records.Rrsig) × (rrsig_of x ≡ Some sig)
+rrsig_from_readable x readable =
+    let signer = signer_there x readable in
+    let head = head_there x signer.0 in
+    (rrsig_with head.0 signer.1.0, by_head x ∙ rw (head.1, signer.1.1) refl)
+
+-- so a reader that gives what they say finds one
+pub rrsig_found : (rtype : ℕ) (x : List ℕ) (r : Result (Option Rrsig) NoMemory) → rtype ≡ RRSIG → IsReadable rtype x → IfOk r (λ found. option_map rrsig_view found ≡ rrsig_of x)
+    → IfOk r (λ found. IsSome found ↔ (rtype ≡ RRSIG))
+rrsig_found rtype x (Err e) is readable h = tt
+rrsig_found rtype x (Ok (Some sig)) is readable h = (λ yes. is, λ e. refl)
+rrsig_found rtype x (Ok None) is readable h =
+    let some = rrsig_from_readable x (subst (λ (t : ℕ). IsReadable t x) is readable) in
+    absurd (not_both (rrsig_of x) some.0 (sym h) some.1)
+  where
+    not_both : {A : Type 0} (o : Option A) (y : A) → o ≡ None → o ≡ Some y → ⊥
+    not_both o y e f = absurd cc
+
+pub same_number : (m n : ℕ) → not (eqb m n) ≡ false → m ≡ n
+same_number m n e = eqb-true m n (shown (eqb m n) e)
+  where
+    shown : (b : Bool) → not b ≡ false → b ≡ true
+    shown true f = refl
+    shown false f = sym f

@@ -1,0 +1,11 @@
+use Rattle.std.proofs.Common.{sym}
+use Rattle.dsec_wire.proofs.SectionReading.{no_opt, opt_after}
+use Rattle.dsec_wire.proofs.message.Message.opt.Goals as goal
+
+pub returns-in-Err-ParseError : goal.returns-in-Err-ParseError
+returns-in-Err-ParseError c = sym (no_opt c.args.self.now (rw (← c.as_slice-message.ensures.value) (rw c.in-Err-ParseError.field-0-is at c.in-Err-ParseError.ensures)))
+
+pub returns : goal.returns
+returns c =
+    rw (opt_after c.args.self.now c.header_at.result (c.in-Ok.field-0-0, c.in-Ok.at) (rw (← c.as_slice-message.ensures.value) c.header_at.ensures) (rw (← c.as_slice-message.ensures.value) c.in-Ok.ensures))
+    (rw (← c.as_slice-message.ensures.value, ← c.arcount-count.ensures) c.first_opt.ensures)

@@ -1,0 +1,11 @@
+pub mod Errors
+pub mod Heads
+pub mod NameOctets
+pub mod Fields
+pub mod DataReading
+pub mod TypedData
+pub mod RecordHeads
+pub mod MessageSections
+pub mod Views
+pub mod RrsigHeads
+pub mod Canonical
