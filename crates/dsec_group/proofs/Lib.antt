@@ -1,0 +1,4 @@
+pub mod FirstLaws
+pub mod MemberLaws
+pub mod GroupLaws
+pub mod PlacedLemmas

@@ -1,0 +1,170 @@
+//! A group: the records of one owner, class and type, and their signatures (RFC 2181 5, RFC 4035 2.2).
+
+ghost use Rattle.std.specs.Prelude.{◌≡◌, IfOk, OnOk, OnErr, Some, length};
+ghost use Rattle.dsec_spec.specs.Groups.{grouped_type as type_of};
+ghost use Rattle.dsec_group.specs.Adding.{belongs_to, leader_in, new_group, put_in};
+
+use crate::members::Members;
+use dsec_name::{Name, NoMemory};
+use dsec_number::{Class, Rtype};
+use dsec_wire::Record;
+use std::alloc::Global;
+use std::marker::Model;
+
+/// The records of one owner, class and type with the signatures that cover them, in order of arrival and
+/// without duplicates. It has a record or a signature.
+#[derive(Drop)]
+pub struct Group {
+    records: Members,
+    signatures: Members,
+    had_duplicate: bool,
+}
+
+impl Model for Group {
+    ghost use Rattle.std.specs.Prelude.{◌<◌, ◌+◌, length};
+    ghost use Rattle.dsec_spec.specs.Groups as grouping;
+
+    ghost Value = { grouping.Group };
+
+    ghost use Rattle.dsec_group.specs.Adding.{group_from};
+
+    ghost view = { λ it. group_from it.records it.signatures it.had_duplicate };
+
+    ghost invariant = { λ it. 0 < length it.records + length it.signatures };
+}
+
+impl Group {
+    /// The group of one record.
+    pub(crate) fn of(alloc: Global, next: Record) -> Result<Group, NoMemory>
+        ensures { IfOk result (λ group. group ≡ new_group next) }
+    {
+        let mut records = Members::new(alloc);
+        let mut signatures = Members::new(alloc);
+        if next.rtype() == Rtype::RRSIG {
+            signatures.add(next)?;
+        } else {
+            records.add(next)?;
+        }
+        Ok(Group {
+            records,
+            signatures,
+            had_duplicate: false,
+        })
+    }
+
+    /// The first record, or the first signature where there is no record.
+    fn leader(&self) -> &Record
+        ensures leads { leader_in self.now.records self.now.signatures ≡ Some result.now }
+        ensures owner { result.now.owner ≡ self.now.owner }
+        ensures class { result.now.class ≡ self.now.class }
+    {
+        let records = self.records.as_slice();
+        if records.is_empty() {
+            &self.signatures.as_slice()[0]
+        } else {
+            &records[0]
+        }
+    }
+
+    /// The owner, in the letters of the first record, or of the first signature where there is no record.
+    pub fn owner(&self) -> &Name
+        ensures { result.now ≡ self.now.owner }
+    {
+        self.leader().owner()
+    }
+
+    /// The class of all members.
+    pub fn class(&self) -> Class
+        ensures { result ≡ self.now.class }
+    {
+        self.leader().class()
+    }
+
+    /// The type of the records, and RRSIG where there are signatures alone.
+    pub fn rtype(&self) -> Rtype
+        ensures { result ≡ self.now.rtype }
+    {
+        let records = self.records.as_slice();
+        if records.is_empty() {
+            Rtype::RRSIG
+        } else {
+            records[0].rtype()
+        }
+    }
+
+    /// The records that are no signatures, in order of arrival.
+    pub fn rr_set(&self) -> &[Record]
+        ensures { result.now ≡ self.now.records }
+    {
+        self.records.as_slice()
+    }
+
+    /// The signatures, which are RRSIG records, in order of arrival (RFC 4034 3).
+    pub fn sig_set(&self) -> &[Record]
+        ensures { result.now ≡ self.now.signatures }
+    {
+        self.signatures.as_slice()
+    }
+
+    /// How many signatures there are.
+    pub fn sig_set_len(&self) -> usize
+        ensures { result ≡ length self.now.signatures }
+    {
+        self.signatures.as_slice().len()
+    }
+
+    /// Whether a duplicate of a member was dropped (RFC 2181 5).
+    pub fn found_duplicate(&self) -> bool
+        ensures { result ≡ self.now.had_duplicate }
+    {
+        self.had_duplicate
+    }
+
+    /// Whether a record belongs to the group: it has the owner, ASCII case aside, the class, and the type or a
+    /// signature that covers the type.
+    pub(crate) fn takes(&self, next: &Record) -> bool
+        ensures { result ≡ belongs_to next.now self.now }
+    {
+        let leader = self.leader();
+        is_of_one_group(leader, next)
+    }
+
+    /// Adds a record of the group, and notes and drops a duplicate.
+    pub(crate) fn put(&mut self, next: Record) -> Result<(), NoMemory>
+        ensures ok { OnOk result (self.new ≡ put_in next self.old) }
+        ensures err { OnErr result (self.new ≡ self.old) }
+    {
+        if next.rtype() == Rtype::RRSIG {
+            let found = self.signatures.add(next)?;
+            self.had_duplicate |= found;
+        } else {
+            let found = self.records.add(next)?;
+            self.had_duplicate |= found;
+        }
+        Ok(())
+    }
+}
+
+ghost use Rattle.dsec_spec.specs.Groups.{of_one_group};
+
+/// Whether two records are of one group.
+fn is_of_one_group(first: &Record, next: &Record) -> bool
+    ensures { result ≡ of_one_group first.now next.now }
+{
+    first.owner() == next.owner()
+        && first.class() == next.class()
+        && grouped_type(first) == grouped_type(next)
+}
+
+/// The type that a record is grouped by: of a signature the type that it covers (RFC 4034 3.1.1).
+fn grouped_type(next: &Record) -> Rtype
+    ensures { result ≡ type_of next.now }
+{
+    if next.rtype() != Rtype::RRSIG {
+        return next.rtype();
+    }
+    match *next.rdata().octets().as_slice() {
+        [high, low, ..] => Rtype::from_int(u16::from_be_bytes([high, low])),
+        _ => Rtype::from_int(0),
+    }
+}

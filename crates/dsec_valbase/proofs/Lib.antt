@@ -1,0 +1,4 @@
+pub mod SetLemmas
+pub mod NameParts
+pub mod LinkLemmas
+pub mod KeyedLemmas

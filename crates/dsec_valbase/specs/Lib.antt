@@ -1,0 +1,5 @@
+pub mod Sets
+pub mod Signing
+pub mod Keyed
+pub mod Tests
+pub mod Links

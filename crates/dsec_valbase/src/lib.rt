@@ -1,0 +1,24 @@
+//! Record sets, the octets that signatures are over, one signature's check, and links of chains (RFC 4034 3.1.8, RFC 4035 5.3).
+#![tactic(auto)]
+
+mod admit;
+mod bytes;
+mod canonical;
+mod check;
+mod link;
+mod record_set;
+mod rrsig_ext;
+mod signing;
+mod supported;
+mod verified;
+
+pub use admit::{admit_anchor_key, admit_set};
+pub use bytes::signed_bytes;
+pub use check::{is_signed, matches};
+pub use link::{Link, LinkKind, Links};
+pub use record_set::RecordSet;
+pub use rrsig_ext::RrsigExt;
+pub use supported::{supported_algorithm, supported_digest};
+
+#[cfg(test)]
+mod tests;
