@@ -31,6 +31,7 @@ pub record Entry : Type 0 where
   pub rtype : ℕ
   pub reply : Option (List ℕ)
 
+-- answers, in the order in which they are looked through
 abbrev pub Table : Type 0
 Table = List Entry
 
