@@ -2,9 +2,10 @@
 use Rattle.std.proofs.Common.{◌≡◌, ℕ, List, [], ◌∷◌, ◌++◌, refl, sym, ap, ◌∙◌, subst, inl, arith, rules, ◌&&◌, ◌||◌}
 use Rattle.std.specs.Prelude.{codes, None, Some}
 use Rattle.std.specs.Str.{bytes_eq}
+use Rattle.std.proofs.lemmas.Option.{same_Some}
 use Rattle.dsec_spec.specs.Names.{Labels, place, wire_octets}
-use Rattle.dsec_spec.specs.RecordData.{parts_in}
-use Rattle.dsec_spec.specs.Records.{Key, Record, Rrsig, RecordSet, beside}
+use Rattle.dsec_spec.specs.RecordData.{parts_in, labels_in, name_in}
+use Rattle.dsec_spec.specs.Records.{Key, Record, Rrsig, rrsig_octets, rrsig_of, RecordSet, beside}
 use Rattle.dsec_spec.specs.Period.{InPeriod}
 use Rattle.dsec_spec.specs.SignedBytes.{inserted, ascending}
 use Rattle.dsec_spec.specs.Accepts.{Accepts}
@@ -37,6 +38,12 @@ sig_over covered labels signature = record {
   signature = signature;
 }
 
+abbrev key_set_sig : Rrsig
+key_set_sig = sig_over 48 1 (7 ∷ [])
+
+abbrev address_sig : Rrsig
+address_sig = sig_over 1 2 (8 ∷ [])
+
 abbrev key_set : RecordSet
 key_set = record { owner = example; class = 1; rtype = 48; datas = key_data ∷ [] }
 
@@ -64,12 +71,21 @@ abbrev anchor : Record
 anchor = record { owner = example; class = 1; rtype = 48; ttl = 3600; rdata = key_data }
 
 abbrev anchor_link : Link
-anchor_link = record { kind = anchor_key; records = key_set; via = Some key_data; signing_key = key_data; rrsig = sig_over 48 1 (7 ∷ []) }
+anchor_link = record { kind = anchor_key; records = key_set; via = Some key_data; signing_key = key_data; rrsig = rrsig_octets key_set_sig }
 
 abbrev address_link : Link
-address_link = record { kind = set; records = address_set; via = None; signing_key = key_data; rrsig = sig_over 1 2 (8 ∷ []) }
+address_link = record { kind = set; records = address_set; via = None; signing_key = key_data; rrsig = rrsig_octets address_sig }
 
-key_set_signed : Signed accepts_two key_set (beside key_set anchor_link.rrsig) zone_key (place example) 500
+-- the RRSIGs' data say them
+key_set_sig_read : rrsig_of (rrsig_octets key_set_sig) ≡ Some key_set_sig
+unfolding rrsig_of name_in labels_in
+key_set_sig_read = refl
+
+address_sig_read : rrsig_of (rrsig_octets address_sig) ≡ Some address_sig
+unfolding rrsig_of name_in labels_in
+address_sig_read = refl
+
+key_set_signed : Signed accepts_two key_set (beside key_set key_set_sig) zone_key (place example) 500
 unfolding inserted ascending parts_in
 key_set_signed = record {
   same_owner = refl;
@@ -85,7 +101,7 @@ key_set_signed = record {
   accepted = refl;
 }
 
-address_signed : Signed accepts_two address_set (beside address_set address_link.rrsig) zone_key (place example) 500
+address_signed : Signed accepts_two address_set (beside address_set address_sig) zone_key (place example) 500
 unfolding inserted ascending parts_in
 address_signed = record {
   same_owner = refl;
@@ -109,7 +125,7 @@ anchor_link_holds = record {
     of_class = refl;
     of_type = refl;
     its_own = search rules;
-    signed = record { public_key = zone_key; reads = refl; signed = key_set_signed };
+    signed = record { public_key = zone_key; reads = refl; signature = key_set_sig; reads_signature = key_set_sig_read; signed = key_set_signed };
   };
   by_way_of = refl;
   anchored = record { anchor = anchor; listed = search rules; of_class = refl; of_type = refl; stands_at = refl; says = refl };
@@ -122,7 +138,7 @@ address_link_holds = record {
   within = record { under = codes "www" ∷ []; is = refl };
   ds_above = λ is_ds not_root. record { next = codes "www"; under = []; is = refl };
   by_held = search rules;
-  signed = record { public_key = zone_key; reads = refl; signed = address_signed };
+  signed = record { public_key = zone_key; reads = refl; signature = address_sig; reads_signature = address_sig_read; signed = address_signed };
 }
 
 -- the two links show the address at the moment 500
@@ -151,7 +167,8 @@ last_of-append link last (first ∷ links) = last_of-append first last links
 pub address_fails_later : Holds accepts_two (anchor ∷ []) (anchor_link ∷ address_link ∷ []) address_set 1001 → ⊥
 address_fails_later h =
     let is_last : address_link ≡ h.last = ap (last_of anchor_link) h.are ∙ last_of-append anchor_link h.last h.chain in
-    let period = h.shows.signed.signed.period in
-    let at_end : InPeriod 0 1000 1001 = subst (λ (link : Link). InPeriod link.rrsig.inception link.rrsig.expiration 1001) (sym is_last) period in
+    let is_read : address_sig ≡ h.shows.signed.signature =
+    same_Some _ _ (sym address_sig_read ∙ (ap (λ (link : Link). rrsig_of link.rrsig) is_last ∙ h.shows.signed.reads_signature)) in
+    let at_end : InPeriod 0 1000 1001 = subst (λ (sig : Rrsig). InPeriod sig.inception sig.expiration 1001) (sym is_read) h.shows.signed.signed.period in
     let late = at_end.within in
     absurd (omega (arith, late))

@@ -1,10 +1,11 @@
 -- A chain that holds through a zone cut: an anchor's DS record for `example.`, the DS set of `sub.example.`, the child's keys, and an address there.
-use Rattle.std.proofs.Common.{ℕ, List, [], ◌∷◌, ◌++◌, refl, inr, arith, rules, ◌&&◌}
+use Rattle.std.proofs.Common.{◌≡◌, ℕ, List, [], ◌∷◌, ◌++◌, refl, inr, arith, rules, ◌&&◌}
 use Rattle.std.specs.Prelude.{codes, None, Some}
 use Rattle.std.specs.Str.{bytes_eq}
 use Rattle.sha2.specs.Sha256.{sha256}
 use Rattle.dsec_spec.specs.Names.{Labels, place, canonical_octets}
-use Rattle.dsec_spec.specs.Records.{Key, key_octets, Record, Rrsig, RecordSet, beside}
+use Rattle.dsec_spec.specs.RecordData.{labels_in, name_in}
+use Rattle.dsec_spec.specs.Records.{Key, key_octets, Record, Rrsig, rrsig_octets, rrsig_of, RecordSet, beside}
 use Rattle.dsec_spec.specs.Accepts.{Accepts}
 use Rattle.dsec_spec.specs.Signed.{Signed}
 use Rattle.dsec_spec.specs.Chain.{Link, anchor_ds, ds, key, set, IsAnchorDsLink, IsDsLink, IsKeyLink, IsSetLink, Holds}
@@ -53,16 +54,33 @@ abbrev anchor : Record
 anchor = record { owner = parent; class = 1; rtype = 43; ttl = 3600; rdata = ds_data parent }
 
 abbrev parent_link : Link
-parent_link = record { kind = anchor_ds; records = keys_of parent; via = Some (ds_data parent); signing_key = key_octets zone_key; rrsig = sig_over 48 1 parent }
+parent_link = record { kind = anchor_ds; records = keys_of parent; via = Some (ds_data parent); signing_key = key_octets zone_key; rrsig = rrsig_octets (sig_over 48 1 parent) }
 
 abbrev ds_link : Link
-ds_link = record { kind = ds; records = ds_set; via = None; signing_key = key_octets zone_key; rrsig = sig_over 43 2 parent }
+ds_link = record { kind = ds; records = ds_set; via = None; signing_key = key_octets zone_key; rrsig = rrsig_octets (sig_over 43 2 parent) }
 
 abbrev child_link : Link
-child_link = record { kind = key; records = keys_of child; via = Some (ds_data child); signing_key = key_octets zone_key; rrsig = sig_over 48 2 child }
+child_link = record { kind = key; records = keys_of child; via = Some (ds_data child); signing_key = key_octets zone_key; rrsig = rrsig_octets (sig_over 48 2 child) }
 
 abbrev address_link : Link
-address_link = record { kind = set; records = address_set; via = None; signing_key = key_octets zone_key; rrsig = sig_over 1 2 child }
+address_link = record { kind = set; records = address_set; via = None; signing_key = key_octets zone_key; rrsig = rrsig_octets (sig_over 1 2 child) }
+
+-- the RRSIGs' data say them
+parent_sig_read : rrsig_of (rrsig_octets (sig_over 48 1 parent)) ≡ Some (sig_over 48 1 parent)
+unfolding rrsig_of name_in labels_in
+parent_sig_read = refl
+
+ds_sig_read : rrsig_of (rrsig_octets (sig_over 43 2 parent)) ≡ Some (sig_over 43 2 parent)
+unfolding rrsig_of name_in labels_in
+ds_sig_read = refl
+
+child_sig_read : rrsig_of (rrsig_octets (sig_over 48 2 child)) ≡ Some (sig_over 48 2 child)
+unfolding rrsig_of name_in labels_in
+child_sig_read = refl
+
+address_sig_read : rrsig_of (rrsig_octets (sig_over 1 2 child)) ≡ Some (sig_over 1 2 child)
+unfolding rrsig_of name_in labels_in
+address_sig_read = refl
 
 parent_signed : Signed accepts_nine (keys_of parent) (beside (keys_of parent) (sig_over 48 1 parent)) zone_key (place parent) 500
 parent_signed = record {
@@ -131,7 +149,7 @@ parent_link_holds = record {
     of_class = refl;
     of_type = refl;
     its_own = search rules;
-    signed = record { public_key = zone_key; reads = refl; signed = parent_signed };
+    signed = record { public_key = zone_key; reads = refl; signature = sig_over 48 1 parent; reads_signature = parent_sig_read; signed = parent_signed };
   };
   ds_data = ds_data parent;
   by_way_of = refl;
@@ -152,7 +170,7 @@ ds_link_holds = record {
   of_type = refl;
   below = record { next = codes "sub"; under = []; is = refl };
   by_held = search rules;
-  signed = record { public_key = zone_key; reads = refl; signed = ds_signed };
+  signed = record { public_key = zone_key; reads = refl; signature = sig_over 43 2 parent; reads_signature = ds_sig_read; signed = ds_signed };
 }
 
 child_link_holds : IsKeyLink accepts_nine ds_link child_link 500
@@ -162,7 +180,7 @@ child_link_holds = record {
     of_class = refl;
     of_type = refl;
     its_own = search rules;
-    signed = record { public_key = zone_key; reads = refl; signed = child_signed };
+    signed = record { public_key = zone_key; reads = refl; signature = sig_over 48 2 child; reads_signature = child_sig_read; signed = child_signed };
   };
   same_owner = refl;
   ds_data = ds_data child;
@@ -184,7 +202,7 @@ address_link_holds = record {
   within = record { under = []; is = refl };
   ds_above = λ is_ds not_root. absurd (omega (arith, is_ds));
   by_held = search rules;
-  signed = record { public_key = zone_key; reads = refl; signed = address_signed };
+  signed = record { public_key = zone_key; reads = refl; signature = sig_over 1 2 child; reads_signature = address_sig_read; signed = address_signed };
 }
 
 -- the four links show the address at the moment 500

@@ -17,3 +17,8 @@ pub mod RecordDataExamples
 pub mod ChainExample
 pub mod DelegationExample
 pub mod RrsigLemmas
+pub mod SignedTests
+pub mod Members
+pub mod IslandLemmas
+pub mod AnsweringLemmas
+pub mod OutsideLaws

@@ -109,7 +109,7 @@ name_within_sound (suc steps) m at most room read one e =
 -- what is read at a place stands there
 pub name_at_stands : (m : List ℕ) (at : ℕ) (read : NameRead) → name_at m at ≡ Some read → StandsWithin m at 255 255 read
 unfolding name_at
-name_at_stands m at read e = name_within_sound 384 m at 255 255 read (omega arith) e
+name_at_stands m at read e = name_within_sound 383 m at 255 255 read (omega arith) e
 
 -- and is a name that may be read there
 pub from_name_at : (m : List ℕ) (at : ℕ) (name : Labels) (after : ℕ) → name_at m at ≡ Some (name, after) → IsReadableName m at name after
@@ -163,7 +163,7 @@ stands_read m _ _ _ _ (pointer_there pointers at high low labels after from is b
 pub name_at_reads : (m : List ℕ) (at : ℕ) (name : Labels) (after : ℕ) → IsReadableName m at name after → name_at m at ≡ Some (name, after)
 unfolding name_at
 name_at_reads m at name after readable =
-    stands_read m readable.pointers at name after readable.stands 384 255 255
+    stands_read m readable.pointers at name after readable.stands 383 255 255
     (omega (arith, labels_within name readable.short.labels, readable.short.at_most, readable.few)) readable.few readable.short.at_most
 
 -- so a place has one name at most

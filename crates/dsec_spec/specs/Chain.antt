@@ -2,7 +2,7 @@
 use Rattle.std.specs.Prelude.{◌≡◌, ◌≢◌, ◌⊎◌, ℕ, List, [], ◌∷◌, ◌++◌, Contains, Option, Some}
 use Rattle.dsec_spec.specs.Names.{Place, place, IsAtOrBelow, IsStrictlyBelow}
 use Rattle.dsec_spec.specs.Numbers.{IN, DS, DNSKEY}
-use Rattle.dsec_spec.specs.Records.{Record, RecordSet, Key, key_of, Ds, ds_of, Rrsig, beside}
+use Rattle.dsec_spec.specs.Records.{Record, RecordSet, Key, key_of, Ds, ds_of, Rrsig, rrsig_of, beside}
 use Rattle.dsec_spec.specs.Accepts.{Accepts}
 use Rattle.dsec_spec.specs.Signed.{Signed}
 use Rattle.dsec_spec.specs.DelegationSigner.{Matches, IsSupported}
@@ -21,19 +21,22 @@ pub data LinkKind : Type 0 where
   set : LinkKind
 
 -- A signed set and how it was reached. `via` is the data of the anchor or of the DS record that speaks of
--- the key, `signing_key` the data of the DNSKEY record that signed the set by the RRSIG; nothing is asked of `via` in a `ds` or `set` link.
+-- the key, `signing_key` the data of the DNSKEY record whose key signed the set, `rrsig` the data of the RRSIG record
+-- by which it did; nothing is asked of `via` in a `ds` or `set` link.
 pub record Link : Type 0 where
   pub kind : LinkKind
   pub records : RecordSet
   pub via : Option (List ℕ)
   pub signing_key : List ℕ
-  pub rrsig : Rrsig
+  pub rrsig : List ℕ
 
--- the link's set is signed by its key as a key of this zone (RFC 4035 5.3)
+-- the link's set is signed by its key as a key of this zone, by its RRSIG (RFC 4035 5.3)
 pub record IsSigned (accepts : Accepts) (link : Link) (zone : Place) (t : ℕ) : Type 0 where
   pub public_key : Key
   pub reads : key_of link.signing_key ≡ Some public_key
-  pub signed : Signed accepts link.records (beside link.records link.rrsig) public_key zone t
+  pub signature : Rrsig
+  pub reads_signature : rrsig_of link.rrsig ≡ Some signature
+  pub signed : Signed accepts link.records (beside link.records signature) public_key zone t
 
 -- a DNSKEY set of class IN that is signed by one of its own keys, with its owner as the zone (RFC 4035 5.2)
 pub record IsKeySet (accepts : Accepts) (link : Link) (t : ℕ) : Type 0 where

@@ -16,5 +16,8 @@ pub mod Signed
 pub mod DelegationSigner
 pub mod Chain
 pub mod Groups
+pub mod Trying
+pub mod Islands
+pub mod Answering
 pub mod Sound
 pub mod Outside

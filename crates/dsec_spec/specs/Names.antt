@@ -1,5 +1,5 @@
 -- Domain names, and where they stand in the tree below the root (RFC 1035 3.1, RFC 4034 6.1).
-use Rattle.std.specs.Prelude.{◌≡◌, ℕ, ◌+◌, ◌<◌, ◌≤◌, List, [], ◌∷◌, ◌++◌, length, map, reverse, sum_by, All, Bool, if◌then◌else◌}
+use Rattle.std.specs.Prelude.{◌≡◌, ℕ, ◌+◌, ◌<◌, ◌≤◌, ◌&&◌, nat_lt, List, [], ◌∷◌, ◌++◌, length, take, map, reverse, sum_by, All, Bool, if◌then◌else◌}
 use Rattle.std.specs.List.{flat_map}
 use Rattle.std.specs.Char.{to_ascii_lowercase}
 use Rattle.std.specs.Str.{bytes_eq}
@@ -77,6 +77,14 @@ pub record IsStrictlyBelow (n z : Place) : Type 0 where
   pub next : List ℕ
   pub under : Place
   pub is : n ≡ z ++ next ∷ under
+
+-- whether n is z, or a name under it
+abbrev pub is_below : Place → Place → Bool
+is_below n z = same_place (take (length z) n) z
+
+-- whether n is a name under z, and not z
+abbrev pub is_strictly_below : Place → Place → Bool
+is_strictly_below n z = is_below n z && nat_lt (length z) (length n)
 
 -- the label of a wildcard, `*` (RFC 4592 2.1.1)
 abbrev pub asterisk : List ℕ

@@ -108,3 +108,7 @@ NSEC3 = 50
 -- how a zone hashes its names (RFC 5155 4)
 abbrev pub NSEC3PARAM : ℕ
 NSEC3PARAM = 51
+
+-- a question for all types (RFC 1035 3.2.3)
+abbrev pub ANY : ℕ
+ANY = 255

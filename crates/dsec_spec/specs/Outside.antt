@@ -1,6 +1,7 @@
 -- The outside: counts that stay at their last value, faults and their causes, what went out, and what an
 -- upstream answers.
-use Rattle.std.specs.Prelude.{◌≡◌, ℕ, ◌+◌, ◌-◌, ◌^◌, ◌≤◌, ◌==◌, ◌&&◌, min, List, take, Bool, find, Option, None, Some, IfSome, Result, OnErr}
+use Rattle.std.specs.Prelude.{◌≡◌, ℕ, ◌+◌, ◌-◌, ◌^◌, ◌≤◌, ◌==◌, ◌&&◌, min, List, [], ◌∷◌, ◌++◌, take, Bool, find, Option, None, Some, IfSome, Result, OnErr, if◌then◌else◌}
+use Rattle.std.specs.List.{list_any}
 use Rattle.std.specs.Io.KnownBytes.{Appends}
 use Rattle.dsec_spec.specs.Names.{Labels, place, same_place}
 
@@ -38,6 +39,14 @@ Table = List Entry
 -- whether the entry is the question's
 abbrev pub answers : Labels → ℕ → Entry → Bool
 answers name rtype entry = same_place (place entry.name) (place name) && (entry.rtype == rtype)
+
+-- whether two entries are for one question
+abbrev pub same_question : Entry → Entry → Bool
+same_question x y = answers x.name x.rtype y
+
+-- the answers with one more, unless there is one for its question
+abbrev pub with_entry : Table → Entry → Table
+with_entry table entry = if list_any (answers entry.name entry.rtype) table then table else table ++ entry ∷ []
 
 -- what is found of a question: the reply of its first entry; none where that fails, or there is no entry
 abbrev pub reply_of : Option Entry → Option (List ℕ)

@@ -2,7 +2,7 @@
 use Rattle.std.specs.Prelude.{◌≡◌, ◌≢◌, ◌⊎◌, ℕ, List, [], ◌∷◌, ◌++◌, Contains, slice_get, length, Some}
 use Rattle.dsec_spec.specs.Names.{Place, place, IsAtOrBelow, IsStrictlyBelow}
 use Rattle.dsec_spec.specs.Numbers.{CNAME, DNAME, DS}
-use Rattle.dsec_spec.specs.Records.{Record, rrsig_of}
+use Rattle.dsec_spec.specs.Records.{Record, Rrsig, rrsig_of}
 use Rattle.dsec_spec.specs.Messages.{Question, questions_of, answers_of, rcode_of}
 use Rattle.dsec_spec.specs.SignedBytes.{IsExpansion}
 use Rattle.dsec_spec.specs.Accepts.{Accepts}
@@ -69,5 +69,7 @@ pub record IsSound (accepts : Accepts) (anchors : List Record) (t : ℕ) (messag
   pub ends : why.links ≡ before ++ last ∷ []
   pub signature : Record
   pub beside : Contains answer.signatures signature
-  pub says : rrsig_of signature.rdata ≡ Some last.rrsig
-  pub no_expansion : IsExpansion last.rrsig.labels answer.owner → ⊥
+  pub says : signature.rdata ≡ last.rrsig
+  pub rrsig : Rrsig
+  pub reads : rrsig_of last.rrsig ≡ Some rrsig
+  pub no_expansion : IsExpansion rrsig.labels answer.owner → ⊥

@@ -72,6 +72,6 @@ unfoldable pub name_within : ℕ → List ℕ → ℕ → ℕ → ℕ → Option
 name_within zero message at pointers room = None
 name_within (suc steps) message at pointers room = head_at message at >>= after_head (name_within steps message) message at pointers room
 
--- the name at a place: the one that `IsReadableName` speaks of. 255 pointers, 127 labels and the root are 383 steps, one fewer than are given
+-- the name at a place: the one that `IsReadableName` speaks of; 255 pointers, 127 labels and the root are 383 steps
 unfoldable pub name_at : List ℕ → ℕ → Option NameRead
-name_at message at = name_within 384 message at 255 255
+name_at message at = name_within 383 message at 255 255
