@@ -7,15 +7,15 @@ mod laws;
 mod tests;
 
 pub use cause::Cause;
-pub use dsec_name::{Name, NameError, NoMemory, Octets};
+pub use dsec_name::{Name, NameError, NameRef, NoMemory, Octets};
 pub use dsec_number::{
     Class, DigestAlgorithm, Nsec3HashAlgorithm, Rcode, Rtype, SecurityAlgorithm, Serial, Timestamp,
     Ttl, UnknownWord,
 };
 pub use dsec_outside::{
     AskError, Failed, FailingSink, FailingSource, FailingUpstream, FixedUpstream, LIMIT,
-    OctetsSink, OctetsSource, PIECE, Reading, Sink, Source, Stop, TableEntry, TableUpstream,
-    Upstream, Writing, read_all, write_all,
+    OctetsSink, OctetsSource, PIECE, Reading, Replies, Sink, Source, Stop, TableUpstream, Upstream,
+    Writing, read_all, write_all,
 };
 pub use dsec_wire::{
     Data, Dnskey, Header, Message, MessageError, Question, Questions, Record, Records, Rrsig,

@@ -4,7 +4,7 @@ use crate::Cause;
 use std::test::Fail;
 
 /// Each cause with its code and its text.
-const ROWS: [(Cause, u16, &str); 55] = [
+const ROWS: [(Cause, u16, &str); 56] = [
     (Cause::RrsigWithoutRrset, 5, "RRSIG without RRset"),
     (Cause::NoTrustAnchor, 5, "No trust anchor for root."),
     (Cause::NoSignature, 6, "No signature"),
@@ -168,6 +168,7 @@ const ROWS: [(Cause, u16, &str); 55] = [
         6,
         "No NEC/NSEC3 proof for non-existance",
     ),
+    (Cause::NotBuilt, 0, "not built"),
 ];
 
 #[test]
