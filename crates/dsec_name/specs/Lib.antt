@@ -4,6 +4,8 @@ pub mod Keys
 pub mod NameLaws
 pub mod Wire
 pub mod Parts
+pub mod NamePrefix
+pub mod NameRefs
 pub mod NameText
 pub mod TextReading
 pub mod TextParts

@@ -6,6 +6,7 @@ mod error;
 mod key;
 mod laws;
 mod name;
+mod name_ref;
 mod octets;
 mod order;
 mod text;
@@ -13,6 +14,7 @@ mod text;
 pub use error::{NameError, NoMemory};
 pub use laws::{law_of_display, law_of_equality, law_of_text, law_of_wire};
 pub use name::Name;
+pub use name_ref::NameRef;
 pub use octets::Octets;
 
 #[cfg(test)]

@@ -7,11 +7,13 @@ ghost use Rattle.dsec_spec.specs.Names.{Labels, IsAtOrBelow, IsName, canonical_o
 ghost use Rattle.dsec_spec.specs.Reading.{Gives};
 ghost use Rattle.dsec_name.specs.Errors.{Answers, is_long, wants_memory};
 ghost use Rattle.dsec_name.specs.Keys.{IsWhole, key_of, labels_octets, labels_of};
+ghost use Rattle.dsec_name.specs.NameRefs.{name_view};
 ghost use Rattle.dsec_name.specs.Parts.{parent_of};
 ghost use Rattle.dsec_name.specs.Wire.{IsOnWire, name_on_wire, wire_labels};
 
 use crate::error::{NameError, NoMemory};
 use crate::key::sort_key;
+use crate::name_ref::NameRef;
 use std::alloc::Global;
 use std::cmp::Ordering;
 use std::marker::Model;
@@ -100,6 +102,13 @@ impl Name {
         &self.key
     }
 
+    /// The name, borrowed.
+    pub fn as_name_ref(&self) -> NameRef<'_>
+        ensures { name_view result ≡ self.now }
+    {
+        NameRef::of_labels(&self.octets)
+    }
+
     /// The name without its leftmost label; none for the root.
     pub fn parent(&self) -> Result<Option<Self>, NoMemory>
         ensures { IfOk result (λ parent. parent ≡ parent_of self.now) }
@@ -184,14 +193,7 @@ impl Name {
         ensures ok { OnOk result (out.new.items ≡ out.old.items ++ canonical_octets self.now) }
         ensures err { OnErr result (out.new.items ≡ out.old.items) }
     {
-        let labels = self.octets();
-        out.reserve(labels.len() + 1)?;
-        // A length is at most 63, and so no letter.
-        for octet in labels {
-            out.push_reserved(octet.to_ascii_lowercase());
-        }
-        out.push_reserved(0);
-        Ok(())
+        self.as_name_ref().compose_canonical(out)
     }
 }
 

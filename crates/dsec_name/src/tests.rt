@@ -192,6 +192,55 @@ fn names_stand_under_others(rt: HostRuntime) -> Result<(), Fail> {
 }
 
 #[test]
+fn names_are_borrowed(rt: HostRuntime) -> Result<(), Fail> {
+    let alloc = rt.alloc();
+    let octets: &[u8] = b"\x01A\x07Example\x00\x01";
+    let (borrowed, rest) = NameRef::from_prefix(octets).ok_or(NoMemory)?;
+    assert!(rt; rest == [1].as_slice());
+    assert_eq!(rt; borrowed.label_count(), 3);
+    let name = Name::parse(alloc, "a.eXample")?;
+    assert!(rt; borrowed.is(&name) && !borrowed.is(&Name::parse(alloc, "b.example")?));
+    assert!(rt; !borrowed.is(&Name::parse(alloc, "example")?) && !borrowed.is(&Name::root(alloc)));
+    let kept = borrowed.to_name(alloc)?;
+    assert!(rt; kept == name);
+    assert_eq!(rt; format!(in alloc; "{kept}")?.as_str(), "A.Example.");
+    let mut out = Vec::new(alloc);
+    kept.as_name_ref().compose_canonical(&mut out)?;
+    assert!(rt; out.as_slice() == b"\x01a\x07example\x00".as_slice());
+    let (root, rest) = NameRef::from_prefix(b"\x00\x00").ok_or(NoMemory)?;
+    assert!(rt; root.is(&Name::root(alloc)) && rest.len() == 1);
+    assert_eq!(rt; root.label_count(), 1);
+    Ok(())
+}
+
+#[test]
+fn octets_begin_with_no_name(rt: HostRuntime) -> Result<(), Fail> {
+    let alloc = rt.alloc();
+    let wires: [&[u8]; 4] = [&[], &[1, 97], &[2, 97, 0], &[192, 12]];
+    for wire in wires {
+        assert!(rt; NameRef::from_prefix(wire).is_none());
+    }
+    for (last, is_name) in [(61, true), (62, false), (64, false)] {
+        let mut octets = Vec::new(alloc);
+        for size in [63, 63, 63, last] {
+            octets.push(size)?;
+            for _ in 0..size {
+                octets.push(97)?;
+            }
+        }
+        octets.push(0)?;
+        assert_eq!(rt; NameRef::from_prefix(&octets).is_some(), is_name, "{last}");
+    }
+    let mut octets = Vec::new(alloc);
+    octets.push(64)?;
+    for _ in 0..65 {
+        octets.push(0)?;
+    }
+    assert!(rt; NameRef::from_prefix(&octets).is_none());
+    Ok(())
+}
+
+#[test]
 fn octets_are_ordered(rt: HostRuntime) -> Result<(), Fail> {
     let alloc = rt.alloc();
     let shorter = Octets::new([1, 2].to_vec(alloc)?);

@@ -2,7 +2,7 @@ use Rattle.std.proofs.Common.{◌≡◌, ◌++◌, ◌+◌, ◌≤◌, length, t
 use Rattle.std.specs.Prelude.{map, vec_len}
 use Rattle.std.specs.Vec.{vec_capacity}
 use Rattle.std.specs.Char.{to_ascii_lowercase}
-use Rattle.dsec_name.proofs.name.Name.compose_canonical.Given as goal
+use Rattle.dsec_name.proofs.name_ref.NameRef.compose_canonical.Given as goal
 
 abbrev pub invariant-loop-octet : goal.invariant-loop-octet
 invariant-loop-octet l =
