@@ -1,11 +1,11 @@
 -- The data of an RRSIG record, read in steps: 18 octets, the signer's name and the signature.
-use Rattle.std.proofs.Common.{◌≡◌, ◌↔◌, ℕ, zero, suc, Bool, true, false, not, eqb, ◌+◌, ◌<◌, ◌≤◌, List, [], ◌∷◌, length, take, drop, Option, Some, None, Result, Ok, Err, refl, sym, ap, ◌∙◌, subst, arith, length-append, length-drop}
-use Rattle.std.specs.Prelude.{IfOk, IsSome, slice_get}
+use Rattle.std.proofs.Common.{◌≡◌, ◌↔◌, ℕ, zero, suc, Bool, true, false, not, eqb, ◌+◌, ◌<◌, ◌≤◌, List, [], ◌∷◌, length, drop, Option, Some, None, refl, sym, ap, ◌∙◌, subst, arith, length-append, length-drop}
+use Rattle.std.specs.Prelude.{IsSome, slice_get}
 use Rattle.std.specs.Option.{option_map}
-use Rattle.std.proofs.lemmas.List.{append-nil, take_at, drop_at}
+use Rattle.std.proofs.lemmas.List.{drop_at}
 use Rattle.std.proofs.lemmas.Bool.{eqb-true}
 use Rattle.std.proofs.lemmas.Option.{same_Some}
-use Rattle.dsec_spec.specs.Names.{Labels, IsName, wire_octets}
+use Rattle.dsec_spec.specs.Names.{Labels}
 use Rattle.dsec_spec.specs.Numbers.{RRSIG}
 use Rattle.dsec_spec.specs.Layouts.{octets, lowered_name, rest}
 use Rattle.dsec_spec.specs.Reading.{◌>>=◌, u32_in, u16_at, u32_at}
@@ -14,40 +14,12 @@ use Rattle.dsec_spec.specs.Records as records
 use Rattle.dsec_spec.specs.Records.{rrsig_of}
 use Rattle.dsec_spec.proofs.ReadingLemmas.{from_bind}
 use Rattle.dsec_spec.proofs.RecordDataLemmas.{parts_of-readable}
-use Rattle.dsec_spec.proofs.WireNameLemmas.{from_octets_in, from_name_in, same_names}
-use Rattle.dsec_name.specs.Wire.{IsOnWire}
-use Rattle.dsec_name.specs.declared.error.NoMemory.{NoMemory}
+use Rattle.dsec_spec.proofs.WireNameLemmas.{from_octets_in}
 use Rattle.dsec_wire.specs.declared.rrsig.Rrsig.{Rrsig}
 use Rattle.dsec_wire.specs.declared.rrsig.RrsigHead.{RrsigHead}
-use Rattle.dsec_wire.specs.Fields.{name_size_in}
 use Rattle.dsec_wire.specs.RrsigHeads.{rrsig_head}
 use Rattle.dsec_wire.specs.Views.{rrsig_view}
 use Rattle.dsec_wire.proofs.SectionReading.{number_there}
-
--- the name at the front, by its size
-pub record HasName (x : List ℕ) (size : ℕ) : Type 0 where
-  pub name : Labels
-  pub read : name_in x ≡ Some (name, drop size x)
-  pub octets : take size x ≡ wire_octets name
-  pub good : IsName name
-
-pub from_name_size : (x : List ℕ) (size : ℕ) → name_size_in x ≡ Some size → HasName x size
-from_name_size x size e =
-    let b = from_bind (name_in x) (λ (name : Labels × List ℕ). Some (length (wire_octets name.0))) size e in
-    let n : length (wire_octets b.0.0) ≡ size = same_Some _ _ b.2 in
-    let read = from_name_in x b.0.0 b.0.1 b.1 in
-    record {
-      name = b.0.0;
-      read = b.1 ∙ ap (λ (y : List ℕ). Some (b.0.0, y)) (sym (ap (drop size) read.1 ∙ drop_at (wire_octets b.0.0) b.0.1 size n));
-      octets = ap (take size) read.1 ∙ take_at (wire_octets b.0.0) b.0.1 size n;
-      good = read.0;
-    }
-
-no_name_size : (x : List ℕ) → name_size_in x ≡ None → name_in x ≡ None
-no_name_size x e = elim (name_in x) as (λ o. (o >>= λ name. Some (length (wire_octets name.0))) ≡ None → o ≡ None) [
-  | Some name ↦ λ f. absurd cc
-  | None ↦ λ f. refl
-] e
 
 -- a signature of a head, and what follows it
 abbrev pub rrsig_with : RrsigHead → Labels × List ℕ → records.Rrsig
@@ -87,15 +59,11 @@ by_head x =
 pub rrsig_no_head : (x : List ℕ) → rrsig_head x ≡ None → rrsig_of x ≡ None
 rrsig_no_head x e = by_head x ∙ rw e refl
 
-pub rrsig_no_signer : (x : List ℕ) (head : RrsigHead) → rrsig_head x ≡ Some head → name_size_in (drop 18 x) ≡ None → rrsig_of x ≡ None
-rrsig_no_signer x head h e = by_head x ∙ rw (h, no_name_size (drop 18 x) e) refl
+pub rrsig_no_signer : (x : List ℕ) (head : RrsigHead) → rrsig_head x ≡ Some head → name_in (drop 18 x) ≡ None → rrsig_of x ≡ None
+rrsig_no_signer x head h e = by_head x ∙ rw (h, e) refl
 
-pub rrsig_whole : (x : List ℕ) (head : RrsigHead) (size : ℕ) (name : Labels) → rrsig_head x ≡ Some head → name_size_in (drop 18 x) ≡ Some size → IsOnWire name (take size (drop 18 x)) → IsName name
-    → rrsig_of x ≡ Some (rrsig_with head (name, drop size (drop 18 x)))
-rrsig_whole x head size name h e wire good =
-    let has = from_name_size (drop 18 x) size e in
-    let same = same_names has.name name [] [] has.good good (append-nil (wire_octets has.name) ∙ (sym has.octets ∙ (wire.is ∙ sym (append-nil (wire_octets name))))) in
-    by_head x ∙ (rw (h, has.read) refl ∙ ap (λ (n : Labels). Some (rrsig_with head (n, drop size (drop 18 x)))) same.0)
+pub rrsig_whole : (x : List ℕ) (head : RrsigHead) (signer : Labels × List ℕ) → rrsig_head x ≡ Some head → name_in (drop 18 x) ≡ Some signer → rrsig_of x ≡ Some (rrsig_with head signer)
+rrsig_whole x head signer h e = by_head x ∙ rw (h, e) refl
 
 octet_there : (x : List ℕ) (i : ℕ) → i < length x → (n : ℕ) × (slice_get x i ≡ Some n)
 octet_there [] i below = absurd (omega arith)
@@ -144,11 +112,9 @@ rrsig_from_readable x readable =
     (rrsig_with head.0 signer.1.0, by_head x ∙ rw (head.1, signer.1.1) refl)
 
 -- so a reader that gives what they say finds one
-pub rrsig_found : (rtype : ℕ) (x : List ℕ) (r : Result (Option Rrsig) NoMemory) → rtype ≡ RRSIG → IsReadable rtype x → IfOk r (λ found. option_map rrsig_view found ≡ rrsig_of x)
-    → IfOk r (λ found. IsSome found ↔ (rtype ≡ RRSIG))
-rrsig_found rtype x (Err e) is readable h = tt
-rrsig_found rtype x (Ok (Some sig)) is readable h = (λ yes. is, λ e. refl)
-rrsig_found rtype x (Ok None) is readable h =
+pub rrsig_found : (rtype : ℕ) (x : List ℕ) (found : Option Rrsig) → rtype ≡ RRSIG → IsReadable rtype x → option_map rrsig_view found ≡ rrsig_of x → IsSome found ↔ (rtype ≡ RRSIG)
+rrsig_found rtype x (Some sig) is readable h = (λ yes. is, λ e. refl)
+rrsig_found rtype x None is readable h =
     let some = rrsig_from_readable x (subst (λ (t : ℕ). IsReadable t x) is readable) in
     absurd (not_both (rrsig_of x) some.0 (sym h) some.1)
   where

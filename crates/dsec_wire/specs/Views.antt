@@ -3,13 +3,14 @@ use Rattle.std.specs.Prelude.{Option, None, ◌==◌, if◌then◌else◌}
 use Rattle.dsec_spec.specs.Numbers.{DNSKEY, RRSIG}
 use Rattle.dsec_spec.specs.Records as records
 use Rattle.dsec_spec.specs.Records.{key_of, rrsig_of}
+use Rattle.dsec_name.specs.NameRefs.{name_view}
 use Rattle.dsec_wire.specs.TypedData.{TypedData}
 use Rattle.dsec_wire.specs.declared.dnskey.Dnskey.{Dnskey}
 use Rattle.dsec_wire.specs.declared.rrsig.Rrsig.{Rrsig}
 
 -- a key of the code
 abbrev pub key_view : Dnskey → records.Key
-key_view it = record { flags = it.flags; protocol = it.protocol; algorithm = it.algorithm; public_key = it.public_key }
+key_view it = record { flags = it.flags; protocol = it.protocol; algorithm = it.algorithm; public_key = it.public_key.now }
 
 -- a signature of the code
 abbrev pub rrsig_view : Rrsig → records.Rrsig
@@ -21,8 +22,8 @@ rrsig_view it = record {
   expiration = it.expiration;
   inception = it.inception;
   tag = it.key_tag;
-  signer = it.signer_name;
-  signature = it.signature;
+  signer = name_view it.signer_name;
+  signature = it.signature.now;
 }
 
 -- the key that data say, where they are a DNSKEY record's

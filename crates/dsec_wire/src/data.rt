@@ -1,6 +1,6 @@
 //! A record's data with their type.
 
-ghost use Rattle.std.specs.Prelude.{◌≡◌, ◌≢◌, ◌↔◌, ◌++◌, IsTrue, IsSome, IsOk, IfOk, OnOk, OnErr};
+ghost use Rattle.std.specs.Prelude.{◌≡◌, ◌↔◌, ◌++◌, IsTrue, IsSome, OnOk, OnErr};
 ghost use Rattle.std.specs.Option.{option_map};
 ghost use Rattle.dsec_spec.specs.Numbers.{DNSKEY, RRSIG};
 ghost use Rattle.dsec_spec.specs.RecordData.{IsReadable, canonical_data};
@@ -13,7 +13,6 @@ use crate::part::takes_all;
 use crate::rrsig::{Rrsig, read_rrsig};
 use dsec_name::{NoMemory, Octets};
 use dsec_number::Rtype;
-use std::alloc::Global;
 use std::marker::Model;
 
 /// The octets of a record's data at most (RFC 1035 3.2.1).
@@ -48,7 +47,7 @@ impl Data {
         Data { rtype, octets }
     }
 
-    /// Whether a record of the type may have these octets as its data. It takes no memory.
+    /// Whether a record of the type may have these octets as its data.
     pub fn is_readable(rtype: Rtype, octets: &[u8]) -> bool
         ensures { IsTrue result ↔ IsReadable rtype octets.now }
     {
@@ -71,27 +70,25 @@ impl Data {
     }
 
     /// The key, where the type is DNSKEY.
-    pub fn dnskey(&self, alloc: Global) -> Result<Option<Dnskey>, NoMemory>
-        ensures value { IfOk result (λ found. option_map key_view found ≡ dnskey_in self.now) }
-        ensures found { IfOk result (λ found. IsSome found ↔ (self.now.rtype ≡ DNSKEY)) }
-        ensures other { self.now.rtype ≢ DNSKEY → IsOk result }
+    pub fn dnskey(&self) -> Option<Dnskey<'_>>
+        ensures value { option_map key_view result ≡ dnskey_in self.now }
+        ensures found { IsSome result ↔ (self.now.rtype ≡ DNSKEY) }
     {
         if self.rtype != Rtype::DNSKEY {
-            return Ok(None);
+            return None;
         }
-        Dnskey::read(alloc, self.octets.as_slice())
+        Dnskey::read(self.octets.as_slice())
     }
 
     /// The signature, where the type is RRSIG.
-    pub fn rrsig(&self, alloc: Global) -> Result<Option<Rrsig>, NoMemory>
-        ensures value { IfOk result (λ found. option_map rrsig_view found ≡ rrsig_in self.now) }
-        ensures found { IfOk result (λ found. IsSome found ↔ (self.now.rtype ≡ RRSIG)) }
-        ensures other { self.now.rtype ≢ RRSIG → IsOk result }
+    pub fn rrsig(&self) -> Option<Rrsig<'_>>
+        ensures value { option_map rrsig_view result ≡ rrsig_in self.now }
+        ensures found { IsSome result ↔ (self.now.rtype ≡ RRSIG) }
     {
         if self.rtype != Rtype::RRSIG {
-            return Ok(None);
+            return None;
         }
-        read_rrsig(alloc, self.octets.as_slice())
+        read_rrsig(self.octets.as_slice())
     }
 
     /// Adds the data as signatures take them (RFC 4034 6.2).

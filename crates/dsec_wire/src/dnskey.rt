@@ -3,13 +3,11 @@
 ghost use Rattle.std.specs.Prelude.{◌≡◌, ◌<◌, ◌≤◌, ◌+◌, ◌*◌, ◌^◌, length, reverse};
 ghost use Rattle.dsec_spec.specs.KeyTag.{modulus_tag as modulus_tag_of, word_sum as word_sum_of};
 
-use dsec_name::{NoMemory, Octets};
 use dsec_number::SecurityAlgorithm;
-use std::alloc::{AllocError, Global};
 
-/// The data of a DNSKEY record, field by field.
-#[derive(Drop)]
-pub struct Dnskey {
+/// The data of a DNSKEY record, field by field. The octets of the key are the record's.
+#[derive(Clone, Copy)]
+pub struct Dnskey<'a> {
     /// Zone Key is 0x0100, Secure Entry Point 0x0001, Revoke 0x0080 (RFC 5011 3).
     pub flags: u16,
     /// 3 in every key that signs zones (RFC 4034 2.1.2).
@@ -17,59 +15,38 @@ pub struct Dnskey {
     /// The key's algorithm (RFC 4034 2.1.3).
     pub algorithm: SecurityAlgorithm,
     /// The key as its algorithm writes it (RFC 4034 2.1.4).
-    pub public_key: Octets,
-    ghost short: { length public_key < 2 ^ 16 },
+    pub public_key: &'a [u8],
+    ghost short: { length public_key.now < 2 ^ 16 },
 }
 
-impl Clone for Dnskey {
-    ghost use Rattle.std.specs.Prelude.{◌≡◌};
-    ghost use Rattle.dsec_wire.specs.Views.{key_view};
-
-    ghost is_clone = { λ old new. key_view new ≡ key_view old };
-
-    fn clone(&self) -> Result<Dnskey, AllocError> {
-        let public_key = self.public_key.clone()?;
-        Ok(Dnskey {
-            flags: self.flags,
-            protocol: self.protocol,
-            algorithm: self.algorithm,
-            public_key,
-        })
-    }
-}
-
-impl Dnskey {
-    ghost use Rattle.std.specs.Prelude.{◌≡◌, ◌≤◌, length, IfOk};
+impl<'a> Dnskey<'a> {
+    ghost use Rattle.std.specs.Prelude.{◌≡◌, ◌≤◌, length};
     ghost use Rattle.std.specs.Option.{option_map};
     ghost use Rattle.dsec_spec.specs.KeyTag.{key_tag};
     ghost use Rattle.dsec_spec.specs.Records.{key_of};
     ghost use Rattle.dsec_wire.specs.Views.{key_view};
 
     /// What a DNSKEY record's data say, where they are readable.
-    pub(crate) fn read(alloc: Global, octets: &[u8]) -> Result<Option<Self>, NoMemory>
+    pub(crate) fn read(octets: &'a [u8]) -> Option<Dnskey<'a>>
         requires { length octets.now ≤ 65535 }
-        ensures { IfOk result (λ found. option_map key_view found ≡ key_of octets.now) }
+        ensures { option_map key_view result ≡ key_of octets.now }
     {
-        match *octets {
-            [high, low, protocol, algorithm, ref public_key @ ..] => {
-                let public_key = Octets::new(Vec::from_slice(alloc, public_key)?);
-                Ok(Some(Dnskey {
-                    flags: u16::from_be_bytes([high, low]),
-                    protocol,
-                    algorithm: SecurityAlgorithm::from_int(algorithm),
-                    public_key,
-                }))
-            }
-            _ => Ok(None),
+        match octets {
+            [high, low, protocol, algorithm, public_key @ ..] => Some(Dnskey {
+                flags: u16::from_be_bytes([*high, *low]),
+                protocol: *protocol,
+                algorithm: SecurityAlgorithm::from_int(*algorithm),
+                public_key,
+            }),
+            _ => None,
         }
     }
 
     /// The key's tag: a checksum of the data, and for algorithm 1 two octets of the modulus (RFC 4034 B, B.1).
-    /// It takes no memory.
     pub fn key_tag(&self) -> u16
         ensures { result ≡ key_tag (key_view self.now) }
     {
-        let public_key = self.public_key.as_slice();
+        let public_key = self.public_key;
         if self.algorithm == SecurityAlgorithm::RSAMD5 {
             return modulus_tag(public_key);
         }

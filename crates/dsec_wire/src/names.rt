@@ -17,8 +17,8 @@ use std::alloc::Global;
 /// The octets that a name has on the wire at most (RFC 1035 2.3.4).
 const MAX_NAME: usize = 255;
 
-/// 255 pointers, 127 labels and the root, and one more.
-const STEPS: u16 = 384;
+/// 255 pointers, 127 labels and the root.
+const STEPS: u16 = 383;
 
 /// The name at a place of octets, and the place after it. Pointers lead to smaller places, at most 255 of
 /// them; anything else at the place is refused (RFC 1035 3.1, 4.1.4). It takes time for one name, whatever

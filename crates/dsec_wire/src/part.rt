@@ -6,12 +6,7 @@ ghost use Rattle.dsec_spec.specs.RecordData.{blocks_in, parts_in};
 ghost use Rattle.dsec_wire.specs.Fields.{field_view, name_size_in, part_size_in};
 
 use crate::layout::Field;
-
-/// The octets that a name has on the wire at most (RFC 1035 2.3.4).
-const MAX_NAME: usize = 255;
-
-/// The octets that a label has at most (RFC 1035 2.3.4).
-const MAX_LABEL: usize = 63;
+use dsec_name::NameRef;
 
 /// The octets of bits that a block of a type bitmap has at most (RFC 4034 4.1.2).
 const MAX_BITS: usize = 32;
@@ -67,26 +62,12 @@ pub(crate) fn part_size(field: Field, octets: &[u8]) -> Option<usize>
 }
 
 /// How many octets the name at the front has.
-pub(crate) fn name_size(octets: &[u8]) -> Option<usize>
+fn name_size(octets: &[u8]) -> Option<usize>
     ensures exact { result ≡ name_size_in octets.now }
     ensures within { IfSome result (λ size. size ≤ length octets.now) }
 {
-    let mut rest = octets;
-    while let Some((&size, after)) = rest.split_first() {
-        let size = usize::from(size);
-        if size == 0 {
-            return Some(octets.len() - after.len());
-        }
-        if size > MAX_LABEL {
-            return None;
-        }
-        let (_, next) = after.split_at_checked(size)?;
-        if octets.len() - next.len() >= MAX_NAME {
-            return None;
-        }
-        rest = next;
-    }
-    None
+    let (_, rest) = NameRef::from_prefix(octets)?;
+    Some(octets.len() - rest.len())
 }
 
 /// Whether the octets are the blocks of a type bitmap.

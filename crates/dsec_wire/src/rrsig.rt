@@ -1,23 +1,21 @@
 //! The signatures that RRSIG records say (RFC 4034 3.1).
 
-ghost use Rattle.std.specs.Prelude.{◌≡◌, ◌≤◌, length, IfOk, IfSome};
+ghost use Rattle.std.specs.Prelude.{◌≡◌, ◌≤◌, length, IfSome};
 ghost use Rattle.std.specs.Option.{option_map};
 ghost use Rattle.dsec_spec.specs.Records.{rrsig_of};
 ghost use Rattle.dsec_wire.specs.Views.{rrsig_view};
 ghost use Rattle.dsec_wire.specs.RrsigHeads.{rrsig_head};
 
 use crate::numbers::{u16_at, u32_at};
-use crate::part::name_size;
-use dsec_name::{Name, NoMemory, Octets};
+use dsec_name::NameRef;
 use dsec_number::{Rtype, SecurityAlgorithm, Timestamp, Ttl};
-use std::alloc::Global;
 
 /// The octets before the signer's name (RFC 4034 3.1).
 const FIXED: usize = 18;
 
-/// The data of an RRSIG record, field by field.
-#[derive(Clone, Drop)]
-pub struct Rrsig {
+/// The data of an RRSIG record, field by field. The octets of the name and of the signature are the record's.
+#[derive(Clone, Copy)]
+pub struct Rrsig<'a> {
     /// The type of the records that are signed.
     pub type_covered: Rtype,
     /// The algorithm of the signature (RFC 4034 3.1.2).
@@ -33,9 +31,9 @@ pub struct Rrsig {
     /// The tag of the key that signed (RFC 4034 B).
     pub key_tag: u16,
     /// The zone whose key signed.
-    pub signer_name: Name,
+    pub signer_name: NameRef<'a>,
     /// The signature as its algorithm writes it (RFC 4034 3.1.8).
-    pub signature: Octets,
+    pub signature: &'a [u8],
 }
 
 /// The octets of an RRSIG record before the signer's name.
@@ -51,33 +49,23 @@ pub(crate) struct RrsigHead {
 }
 
 /// What an RRSIG record's data say, where they are readable.
-pub(crate) fn read_rrsig(alloc: Global, octets: &[u8]) -> Result<Option<Rrsig>, NoMemory>
-    ensures { IfOk result (λ found. option_map rrsig_view found ≡ rrsig_of octets.now) }
+pub(crate) fn read_rrsig(octets: &[u8]) -> Option<Rrsig<'_>>
+    ensures { option_map rrsig_view result ≡ rrsig_of octets.now }
 {
-    let Some(head) = rrsig_head_of(octets) else {
-        return Ok(None);
-    };
+    let head = rrsig_head_of(octets)?;
     let (_, rest) = octets.split_at(FIXED);
-    let Some(size) = name_size(rest) else {
-        return Ok(None);
-    };
-    let (name, signature) = rest.split_at(size);
-    let signature = Octets::new(Vec::from_slice(alloc, signature)?);
-    match Name::from_wire(alloc, name) {
-        Ok(signer_name) => Ok(Some(Rrsig {
-            type_covered: head.type_covered,
-            algorithm: head.algorithm,
-            labels: head.labels,
-            original_ttl: head.original_ttl,
-            expiration: head.expiration,
-            inception: head.inception,
-            key_tag: head.key_tag,
-            signer_name,
-            signature,
-        })),
-        // The octets are a name's, so only memory was wanting.
-        Err(_) => Err(NoMemory),
-    }
+    let (signer_name, signature) = NameRef::from_prefix(rest)?;
+    Some(Rrsig {
+        type_covered: head.type_covered,
+        algorithm: head.algorithm,
+        labels: head.labels,
+        original_ttl: head.original_ttl,
+        expiration: head.expiration,
+        inception: head.inception,
+        key_tag: head.key_tag,
+        signer_name,
+        signature,
+    })
 }
 
 /// The 18 octets before the signer's name.

@@ -46,8 +46,8 @@ fn show_record(
 }
 
 fn show_key(alloc: Global, out: &mut String, rdata: &Data) -> Result<(), Fail> {
-    if let Some(key) = rdata.dnskey(alloc)? {
-        let public_key = hexed(alloc, key.public_key.as_slice())?;
+    if let Some(key) = rdata.dnskey() {
+        let public_key = hexed(alloc, key.public_key)?;
         let (flags, protocol, algorithm) = (key.flags, key.protocol, key.algorithm.to_int());
         let tag = key.key_tag();
         writeln!(out, "key {flags} {protocol} {algorithm} {public_key} {tag}")?;
@@ -56,12 +56,12 @@ fn show_key(alloc: Global, out: &mut String, rdata: &Data) -> Result<(), Fail> {
 }
 
 fn show_signature(alloc: Global, out: &mut String, rdata: &Data) -> Result<(), Fail> {
-    if let Some(rrsig) = rdata.rrsig(alloc)? {
+    if let Some(rrsig) = rdata.rrsig() {
         let (covered, algorithm) = (rrsig.type_covered.to_int(), rrsig.algorithm.to_int());
         let (labels, ttl, tag) = (rrsig.labels, rrsig.original_ttl.as_secs(), rrsig.key_tag);
         let (expiration, inception) = (rrsig.expiration.to_int(), rrsig.inception.to_int());
-        let signer = name_hexed(alloc, &rrsig.signer_name)?;
-        let signature = hexed(alloc, rrsig.signature.as_slice())?;
+        let signer = name_hexed(alloc, &rrsig.signer_name.to_name(alloc)?)?;
+        let signature = hexed(alloc, rrsig.signature)?;
         write!(
             out,
             "signature {covered} {algorithm} {labels} {ttl} {expiration} {inception}"
@@ -214,14 +214,13 @@ fn names_and_pointers(rt: HostRuntime) -> Result<(), Fail> {
     Ok(())
 }
 
-/// Pointers, each to the one before, and the first to the root.
-fn chain(alloc: Global, pointers: u16) -> Result<Vec<u8>, Fail> {
-    let mut octets = Vec::new(alloc);
-    octets.push(0)?;
+/// Octets and pointers after them, each to the one before, and the first to the front.
+fn chain(mut octets: Vec<u8>, pointers: u16) -> Result<Vec<u8>, Fail> {
     let mut target = 0u16;
-    for pointer in 0..pointers {
+    for _ in 0..pointers {
+        let at = (octets.len() % 0x4000) as u16;
         octets.extend_from_slice(&(0xc000 | target).to_be_bytes())?;
-        target = pointer.saturating_mul(2).saturating_add(1);
+        target = at;
     }
     Ok(octets)
 }
@@ -243,13 +242,15 @@ fn name_of(alloc: Global, sizes: &[u8]) -> Result<Vec<u8>, Fail> {
 fn names_at_their_limits(rt: HostRuntime) -> Result<(), Fail> {
     let alloc = rt.alloc();
     for (pointers, readable) in [(1, true), (255, true), (256, false), (257, false)] {
-        let octets = chain(alloc, pointers)?;
-        let at = octets.len().saturating_sub(2);
-        assert_eq!(rt;
-            read_name(alloc, &octets, at).is_ok(),
-            readable,
-            "{pointers}"
-        );
+        for labels in [0, 127] {
+            let octets = chain(name_of(alloc, &[1; 127][..labels])?, pointers)?;
+            let at = octets.len().saturating_sub(2);
+            assert_eq!(rt;
+                read_name(alloc, &octets, at).is_ok(),
+                readable,
+                "{pointers} {labels}"
+            );
+        }
     }
     for (sizes, readable) in [
         ([63, 63, 63, 61], true),
@@ -288,9 +289,9 @@ fn tags(rt: HostRuntime) -> Result<(), Fail> {
         let whole = octets(alloc, text)?;
         assert!(rt; Data::is_readable(Rtype::DNSKEY, &whole), "{text}");
         let rdata = Data::new(Rtype::DNSKEY, Octets::new(whole));
-        let key = rdata.dnskey(alloc)?;
+        let key = rdata.dnskey();
         assert_eq!(rt; key.map(|key| key.key_tag()), Some(tag), "{text}");
-        assert!(rt; rdata.rrsig(alloc)?.is_none());
+        assert!(rt; rdata.rrsig().is_none());
     }
     Ok(())
 }

@@ -1,22 +1,21 @@
-use Rattle.std.proofs.Common.{◌≡◌, ◌∙◌, sym, ap, subst, List, ℕ, take, drop, Some}
-use Rattle.dsec_name.specs.Wire.{IsOnWire}
-use Rattle.dsec_wire.specs.Fields.{name_size_in}
+use Rattle.std.proofs.Common.{◌≡◌, ◌∙◌, sym, ap, drop, Some, None}
+use Rattle.std.specs.Option.{option_map}
+use Rattle.dsec_spec.specs.RecordData.{name_in}
+use Rattle.dsec_name.specs.NameRefs.{name_view, prefix_view}
 use Rattle.dsec_wire.proofs.RrsigReading.{rrsig_no_head, rrsig_no_signer, rrsig_whole}
 use Rattle.dsec_wire.proofs.rrsig.read_rrsig.Goals as goal
 
-pub returns-in_default : goal.returns-in_default
-returns-in_default c = sym (rrsig_no_head c.args.octets.now (sym c.rrsig_head_of.ensures.head ∙ c.in_default.is))
+pub returns-in_err-head : goal.returns-in_err-head
+returns-in_err-head c =
+    rw c.from_residual.ensures (sym (rrsig_no_head c.args.octets.now (sym c.rrsig_head_of.ensures.head ∙ c.in_err-head.was)))
 
-pub returns-in_default-name_size : goal.returns-in_default-name_size
-returns-in_default-name_size c =
-    sym (rrsig_no_signer c.args.octets.now c.in-Some.head (sym c.rrsig_head_of.ensures.head ∙ c.in-Some.is) (ap name_size_in (sym c.split_at.ensures.back) ∙ (sym c.name_size.ensures.exact ∙ c.in_default-name_size.is)))
+pub returns-in_err-signer_name : goal.returns-in_err-signer_name
+returns-in_err-signer_name c =
+    let none : name_in (drop 18 c.args.octets.now) ≡ None = ap name_in (sym c.split_at.ensures.back) ∙ (sym c.from_prefix.ensures ∙ ap (option_map prefix_view) c.in_err-signer_name.was) in
+    rw c.from_residual-in_err-signer_name.ensures (sym (rrsig_no_signer c.args.octets.now c.in_ok-head.head (sym c.rrsig_head_of.ensures.head ∙ c.in_ok-head.was) none))
 
-pub returns-in-Ok : goal.returns-in-Ok
-returns-in-Ok c =
-    let size : name_size_in (drop 18 c.args.octets.now) ≡ Some c.in-Some-name_size.size = ap name_size_in (sym c.split_at.ensures.back) ∙ (sym c.name_size.ensures.exact ∙ c.in-Some-name_size.is) in
-    let meant = c.in-Ok.ensures.meaning in
-    let name : c.split_at-2.result.0.now ≡ take c.in-Some-name_size.size (drop 18 c.args.octets.now) = c.split_at-2.ensures.front ∙ ap (take c.in-Some-name_size.size) c.split_at.ensures.back in
-    let signature : c.new-signature.result ≡ drop c.in-Some-name_size.size (drop 18 c.args.octets.now) =
-    c.new-signature.ensures ∙ (c.in_ok-from_slice.ensures.items ∙ (c.split_at-2.ensures.back ∙ ap (drop c.in-Some-name_size.size) c.split_at.ensures.back)) in
-    rw signature (sym (rrsig_whole c.args.octets.now c.in-Some.head c.in-Some-name_size.size c.in-Ok.signer_name (sym c.rrsig_head_of.ensures.head ∙ c.in-Some.is) size
-    (subst (λ (x : List ℕ). IsOnWire c.in-Ok.signer_name x) name meant.0) meant.1))
+pub returns : goal.returns
+returns c =
+    let signer : name_in (drop 18 c.args.octets.now) ≡ Some (name_view c.in_ok-signer_name.signer_name, c.in_ok-signer_name.signature.now) =
+    ap name_in (sym c.split_at.ensures.back) ∙ (sym c.from_prefix.ensures ∙ ap (option_map prefix_view) c.in_ok-signer_name.was) in
+    sym (rrsig_whole c.args.octets.now c.in_ok-head.head _ (sym c.rrsig_head_of.ensures.head ∙ c.in_ok-head.was) signer)
