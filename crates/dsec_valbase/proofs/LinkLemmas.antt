@@ -7,7 +7,7 @@ use Rattle.std.proofs.lemmas.Bool.Decides.{nat_tests}
 use Rattle.std.proofs.lemmas.List.{length-map, length-reverse}
 use Rattle.dsec_spec.specs.Names.{Labels, Place, place, lower, IsAtOrBelow, IsStrictlyBelow}
 use Rattle.dsec_spec.specs.Numbers.{DS}
-use Rattle.dsec_spec.specs.Records.{Record, RecordSet, Rrsig}
+use Rattle.dsec_spec.specs.Records.{Record, RecordSet}
 use Rattle.dsec_spec.specs.Accepts.{Accepts}
 use Rattle.dsec_spec.specs.Chain.{IsSigned, IsAnchorKeyLink, IsSetLink}
 use Rattle.dsec_spec.proofs.NamesBelow.{at_or_below, same_or_below}
@@ -22,7 +22,7 @@ pub itself : {A : Type 0} (a : A) → Contains (a ∷ []) a
 itself a = (0, omega arith, refl)
 
 -- an anchor that has signed its set gives the set's link, among any anchors that it is one of
-pub anchors_link : (accepts : Accepts) (a : Record) (s : RecordSet) (sig : Rrsig) (t : ℕ) → Anchors a s → IsSigned accepts (set_link s sig a.rdata) (place s.owner) t
+pub anchors_link : (accepts : Accepts) (a : Record) (s : RecordSet) (sig : List ℕ) (t : ℕ) → Anchors a s → IsSigned accepts (set_link s sig a.rdata) (place s.owner) t
     → (anchors : List Record) → Contains anchors a → IsAnchorKeyLink accepts anchors (anchor_key_link s sig a.rdata) t
 anchors_link accepts a s sig t is signed anchors there = record {
   of_kind = refl;
@@ -30,14 +30,14 @@ anchors_link accepts a s sig t is signed anchors there = record {
     of_class = is.of_class;
     of_type = is.of_type;
     its_own = is.its_own;
-    signed = record { public_key = signed.public_key; reads = signed.reads; signed = signed.signed };
+    signed = record { public_key = signed.public_key; reads = signed.reads; signature = signed.signature; reads_signature = signed.reads_signature; signed = signed.signed };
   };
   by_way_of = refl;
   anchored = record { anchor = a; listed = there; of_class = is.anchor_class; of_type = is.anchor_type; stands_at = is.same_owner; says = refl };
 }
 
 -- and a link by the one anchor comes of it
-pub anchor_of_link : (accepts : Accepts) (a : Record) (s : RecordSet) (sig : Rrsig) (t : ℕ) → IsAnchorKeyLink accepts (a ∷ []) (anchor_key_link s sig a.rdata) t → Anchors a s
+pub anchor_of_link : (accepts : Accepts) (a : Record) (s : RecordSet) (sig : List ℕ) (t : ℕ) → IsAnchorKeyLink accepts (a ∷ []) (anchor_key_link s sig a.rdata) t → Anchors a s
 anchor_of_link accepts a s sig t link =
     let one : a ≡ link.anchored.anchor = the_one a link.anchored.anchor link.anchored.listed in record {
       anchor_class = ap (λ (r : Record). r.class) one ∙ link.anchored.of_class;
@@ -48,19 +48,19 @@ anchor_of_link accepts a s sig t link =
       its_own = link.key_set.its_own;
     }
 
-pub signed_of_link : (accepts : Accepts) (a : Record) (s : RecordSet) (sig : Rrsig) (t : ℕ) → IsAnchorKeyLink accepts (a ∷ []) (anchor_key_link s sig a.rdata) t → IsSigned accepts (set_link s sig a.rdata) (place s.owner) t
+pub signed_of_link : (accepts : Accepts) (a : Record) (s : RecordSet) (sig : List ℕ) (t : ℕ) → IsAnchorKeyLink accepts (a ∷ []) (anchor_key_link s sig a.rdata) t → IsSigned accepts (set_link s sig a.rdata) (place s.owner) t
 signed_of_link accepts a s sig t link =
     let signed = link.key_set.signed in
-    record { public_key = signed.public_key; reads = signed.reads; signed = signed.signed }
+    record { public_key = signed.public_key; reads = signed.reads; signature = signed.signature; reads_signature = signed.reads_signature; signed = signed.signed }
 
 -- a key that has signed a set that fits its zone gives the set's link, among any keys that it is one of
-pub sets_link : (accepts : Accepts) (zone : Place) (s : RecordSet) (sig : Rrsig) (rdata : List ℕ) (t : ℕ) → FitsZone s zone → IsSigned accepts (set_link s sig rdata) zone t
+pub sets_link : (accepts : Accepts) (zone : Place) (s : RecordSet) (sig : List ℕ) (rdata : List ℕ) (t : ℕ) → FitsZone s zone → IsSigned accepts (set_link s sig rdata) zone t
     → (keys : List (List ℕ)) → Contains keys rdata → IsSetLink accepts zone keys (set_link s sig rdata) t
 sets_link accepts zone s sig rdata t fits signed keys there =
     record { of_kind = refl; within = fits.within; ds_above = fits.ds_above; by_held = there; signed = signed }
 
 -- and a link by the key comes of it
-pub fits_of_link : (accepts : Accepts) (zone : Place) (keys : List (List ℕ)) (s : RecordSet) (sig : Rrsig) (rdata : List ℕ) (t : ℕ) → IsSetLink accepts zone keys (set_link s sig rdata) t → FitsZone s zone
+pub fits_of_link : (accepts : Accepts) (zone : Place) (keys : List (List ℕ)) (s : RecordSet) (sig : List ℕ) (rdata : List ℕ) (t : ℕ) → IsSetLink accepts zone keys (set_link s sig rdata) t → FitsZone s zone
 fits_of_link accepts zone keys s sig rdata t link = record { within = link.within; ds_above = link.ds_above }
 
 -- another name at or below a zone is strictly below it

@@ -3,3 +3,4 @@ pub mod Signing
 pub mod Keyed
 pub mod Tests
 pub mod Links
+pub mod Shown

@@ -2,7 +2,7 @@
 use Rattle.std.specs.Prelude.{◌≡◌, ◌≢◌, ℕ, List, [], Contains, Some, None}
 use Rattle.dsec_spec.specs.Names.{Place, place, IsAtOrBelow, IsStrictlyBelow}
 use Rattle.dsec_spec.specs.Numbers.{IN, DS, DNSKEY}
-use Rattle.dsec_spec.specs.Records.{Record, RecordSet, Rrsig}
+use Rattle.dsec_spec.specs.Records.{Record, RecordSet}
 use Rattle.dsec_spec.specs.Chain as chain
 use Rattle.dsec_valbase.specs.declared.link.LinkKind.{LinkKind}
 use Rattle.dsec_valbase.specs.declared.link.LinkKind.TheVariants.{AnchorKey, AnchorDs, Ds, Key, Set}
@@ -15,15 +15,15 @@ kind_view Ds = chain.ds
 kind_view Key = chain.key
 kind_view Set = chain.set
 
--- the link of a key set that the anchor with these data has signed
-abbrev pub anchor_key_link : RecordSet → Rrsig → List ℕ → chain.Link
-anchor_key_link records sig rdata =
-    record { kind = chain.anchor_key; records = records; via = Some rdata; signing_key = rdata; rrsig = sig }
+-- the link of a key set that the anchor with these data has signed, by the RRSIG with these
+abbrev pub anchor_key_link : RecordSet → List ℕ → List ℕ → chain.Link
+anchor_key_link records rrsig rdata =
+    record { kind = chain.anchor_key; records = records; via = Some rdata; signing_key = rdata; rrsig = rrsig }
 
--- the link of a set that the key with these data has signed
-abbrev pub set_link : RecordSet → Rrsig → List ℕ → chain.Link
-set_link records sig rdata =
-    record { kind = chain.set; records = records; via = None; signing_key = rdata; rrsig = sig }
+-- the link of a set that the key with these data has signed, by the RRSIG with these
+abbrev pub set_link : RecordSet → List ℕ → List ℕ → chain.Link
+set_link records rrsig rdata =
+    record { kind = chain.set; records = records; via = None; signing_key = rdata; rrsig = rrsig }
 
 -- the record is a DNSKEY record of class IN that is in the key set at its owner (RFC 4035 5)
 pub record Anchors (anchor : Record) (records : RecordSet) : Type 0 where

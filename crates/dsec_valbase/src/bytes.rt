@@ -23,7 +23,7 @@ pub(crate) const USUAL_BYTES: usize = 512;
 
 /// The octets that a signature over the set is over (RFC 4034 3.1.8.1): the RRSIG's data up to the signature,
 /// and each record with the original TTL, in the order of their canonical data.
-pub fn signed_bytes(alloc: Global, rrsig: &Rrsig, set: &RecordSet) -> Result<Vec<u8>, NoMemory>
+pub fn signed_bytes(alloc: Global, rrsig: &Rrsig<'_>, set: &RecordSet) -> Result<Vec<u8>, NoMemory>
     ensures { IfOk result (λ out. out.items ≡ signed_bytes_of (rrsig_view rrsig.now) set.now) }
 {
     let canonical = canonical_datas(alloc, set.datas())?;
@@ -64,7 +64,7 @@ fn without_first(name: &Name) -> Result<Name, NoMemory>
 /// What stands before the length of each record's data, as it is signed.
 pub(crate) fn front_of(
     alloc: Global,
-    rrsig: &Rrsig,
+    rrsig: &Rrsig<'_>,
     owner: &Name,
     class: Class,
     rtype: Rtype,
@@ -80,7 +80,7 @@ pub(crate) fn front_of(
 }
 
 /// Adds the RRSIG's data up to the signature.
-pub(crate) fn push_head(out: &mut Vec<u8>, rrsig: &Rrsig) -> Result<(), NoMemory>
+pub(crate) fn push_head(out: &mut Vec<u8>, rrsig: &Rrsig<'_>) -> Result<(), NoMemory>
     ensures { OnOk result (out.new.items ≡ out.old.items ++ head_octets (rrsig_view rrsig.now)) }
 {
     push_fixed(out, rrsig)?;
@@ -98,7 +98,7 @@ fn push_all(out: &mut Vec<u8>, front: &[u8], canonical: &[Octets]) -> Result<(),
 }
 
 /// Adds the 18 octets before the signer's name (RFC 4034 3.1).
-fn push_fixed(out: &mut Vec<u8>, rrsig: &Rrsig) -> Result<(), NoMemory>
+fn push_fixed(out: &mut Vec<u8>, rrsig: &Rrsig<'_>) -> Result<(), NoMemory>
     ensures { OnOk result (out.new.items ≡ out.old.items ++ fixed_octets (rrsig_view rrsig.now)) }
 {
     out.extend_from_slice(&rrsig.type_covered.to_int().to_be_bytes())?;

@@ -22,8 +22,8 @@ use std::alloc::Global;
 pub fn is_signed<V: Verifier>(
     alloc: Global,
     set: &RecordSet,
-    rrsig: &Rrsig,
-    key: &Dnskey,
+    rrsig: &Rrsig<'_>,
+    key: &Dnskey<'_>,
     zone: &Name,
     t: Timestamp,
 ) -> Result<bool, NoMemory>
@@ -38,17 +38,22 @@ pub fn is_signed<V: Verifier>(
 }
 
 /// Whether the signature names the key and the zone: by the signer's name, the algorithm and the key's tag
-/// (RFC 4035 5.3.1). It takes no memory.
-pub fn matches(rrsig: &Rrsig, key: &Dnskey, zone: &Name) -> bool
+/// (RFC 4035 5.3.1).
+pub fn matches(rrsig: &Rrsig<'_>, key: &Dnskey<'_>, zone: &Name) -> bool
     ensures { IsTrue result ↔ Names (rrsig_view rrsig.now) (key_view key.now) (place zone.now) }
 {
-    rrsig.algorithm == key.algorithm
-        && same_name(&rrsig.signer_name, zone)
-        && rrsig.key_tag == key.key_tag()
+    rrsig.algorithm == key.algorithm && rrsig.signer_name.is(zone) && rrsig.key_tag == key.key_tag()
 }
 
-/// Whether the tests pass that need neither the signer's name nor the verifier.
-fn may_sign(set: &RecordSet, rrsig: &Rrsig, key: &Dnskey, zone: &Name, t: Timestamp) -> bool
+/// Whether the tests of `is_signed` pass that are neither the verifier's nor those of `matches` (RFC 4034 2.1,
+/// RFC 4035 5.3.1). Where these two and the verifier say yes, the signature counts.
+pub fn may_sign(
+    set: &RecordSet,
+    rrsig: &Rrsig<'_>,
+    key: &Dnskey<'_>,
+    zone: &Name,
+    t: Timestamp,
+) -> bool
     ensures { IsTrue result ↔ MaySign set.now (rrsig_view rrsig.now) (key_view key.now) (place zone.now) t }
 {
     rrsig.type_covered == set.rtype()
@@ -59,7 +64,7 @@ fn may_sign(set: &RecordSet, rrsig: &Rrsig, key: &Dnskey, zone: &Name, t: Timest
 }
 
 /// Whether the key has the zone flag and the protocol 3 (RFC 4034 2.1.1, 2.1.2).
-fn is_zone_key(key: &Dnskey) -> bool
+fn is_zone_key(key: &Dnskey<'_>) -> bool
     ensures { IsTrue result ↔ IsZoneKey (key_view key.now) }
 {
     key.flags / 256 % 2 == 1 && key.protocol == 3

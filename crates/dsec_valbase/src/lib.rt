@@ -2,22 +2,26 @@
 #![tactic(auto)]
 
 mod admit;
+mod anchors;
 mod bytes;
 mod canonical;
 mod check;
 mod link;
 mod record_set;
 mod rrsig_ext;
+mod shown;
 mod signing;
 mod supported;
 mod verified;
 
 pub use admit::{admit_anchor_key, admit_set};
+pub use anchors::TrustAnchors;
 pub use bytes::signed_bytes;
-pub use check::{is_signed, matches};
+pub use check::{is_signed, matches, may_sign};
 pub use link::{Link, LinkKind, Links};
 pub use record_set::RecordSet;
 pub use rrsig_ext::RrsigExt;
+pub use shown::Shown;
 pub use supported::{supported_algorithm, supported_digest};
 
 #[cfg(test)]

@@ -1,13 +1,15 @@
 //! Links of chains of trust (RFC 4033 3.1, RFC 4035 5).
 
-ghost use Rattle.std.specs.Prelude.{◌≡◌, ◌↔◌, [], IsTrue, length};
+ghost use Rattle.std.specs.Prelude.{◌≡◌, ◌↔◌, [], Some, IsTrue, length};
 ghost use Rattle.std.specs.Option.{option_map};
+ghost use Rattle.dsec_spec.specs.Numbers.{RRSIG};
+ghost use Rattle.dsec_spec.specs.Records.{rrsig_of};
 ghost use Rattle.dsec_wire.specs.Views.{rrsig_view};
 ghost use Rattle.dsec_valbase.specs.Links.{kind_view};
 
 use crate::record_set::RecordSet;
 use dsec_name::Octets;
-use dsec_wire::Rrsig;
+use dsec_wire::{Data, Rrsig};
 use std::alloc::AllocError;
 use std::marker::Model;
 
@@ -27,15 +29,15 @@ pub enum LinkKind {
 }
 
 /// A signed set and how it was reached. `via` is the data of the anchor or of the DS record that speaks of the
-/// key, `signing_key` the data of the DNSKEY record whose key signed the set by the RRSIG. A link by itself
-/// proves nothing; the functions that admit links do.
+/// key, `signing_key` the data of the DNSKEY record whose key signed the set, `rrsig` those of the RRSIG record by
+/// which it did. A link by itself proves nothing; the functions that admit links do.
 #[derive(Drop)]
 pub struct Link {
     kind: LinkKind,
     records: RecordSet,
     via: Option<Octets>,
     signing_key: Octets,
-    rrsig: Rrsig,
+    rrsig: Data,
 }
 
 impl Model for Link {
@@ -43,10 +45,13 @@ impl Model for Link {
 
     ghost Value = { chain.Link };
 
-    ghost use Rattle.dsec_wire.specs.Views.{rrsig_view};
+    ghost use Rattle.std.specs.Prelude.{◌≡◌};
+    ghost use Rattle.dsec_spec.specs.Numbers.{RRSIG};
     ghost use Rattle.dsec_valbase.specs.Links.{kind_view};
 
-    ghost view = { λ it. record { kind = kind_view it.kind; records = it.records; via = it.via; signing_key = it.signing_key; rrsig = rrsig_view it.rrsig } };
+    ghost view = { λ it. record { kind = kind_view it.kind; records = it.records; via = it.via; signing_key = it.signing_key; rrsig = it.rrsig.octets } };
+
+    ghost invariant = { λ it. it.rrsig.rtype ≡ RRSIG };
 }
 
 impl Clone for Link {
@@ -76,9 +81,10 @@ impl Link {
         records: RecordSet,
         via: Option<Octets>,
         signing_key: Octets,
-        rrsig: Rrsig,
+        rrsig: Data,
     ) -> Self
-        ensures { result ≡ record { kind = kind_view kind; records = records; via = via; signing_key = signing_key; rrsig = rrsig_view rrsig } }
+        requires { rrsig.rtype ≡ RRSIG }
+        ensures { result ≡ record { kind = kind_view kind; records = records; via = via; signing_key = signing_key; rrsig = rrsig.octets } }
     {
         Link {
             kind,
@@ -117,11 +123,21 @@ impl Link {
         &self.signing_key
     }
 
-    /// The signature.
-    pub fn rrsig(&self) -> &Rrsig
-        ensures { rrsig_view result.now ≡ self.now.rrsig }
+    /// The data of the RRSIG record by which the key signed the set.
+    pub fn rrsig_data(&self) -> &Data
+        ensures { result.now ≡ record { rtype = RRSIG; octets = self.now.rrsig } }
     {
         &self.rrsig
+    }
+
+    /// The signature by which the key signed the set.
+    pub fn rrsig(&self) -> Rrsig<'_>
+        ensures { rrsig_of self.now.rrsig ≡ Some (rrsig_view result) }
+    {
+        match self.rrsig.rrsig() {
+            Some(rrsig) => rrsig,
+            None => unreachable!(),
+        }
     }
 }
 

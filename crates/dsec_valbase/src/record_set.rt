@@ -67,6 +67,19 @@ impl RecordSet {
         })
     }
 
+    /// The set of this owner, class and type, by the data of its records, if any.
+    pub fn new(owner: Name, class: Class, rtype: Rtype, datas: Vec<Data>) -> Self
+        requires { AreOf rtype datas.items }
+        ensures { result ≡ record { owner = owner; class = class; rtype = rtype; datas = octets_of datas.items } }
+    {
+        RecordSet {
+            owner,
+            class,
+            rtype,
+            datas,
+        }
+    }
+
     /// The owner, as the first record has it.
     pub fn owner(&self) -> &Name
         ensures { result.now ≡ self.now.owner }

@@ -47,18 +47,18 @@ pub trait RrsigExt {
         ensures { IfOk result (λ found. found ≡ encloser_of (says self.now).labels rr.now.owner) };
 
     /// Whether the verifier accepts the signature as the key's over the octets; `InvalidData` where their algorithms
-    /// differ. It takes no memory.
+    /// differ.
     fn verify_signed_data<V: Verifier>(
         &self,
-        dnskey: &Dnskey,
+        dnskey: &Dnskey<'_>,
         octets: &[u8],
     ) -> Result<(), AlgorithmError>
         ensures same { (says self.now).algorithm ≡ dnskey.now.algorithm → (IsOk result
-            ↔ IsTrue (V.accepts dnskey.now.flags dnskey.now.protocol dnskey.now.algorithm dnskey.now.public_key octets.now (says self.now).signature)) }
+            ↔ IsTrue (V.accepts dnskey.now.flags dnskey.now.protocol dnskey.now.algorithm dnskey.now.public_key.now octets.now (says self.now).signature)) }
         ensures other { (says self.now).algorithm ≢ dnskey.now.algorithm → result ≡ Err InvalidData };
 }
 
-impl RrsigExt for Rrsig {
+impl<'a> RrsigExt for Rrsig<'a> {
     ghost says = { rrsig_view };
 
     fn signed_data(
@@ -80,7 +80,7 @@ impl RrsigExt for Rrsig {
 
     fn verify_signed_data<V: Verifier>(
         &self,
-        dnskey: &Dnskey,
+        dnskey: &Dnskey<'_>,
         octets: &[u8],
     ) -> Result<(), AlgorithmError> {
         verify::<V>(self, dnskey, octets)

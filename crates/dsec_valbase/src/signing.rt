@@ -24,7 +24,7 @@ struct Keyed {
 /// Adds the octets that the signature over the records is over, and brings the records into order.
 pub(crate) fn push_signed(
     alloc: Global,
-    rrsig: &Rrsig,
+    rrsig: &Rrsig<'_>,
     buf: &mut Vec<u8>,
     records: &mut [Record],
 ) -> Result<(), NoMemory>
@@ -74,7 +74,7 @@ fn keyed_one(alloc: Global, one: &Record) -> Result<Keyed, NoMemory>
 /// The signed octets of records, by their canonical data in order.
 fn bytes_of(
     alloc: Global,
-    rrsig: &Rrsig,
+    rrsig: &Rrsig<'_>,
     records: &[Record],
     all: &[Keyed],
 ) -> Result<Vec<u8>, NoMemory>

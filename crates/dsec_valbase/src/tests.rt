@@ -1,10 +1,11 @@
 //! Signatures that are SHA-256 sums, made with Python's hashlib, and octets that were written out by hand.
 
 ghost use Rattle.std.specs.Prelude.{◌≡◌, IfOk};
+ghost use Rattle.dsec_spec.specs.Numbers.{RRSIG};
 
 use crate::admit::{admit_anchor_key, admit_set};
 use crate::bytes::signed_bytes;
-use crate::check::{is_signed, matches};
+use crate::check::{is_signed, matches, may_sign};
 use crate::link::{Link, LinkKind, Links};
 use crate::record_set::RecordSet;
 use crate::rrsig_ext::RrsigExt;
@@ -63,24 +64,29 @@ fn record_of(alloc: Global, owner: &str, rtype: Rtype, from: &[u8]) -> Result<Re
     Ok(Record::new(owner, Class::IN, Ttl::from_secs(60), rdata))
 }
 
-fn rrsig_of(alloc: Global, rtype: Rtype, labels: u8, signature: &[u8]) -> Result<Rrsig, Fail> {
-    let signer_name = Name::parse(alloc, "example.")?;
-    let signature = octets(alloc, signature)?;
-    Ok(Rrsig {
-        type_covered: rtype,
-        algorithm: SecurityAlgorithm::ECDSAP256SHA256,
-        labels,
-        original_ttl: Ttl::from_secs(3600),
-        expiration: Timestamp::from_int(1000),
-        inception: Timestamp::from_int(0),
-        key_tag: 1296,
-        signer_name,
-        signature,
-    })
+// The data of an RRSIG record of `example.` by the key with the tag 1296, over 1000 seconds.
+fn rrsig_data(alloc: Global, covered: Rtype, labels: u8, signature: &[u8]) -> Result<Data, Fail>
+    ensures { IfOk result (λ made. made.rtype ≡ RRSIG) }
+{
+    let mut from = Vec::new(alloc);
+    from.extend_from_slice(&covered.to_int().to_be_bytes())?;
+    from.extend_from_slice(&[13, labels])?;
+    from.extend_from_slice(
+        b"\x00\x00\x0e\x10\x00\x00\x03\xe8\x00\x00\x00\x00\x05\x10\x07example\x00",
+    )?;
+    from.extend_from_slice(signature)?;
+    data_of(alloc, Rtype::RRSIG, &from)
 }
 
-fn key_of(alloc: Global, from: &[u8]) -> Result<Dnskey, Fail> {
-    match data_of(alloc, Rtype::DNSKEY, from)?.dnskey(alloc)? {
+fn rrsig_of(made: &Data) -> Result<Rrsig<'_>, Fail> {
+    match made.rrsig() {
+        Some(rrsig) => Ok(rrsig),
+        None => Err(Fail::new("no signature")),
+    }
+}
+
+fn key_of(made: &Data) -> Result<Dnskey<'_>, Fail> {
+    match made.dnskey() {
         Some(key) => Ok(key),
         None => Err(Fail::new("no key")),
     }
@@ -99,7 +105,8 @@ struct Both {
 }
 
 fn twice(alloc: Global, owner: &str, rtype: Rtype, labels: u8, from: &[u8]) -> Result<Both, Fail> {
-    let rrsig = rrsig_of(alloc, rtype, labels, b"")?;
+    let made = rrsig_data(alloc, rtype, labels, b"")?;
+    let rrsig = rrsig_of(&made)?;
     let mut records = [record_of(alloc, owner, rtype, from)?];
     let mut of_records = Vec::new(alloc);
     rrsig.signed_data(alloc, &mut of_records, &mut records)?;
@@ -121,7 +128,8 @@ fn signed_octets(rt: HostRuntime) -> Result<(), Fail> {
 #[test]
 fn records_come_into_order(rt: HostRuntime) -> Result<(), Fail> {
     let alloc = rt.alloc();
-    let rrsig = rrsig_of(alloc, Rtype::A, 2, b"")?;
+    let made = rrsig_data(alloc, Rtype::A, 2, b"")?;
+    let rrsig = rrsig_of(&made)?;
     let late = record_of(alloc, "www.example.", Rtype::A, &[192, 0, 2, 9])?;
     let mut records = [late, record_of(alloc, "www.example.", Rtype::A, ADDRESS)?];
     let mut buf = Vec::new(alloc);
@@ -141,7 +149,8 @@ fn records_come_into_order(rt: HostRuntime) -> Result<(), Fail> {
 const MX: &[u8] = b"\x00\x01\x02AI\x07Example\x00";
 
 fn encloser_of(alloc: Global, owner: &str) -> Result<Option<Name>, Fail> {
-    let rrsig = rrsig_of(alloc, Rtype::MX, 2, b"")?;
+    let made = rrsig_data(alloc, Rtype::MX, 2, b"")?;
+    let rrsig = rrsig_of(&made)?;
     let record = record_of(alloc, owner, Rtype::MX, MX)?;
     Ok(rrsig.wildcard_closest_encloser(alloc, &record)?)
 }
@@ -175,11 +184,23 @@ fn is_address_signed<V: Verifier>(
 ) -> Result<bool, Fail> {
     let zone = Name::parse(alloc, "Example.")?;
     let set = set_of(alloc, "www.example.", Rtype::A, ADDRESS)?;
-    let key = key_of(alloc, key)?;
-    let mut rrsig = rrsig_of(alloc, Rtype::A, 2, signature)?;
+    let (made, made_key) = (
+        rrsig_data(alloc, Rtype::A, 2, signature)?,
+        data_of(alloc, Rtype::DNSKEY, key)?,
+    );
+    let (mut rrsig, key) = (rrsig_of(&made)?, key_of(&made_key)?);
     rrsig.key_tag = key.key_tag();
     let t = Timestamp::from_int(seconds);
-    Ok(matches(&rrsig, &key, &zone) && is_signed::<V>(alloc, &set, &rrsig, &key, &zone, t)?)
+    let good = is_signed::<V>(alloc, &set, &rrsig, &key, &zone, t)?;
+    let octets = signed_bytes(alloc, &rrsig, &set)?;
+    // The same answer from the tests one by one.
+    let tests = may_sign(&set, &rrsig, &key, &zone, t)
+        && matches(&rrsig, &key, &zone)
+        && rrsig.verify_signed_data::<V>(&key, &octets).is_ok();
+    if good != tests {
+        return Err(Fail::new("the tests differ"));
+    }
+    Ok(good)
 }
 
 fn judges<V: Verifier>(rt: &impl Abort, alloc: Global) -> Result<(), Fail> {
@@ -205,8 +226,10 @@ fn signatures(rt: HostRuntime) -> Result<(), Fail> {
 }
 
 fn verified(alloc: Global, key: &[u8], message: &[u8]) -> Result<Result<(), AlgorithmError>, Fail> {
-    let key = key_of(alloc, key)?;
-    let rrsig = rrsig_of(alloc, Rtype::A, 2, ADDRESS_SIGNATURE)?;
+    let made_key = data_of(alloc, Rtype::DNSKEY, key)?;
+    let key = key_of(&made_key)?;
+    let made = rrsig_data(alloc, Rtype::A, 2, ADDRESS_SIGNATURE)?;
+    let rrsig = rrsig_of(&made)?;
     Ok(rrsig.verify_signed_data::<TableVerifier>(&key, message))
 }
 
@@ -226,7 +249,7 @@ fn verifying(rt: HostRuntime) -> Result<(), Fail> {
 fn first_link(alloc: Global, anchor: &[u8]) -> Result<Option<Link>, Fail> {
     let anchor = record_of(alloc, "example.", Rtype::DNSKEY, anchor)?;
     let keys = set_of(alloc, "Example.", Rtype::DNSKEY, KEY)?;
-    let rrsig = rrsig_of(alloc, Rtype::DNSKEY, 1, KEY_SIGNATURE)?;
+    let rrsig = rrsig_data(alloc, Rtype::DNSKEY, 1, KEY_SIGNATURE)?;
     let t = Timestamp::from_int(500);
     Ok(admit_anchor_key::<TableVerifier>(alloc, &anchor, &keys, &rrsig, t)?)
 }
@@ -235,7 +258,7 @@ fn last_link(alloc: Global, key: &[u8]) -> Result<Option<Link>, Fail> {
     let zone = Name::parse(alloc, "example.")?;
     let set = set_of(alloc, "www.example.", Rtype::A, ADDRESS)?;
     let key = data_of(alloc, Rtype::DNSKEY, key)?;
-    let rrsig = rrsig_of(alloc, Rtype::A, 2, ADDRESS_SIGNATURE)?;
+    let rrsig = rrsig_data(alloc, Rtype::A, 2, ADDRESS_SIGNATURE)?;
     let t = Timestamp::from_int(500);
     Ok(admit_set::<TableVerifier>(alloc, &zone, &key, &set, &rrsig, t)?)
 }
@@ -257,6 +280,14 @@ fn links(rt: HostRuntime) -> Result<(), Fail> {
         assert!(rt; link.kind() == LinkKind::AnchorKey);
         assert!(rt; link.via() == Some(link.signing_key()));
         assert!(rt; link.records().has_data(link.signing_key()));
+        assert_eq!(rt; link.rrsig().key_tag, 1296);
+        assert!(rt; link.rrsig().signature == KEY_SIGNATURE);
+        assert!(rt;
+            link.rrsig_data()
+                .octets()
+                .as_slice()
+                .ends_with(KEY_SIGNATURE)
+        );
         assert_eq!(rt; links_of(alloc, link)?.len(), 1);
         return Ok(());
     }

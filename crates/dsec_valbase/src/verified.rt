@@ -8,12 +8,12 @@ use dsec_wire::{Dnskey, Rrsig};
 
 /// Whether the verifier accepts the signature as the key's over the octets.
 pub(crate) fn verify<V: Verifier>(
-    rrsig: &Rrsig,
-    dnskey: &Dnskey,
+    rrsig: &Rrsig<'_>,
+    dnskey: &Dnskey<'_>,
     octets: &[u8],
 ) -> Result<(), AlgorithmError>
     ensures same { rrsig.now.algorithm ≡ dnskey.now.algorithm → (IsOk result
-        ↔ IsTrue (V.accepts dnskey.now.flags dnskey.now.protocol dnskey.now.algorithm dnskey.now.public_key octets.now rrsig.now.signature)) }
+        ↔ IsTrue (V.accepts dnskey.now.flags dnskey.now.protocol dnskey.now.algorithm dnskey.now.public_key.now octets.now rrsig.now.signature.now)) }
     ensures other { rrsig.now.algorithm ≢ dnskey.now.algorithm → result ≡ Err InvalidData }
 {
     if rrsig.algorithm != dnskey.algorithm {
@@ -23,8 +23,8 @@ pub(crate) fn verify<V: Verifier>(
         dnskey.flags,
         dnskey.protocol,
         dnskey.algorithm.to_int(),
-        dnskey.public_key.as_slice(),
+        dnskey.public_key,
         octets,
-        rrsig.signature.as_slice(),
+        rrsig.signature,
     )
 }
