@@ -1,80 +1,19 @@
 //! Upstreams in memory: one over a table, one that never fails, and one whose calls of given numbers fail.
 
-ghost use Rattle.std.specs.Prelude.{◌≡◌, ◌≤◌, ◌⊎◌, None, Some, Contains, IfOk, IsErrOf, find};
-ghost use Rattle.std.specs.Option.{option_map};
-ghost use Rattle.dsec_spec.specs.Outside.{HasNoReply, IsReplyOf, Rose, answers, asked_of, risen};
+ghost use Rattle.std.specs.Prelude.{◌≡◌, ◌≤◌, ◌⊎◌, None, Some, Contains, IfOk, IsErrOf};
+ghost use Rattle.dsec_spec.specs.Outside.{HasNoReply, IsReplyOf, Rose, risen};
 
+use crate::replies::Replies;
 use crate::upstream::{AskError, Upstream};
 use dsec_name::Name;
 use dsec_number::Rtype;
 use std::alloc::Global;
-use std::marker::Model;
 
-/// An answer that is kept for a question of class IN.
-#[derive(Drop)]
-pub struct TableEntry {
-    name: Name,
-    rtype: Rtype,
-    reply: Option<Vec<u8>>,
-}
-
-impl Model for TableEntry {
-    ghost use Rattle.std.specs.Option.{option_map};
-    ghost use Rattle.dsec_spec.specs.Outside.{Entry};
-
-    ghost Value = { Entry };
-
-    ghost view = { λ it. record { name = it.name; rtype = it.rtype; reply = option_map (λ reply. reply.items) it.reply } };
-}
-
-impl TableEntry {
-    /// The reply to a question; none where the question is to fail.
-    pub fn new(name: Name, rtype: Rtype, reply: Option<Vec<u8>>) -> Self
-        ensures name { result.name ≡ name }
-        ensures rtype { result.rtype ≡ rtype }
-        ensures reply { result.reply ≡ option_map (λ reply. reply.items) reply }
-    {
-        TableEntry { name, rtype, reply }
-    }
-
-    /// Whether it is kept for this question; names compare without regard to ASCII case (RFC 4343 3).
-    fn is_for(&self, name: &Name, rtype: Rtype) -> bool
-        ensures { result ≡ answers name.now rtype self.now }
-    {
-        self.name == *name && self.rtype == rtype
-    }
-
-    /// The reply, if the question isn't to fail.
-    fn reply(&self) -> Option<&[u8]>
-        ensures { option_map (λ reply. reply.now) result ≡ self.now.reply }
-    {
-        self.reply.as_deref()
-    }
-}
-
-/// The first answer that is kept for a question.
-fn first_in<'a>(entries: &'a [TableEntry], name: &Name, rtype: Rtype) -> Option<&'a TableEntry>
-    ensures { option_map (λ entry. entry.now) result ≡ find (answers name.now rtype) entries.now }
-{
-    entries.iter().find(|entry| entry.is_for(name, rtype))
-}
-
-/// The reply to a question; none where it fails.
-fn reply_in<'a>(entries: &'a [TableEntry], name: &Name, rtype: Rtype) -> Option<&'a [u8]>
-    ensures { option_map (λ reply. reply.now) result ≡ asked_of entries.now name.now rtype }
-{
-    match first_in(entries, name, rtype) {
-        Some(entry) => entry.reply(),
-        None => None,
-    }
-}
-
-/// An upstream that answers from a table: the first answer that is kept for a question counts, and a
-/// question without an answer fails.
+/// An upstream that answers from a table: a question without an answer fails.
 #[derive(Drop)]
 pub struct TableUpstream {
-    /// The answers, in order.
-    pub entries: Vec<TableEntry>,
+    /// The answers.
+    pub replies: Replies,
     /// How many questions were asked: a count that stays at 2^64 - 1.
     pub asked: u64,
     /// How many of them failed: a count that stays at 2^64 - 1.
@@ -83,13 +22,13 @@ pub struct TableUpstream {
 
 impl TableUpstream {
     /// An upstream with these answers, which nobody has asked.
-    pub fn new(entries: Vec<TableEntry>) -> Self
-        ensures entries { result.entries ≡ entries }
+    pub fn new(replies: Replies) -> Self
+        ensures replies { result.replies ≡ replies }
         ensures asked { result.asked ≡ 0 }
         ensures faultless { result.faults ≡ 0 }
     {
         TableUpstream {
-            entries,
+            replies,
             asked: 0,
             faults: 0,
         }
@@ -97,7 +36,7 @@ impl TableUpstream {
 }
 
 impl Upstream for TableUpstream {
-    ghost table = { λ upstream. Some upstream.entries.items };
+    ghost table = { λ upstream. Some upstream.replies };
 
     ghost faults = { λ upstream. upstream.faults };
 
@@ -105,7 +44,7 @@ impl Upstream for TableUpstream {
 
     fn ask(&mut self, alloc: Global, name: &Name, rtype: Rtype) -> Result<Vec<u8>, AskError> {
         self.asked = self.asked.saturating_add(1);
-        if let Some(reply) = reply_in(&self.entries, name, rtype) {
+        if let Some(reply) = self.replies.reply(name, rtype) {
             return Ok(reply.to_vec(alloc)?);
         }
         self.faults = self.faults.saturating_add(1);

@@ -4,6 +4,7 @@
 
 mod answers;
 mod memory;
+mod replies;
 mod sink;
 mod source;
 mod std_io;
@@ -12,8 +13,9 @@ mod tests;
 mod upstream;
 mod whole;
 
-pub use answers::{FailingUpstream, FixedUpstream, TableEntry, TableUpstream};
+pub use answers::{FailingUpstream, FixedUpstream, TableUpstream};
 pub use memory::{FailingSink, FailingSource, OctetsSink, OctetsSource};
+pub use replies::Replies;
 pub use sink::Sink;
 pub use source::{Failed, Source};
 pub use std_io::{Reading, Writing};

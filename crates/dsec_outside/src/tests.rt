@@ -2,7 +2,7 @@
 
 use crate::{
     AskError, Failed, FailingSink, FailingSource, FailingUpstream, FixedUpstream, OctetsSink,
-    OctetsSource, PIECE, Reading, Sink, Source, Stop, TableEntry, TableUpstream, Upstream, Writing,
+    OctetsSource, PIECE, Reading, Replies, Sink, Source, Stop, TableUpstream, Upstream, Writing,
     read_all, write_all,
 };
 use dsec_name::Name;
@@ -101,25 +101,52 @@ fn leaves_a_front_where_a_write_fails(rt: HostRuntime) {
     }
 }
 
-/// A table whose answers are for `A. A`, `a. A`, `b. A` (which fails) and `b. NS`.
+/// A table whose answers are for `A. A`, `b. A` (which fails) and `b. NS`; later ones for `a. A` and `b. A` are
+/// dropped.
 fn table(alloc: Global) -> Result<TableUpstream, Fail> {
-    let mut entries = Vec::new(alloc);
-    let a = Name::from_wire(alloc, &A)?;
-    let upper_a = Name::from_wire(alloc, &UPPER_A)?;
-    entries.push(TableEntry::new(upper_a, Rtype::A, Some(b"first".to_vec(alloc)?)))?;
-    entries.push(TableEntry::new(a, Rtype::A, Some(b"second".to_vec(alloc)?)))?;
-    entries.push(TableEntry::new(Name::from_wire(alloc, &B)?, Rtype::A, None))?;
-    entries.push(TableEntry::new(
-        Name::from_wire(alloc, &B)?,
-        Rtype::A,
-        Some(b"third".to_vec(alloc)?),
-    ))?;
-    entries.push(TableEntry::new(
-        Name::from_wire(alloc, &B)?,
-        Rtype::NS,
-        Some(b"fourth".to_vec(alloc)?),
-    ))?;
-    Ok(TableUpstream::new(entries))
+    let mut replies = Replies::new(alloc);
+    for (octets, rtype, reply) in [
+        (UPPER_A, Rtype::A, Some("first")),
+        (A, Rtype::A, Some("second")),
+        (B, Rtype::A, None),
+        (B, Rtype::A, Some("third")),
+        (B, Rtype::NS, Some("fourth")),
+    ] {
+        let reply = match reply {
+            Some(text) => Some(text.as_bytes().to_vec(alloc)?),
+            None => None,
+        };
+        replies.add(Name::from_wire(alloc, &octets)?, rtype, reply)?;
+    }
+    Ok(TableUpstream::new(replies))
+}
+
+/// The octets of a name with one label of two letters.
+fn two_letters(high: u8, low: u8) -> [u8; 4] {
+    [2, high, low, 0]
+}
+
+#[test]
+fn finds_each_of_many_replies(rt: HostRuntime) -> Result<(), Fail> {
+    let mut replies = Replies::new(rt.alloc());
+    for high in b'a'..=b'z' {
+        for low in b'a'..=b'z' {
+            let name = Name::from_wire(rt.alloc(), &two_letters(high, low))?;
+            replies.add(name, Rtype::DS, Some([high, low].to_vec(rt.alloc())?))?;
+        }
+    }
+    for high in b'a'..=b'z' {
+        for low in b'a'..=b'z' {
+            let upper = two_letters(high.to_ascii_uppercase(), low);
+            let name = Name::from_wire(rt.alloc(), &upper)?;
+            assert_eq!(rt;
+                replies.reply(&name, Rtype::DS),
+                Some([high, low].as_slice())
+            );
+            assert_eq!(rt; replies.reply(&name, Rtype::DNSKEY), None);
+        }
+    }
+    Ok(())
 }
 
 #[test]
