@@ -1,4 +1,11 @@
+pub mod DataSets
+pub mod KeyLaws
+pub mod IndexLaws
 pub mod FirstLaws
 pub mod MemberLaws
 pub mod GroupLaws
 pub mod PlacedLemmas
+pub mod TypeLaws
+pub mod TrialLaws
+pub mod CheckLaws
+pub mod CheckedLaws

@@ -1,5 +1,5 @@
 -- A record added to groups: what the groups of a section become by one more record (RFC 2181 5, RFC 4035 2.2).
-use Rattle.std.specs.Prelude.{ℕ, List, [], ◌∷◌, ◌++◌, map, Bool, false, ◌||◌, Option, Some, None, if◌then◌else◌}
+use Rattle.std.specs.Prelude.{◌≡◌, ℕ, ◌+◌, ◌<◌, length, All, List, [], ◌∷◌, ◌++◌, map, Bool, false, ◌||◌, Option, Some, None, if◌then◌else◌}
 use Rattle.std.specs.List.{list_any}
 use Rattle.std.specs.Str.{bytes_eq}
 use Rattle.dsec_spec.specs.Names.{Labels}
@@ -42,6 +42,18 @@ class_in [] [] = 0
 abbrev pub type_in : List Record → ℕ
 type_in [] = RRSIG
 type_in (r ∷ rs) = r.rtype
+
+-- records of one type, which isn't RRSIG
+abbrev pub AreAlike : List Record → Type 0
+AreAlike records = All (λ r. (r.rtype ≡ type_in records) × (is_signature r ≡ false)) records
+
+-- records that are signatures
+abbrev pub AreSignatures : List Record → Type 0
+AreSignatures records = All (λ r. r.rtype ≡ RRSIG) records
+
+-- records and signatures that may be a group's
+abbrev pub AreGrouped : List Record → List Record → Type 0
+AreGrouped records signatures = (0 < length records + length signatures) × AreAlike records × AreSignatures signatures
 
 -- the group of these records and signatures
 abbrev pub group_from : List Record → List Record → Bool → Group

@@ -1,1 +1,4 @@
 pub mod Adding
+pub mod Keys
+pub mod Trials
+pub mod Checks

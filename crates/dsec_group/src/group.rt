@@ -1,6 +1,7 @@
 //! A group: the records of one owner, class and type, and their signatures (RFC 2181 5, RFC 4035 2.2).
 
-ghost use Rattle.std.specs.Prelude.{◌≡◌, IfOk, OnOk, OnErr, Some, length};
+ghost use Rattle.std.specs.Prelude.{◌≡◌, All, IfOk, OnOk, OnErr, Some, length, true};
+ghost use Rattle.dsec_spec.specs.Numbers.{RRSIG};
 ghost use Rattle.dsec_spec.specs.Groups.{grouped_type as type_of};
 ghost use Rattle.dsec_group.specs.Adding.{belongs_to, leader_in, new_group, put_in};
 
@@ -21,16 +22,15 @@ pub struct Group {
 }
 
 impl Model for Group {
-    ghost use Rattle.std.specs.Prelude.{◌<◌, ◌+◌, length};
     ghost use Rattle.dsec_spec.specs.Groups as grouping;
 
     ghost Value = { grouping.Group };
 
-    ghost use Rattle.dsec_group.specs.Adding.{group_from};
+    ghost use Rattle.dsec_group.specs.Adding.{group_from, AreGrouped};
 
     ghost view = { λ it. group_from it.records it.signatures it.had_duplicate };
 
-    ghost invariant = { λ it. 0 < length it.records + length it.signatures };
+    ghost invariant = { λ it. AreGrouped it.records it.signatures };
 }
 
 impl Group {
@@ -42,9 +42,13 @@ impl Group {
         let mut signatures = Members::new(alloc);
         if next.rtype() == Rtype::RRSIG {
             signatures.add(next)?;
-        } else {
-            records.add(next)?;
+            return Ok(Group {
+                records,
+                signatures,
+                had_duplicate: false,
+            });
         }
+        records.add(next)?;
         Ok(Group {
             records,
             signatures,
@@ -53,7 +57,7 @@ impl Group {
     }
 
     /// The first record, or the first signature where there is no record.
-    fn leader(&self) -> &Record
+    pub(crate) fn leader(&self) -> &Record
         ensures leads { leader_in self.now.records self.now.signatures ≡ Some result.now }
         ensures owner { result.now.owner ≡ self.now.owner }
         ensures class { result.now.class ≡ self.now.class }
@@ -94,14 +98,16 @@ impl Group {
 
     /// The records that are no signatures, in order of arrival.
     pub fn rr_set(&self) -> &[Record]
-        ensures { result.now ≡ self.now.records }
+        ensures records { result.now ≡ self.now.records }
+        ensures typed { All (λ one. one.rtype ≡ self.now.rtype) result.now }
     {
         self.records.as_slice()
     }
 
     /// The signatures, which are RRSIG records, in order of arrival (RFC 4034 3).
     pub fn sig_set(&self) -> &[Record]
-        ensures { result.now ≡ self.now.signatures }
+        ensures signatures { result.now ≡ self.now.signatures }
+        ensures typed { All (λ one. one.rtype ≡ RRSIG) result.now }
     {
         self.signatures.as_slice()
     }
@@ -120,17 +126,9 @@ impl Group {
         self.had_duplicate
     }
 
-    /// Whether a record belongs to the group: it has the owner, ASCII case aside, the class, and the type or a
-    /// signature that covers the type.
-    pub(crate) fn takes(&self, next: &Record) -> bool
-        ensures { result ≡ belongs_to next.now self.now }
-    {
-        let leader = self.leader();
-        is_of_one_group(leader, next)
-    }
-
     /// Adds a record of the group, and notes and drops a duplicate.
     pub(crate) fn put(&mut self, next: Record) -> Result<(), NoMemory>
+        requires { belongs_to next self.old ≡ true }
         ensures ok { OnOk result (self.new ≡ put_in next self.old) }
         ensures err { OnErr result (self.new ≡ self.old) }
     {
@@ -145,19 +143,8 @@ impl Group {
     }
 }
 
-ghost use Rattle.dsec_spec.specs.Groups.{of_one_group};
-
-/// Whether two records are of one group.
-fn is_of_one_group(first: &Record, next: &Record) -> bool
-    ensures { result ≡ of_one_group first.now next.now }
-{
-    first.owner() == next.owner()
-        && first.class() == next.class()
-        && grouped_type(first) == grouped_type(next)
-}
-
 /// The type that a record is grouped by: of a signature the type that it covers (RFC 4034 3.1.1).
-fn grouped_type(next: &Record) -> Rtype
+pub(crate) fn grouped_type(next: &Record) -> Rtype
     ensures { result ≡ type_of next.now }
 {
     if next.rtype() != Rtype::RRSIG {

@@ -1,12 +1,31 @@
 //! The records of a section in groups by owner, class and type, each with its signatures (RFC 2181 5, RFC 4035 2.2).
 #![tactic(auto)]
 
+mod cached;
+mod check;
 mod group;
+mod key;
+mod limits;
 mod members;
+mod memo;
 mod set;
+mod state;
+mod steps;
+mod tries;
 
+pub use cached::set_of;
+pub use check::{KeyCheck, check_with_keys};
 pub use group::Group;
+pub use limits::Limits;
+pub use memo::{Memo, NoMemo};
 pub use set::{GroupSet, groups};
+pub use state::ValidationState;
+pub use steps::Steps;
+pub use tries::{Tries, try_all};
 
+#[cfg(test)]
+mod check_tests;
+#[cfg(test)]
+mod memo_tests;
 #[cfg(test)]
 mod tests;

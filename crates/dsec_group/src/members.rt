@@ -6,26 +6,30 @@ ghost use Rattle.dsec_group.specs.Adding.{canonical_of, has_data, with_record};
 use dsec_name::{NoMemory, Octets};
 use dsec_wire::Record;
 use std::alloc::Global;
+use std::collections::BTreeSet;
 use std::marker::Model;
 
-/// Records of one owner, class and type, in order of arrival; with each its canonical data, so that a
-/// record's duplicate is found by comparing octets alone.
+/// Records of one owner, class and type, in order of arrival; and the set of their canonical data, by which
+/// a record's duplicate is found.
 #[derive(Drop)]
 pub(crate) struct Members {
     records: Vec<Record>,
-    canonical: Vec<Octets>,
+    canonical: BTreeSet<Octets>,
 }
 
 impl Model for Members {
-    ghost use Rattle.std.specs.Prelude.{◌≡◌, List, map};
+    ghost use Rattle.std.specs.Prelude.{◌≡◌, ℕ, List};
+    ghost use Rattle.std.specs.BTreeSet.{contains};
+    ghost use Rattle.std.specs.Cmp.Lexicographic.{slice_cmp};
+    ghost use Rattle.std.specs.Ordering.{nat_cmp};
     ghost use Rattle.dsec_spec.specs.Records as entries;
-    ghost use Rattle.dsec_group.specs.Adding.{canonical_of};
+    ghost use Rattle.dsec_group.specs.Adding.{has_data};
 
     ghost Value = { List entries.Record };
 
     ghost view = { λ it. it.records.items };
 
-    ghost invariant = { λ it. it.canonical.items ≡ map canonical_of it.records.items };
+    ghost invariant = { λ it. (octets : List ℕ) → contains (slice_cmp nat_cmp) it.canonical octets ≡ has_data octets it.records.items };
 }
 
 impl Members {
@@ -35,7 +39,7 @@ impl Members {
     {
         Members {
             records: Vec::new(alloc),
-            canonical: Vec::new(alloc),
+            canonical: BTreeSet::new(alloc),
         }
     }
 
@@ -53,14 +57,12 @@ impl Members {
         ensures err { OnErr result (self.new ≡ self.old) }
     {
         let octets = canonical_octets(*self.records.allocator(), &next)?;
-        if self.canonical.contains(&octets) {
-            return Ok(true);
-        }
         self.records.reserve(1)?;
-        self.canonical.reserve(1)?;
-        self.records.push_reserved(next);
-        self.canonical.push_reserved(octets);
-        Ok(false)
+        let is_new = self.canonical.insert(octets)?;
+        if is_new {
+            self.records.push_reserved(next);
+        }
+        Ok(!is_new)
     }
 }
 

@@ -155,3 +155,38 @@ fn signatures_alone_have_their_own_type(rt: HostRuntime) -> Result<(), Fail> {
     assert_eq!(rt; shown.as_str(), "A.");
     Ok(())
 }
+
+#[test]
+fn many_groups_stand_in_order_of_arrival(rt: HostRuntime) -> Result<(), Fail> {
+    let alloc = rt.alloc();
+    let mut found = GroupSet::new(alloc);
+    for round in 0..2_u8 {
+        for number in 0..200_u16 {
+            let rtype = Rtype::from_int(65_535 - number);
+            found.add(record_of(alloc, "a.", Class::IN, rtype, &[round])?)?;
+        }
+    }
+    let all = found.into_vec();
+    assert_eq!(rt; all.len(), 200);
+    assert!(rt; all[0].rtype() == Rtype::from_int(65_535));
+    assert!(rt; all[199].rtype() == Rtype::from_int(65_336));
+    assert_eq!(rt; all[117].rr_set().len(), 2);
+    assert!(rt; !all[117].found_duplicate());
+    Ok(())
+}
+
+#[test]
+fn duplicates_are_found_among_many(rt: HostRuntime) -> Result<(), Fail> {
+    let alloc = rt.alloc();
+    let mut found = GroupSet::new(alloc);
+    for last in 0..250_u8 {
+        found.add(address(alloc, "a.", last)?)?;
+    }
+    assert_eq!(rt; found.len(), 1);
+    assert!(rt; !found.as_slice()[0].found_duplicate());
+    found.add(address(alloc, "A.", 17)?)?;
+    assert_eq!(rt; found.len(), 1);
+    assert!(rt; found.as_slice()[0].found_duplicate());
+    assert_eq!(rt; found.as_slice()[0].rr_set().len(), 250);
+    Ok(())
+}

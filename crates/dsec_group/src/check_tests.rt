@@ -1,0 +1,490 @@
+//! Groups under the keys of a zone. Signatures are SHA-256 sums, made with Python's hashlib.
+
+ghost use Rattle.std.specs.Prelude.{◌≡◌, ◌<◌};
+
+use crate::{KeyCheck, Limits, Memo, NoMemo, Steps, ValidationState, check_with_keys, groups};
+use dsec_base::Cause;
+use dsec_crypto::{StandIn, Verifier};
+use dsec_name::{Name, NoMemory, Octets};
+use dsec_number::{Class, Rtype, Timestamp, Ttl};
+use dsec_wire::{Data, Dnskey, Record, Records};
+use std::alloc::Global;
+use std::marker::Brand;
+use std::process::Abort;
+use std::sync::ledger::{Blank, Ledger};
+use std::test::Fail;
+
+// A zone key of tag 1296, one without the zone flag and one of protocol 2, both of tag 1040.
+pub(crate) const KEY: &[u8] = b"\x01\x01\x03\x0d\x01\x02";
+
+const NO_ZONE_KEY: &[u8] = b"\x00\x01\x03\x0d\x01\x02";
+
+const OTHER_PROTOCOL: &[u8] = b"\x01\x01\x02\x0d\x01\x02";
+
+const ADDRESS: &[u8] = b"\xc0\x00\x02\x01";
+
+// `example.` and `other.` on the wire.
+const ZONE: &[u8] = b"\x07Example\x00";
+
+const OTHER: &[u8] = b"\x05other\x00";
+
+// Over the address at www.example. with two labels, by KEY.
+pub(crate) const GOOD: &[u8] = b"\x57\x40\xff\x5d\x59\x63\x06\xbf\xe2\xc5\xc7\xbd\x74\xec\xe6\xc7\
+    \x08\x2a\xf6\x19\xd5\x1f\x42\xff\xbb\x83\xf9\x74\xb9\xca\x90\x83";
+
+// The same by NO_ZONE_KEY, and by OTHER_PROTOCOL.
+const BY_NO_ZONE_KEY: &[u8] = b"\x59\x2e\x64\x0d\xeb\xec\x86\xaf\x77\x3b\x1d\x3a\x18\x96\x9c\x0a\
+    \xda\xa2\x4a\x41\x1e\x0a\x42\xd5\xfb\xad\xb4\xd3\x45\x94\x13\x1e";
+
+const BY_OTHER_PROTOCOL: &[u8] = b"\xd5\x74\xae\xb7\x17\xec\x12\x98\x57\x11\x13\xea\x72\x76\x5c\x7d\
+    \xf3\x05\xc3\x46\x54\x80\x72\x45\x26\x11\xcc\x4d\xdb\x4c\xd5\x2b";
+
+// By KEY, as signer other.; at www.other.; with three labels; of class CH.
+const BY_OTHER_SIGNER: &[u8] = b"\xb6\xe7\xb4\x54\x04\xae\x44\x7f\xe2\x7c\x37\xfb\x66\x75\x22\xa2\
+    \xcd\x42\x6b\x60\xe3\x5e\x6e\xc2\xe1\x8d\xec\xd3\xc0\x0e\xb0\x11";
+
+const AT_OTHER_OWNER: &[u8] = b"\xe0\xca\x06\xe1\x4d\xbe\xc8\x21\xe6\xb2\xf5\x3a\x38\x27\x26\x75\
+    \xd0\x0a\xfa\xcc\x07\x2c\x29\xd6\x96\x09\x67\x73\x20\x66\xfa\xd6";
+
+const OF_THREE_LABELS: &[u8] = b"\x78\x21\x91\x60\x39\xe3\x15\xe7\x43\xc3\x5b\x47\x16\xd3\x66\x48\
+    \x0f\x9d\x32\x8d\xfc\xe1\xa5\x7d\x58\x80\xfa\xac\x19\xdc\x41\x93";
+
+const OF_CLASS_CH: &[u8] = b"\xce\xfc\x64\x1d\xb2\xca\xea\xfa\x53\xdb\x1a\xbf\x98\x11\x65\x0a\
+    \xf9\x36\x12\xbf\xef\x28\xf2\xa1\x9e\xb8\x77\x56\xf3\x24\x39\xaf";
+
+// Over one mail exchange of preference 10 by mx.example. at www.example.
+const OF_EXCHANGE: &[u8] = b"\xb9\x76\xe7\x49\xe0\x49\x45\xa5\x02\xa6\x05\x7d\x0c\xeb\x3e\xbf\
+    \xae\xb3\xf1\xb9\x2d\x9f\xdf\x8f\x33\x1e\x89\x86\x3d\x09\x75\xdf";
+
+// Over the address at *.w.example.
+const OF_WILDCARD: &[u8] = b"\xab\xda\x20\x8e\x4c\x04\xe2\x2d\xb7\x34\x3e\x20\x1c\x6a\xca\x1a\
+    \x1a\x79\xcb\x2c\x6f\xd3\xbb\x10\x66\x65\xd6\xb3\xed\x39\x59\x28";
+
+// Of type RRSIG over no record at www.example.
+const OF_NOTHING: &[u8] = b"\x90\xc7\x79\xc6\x57\xc8\x9b\xfc\x43\x9c\xe8\xfa\x06\xef\x40\x14\
+    \x27\x8c\x2e\x4b\x70\x62\x81\x62\xc2\xeb\x4d\x7e\xc6\x96\x25\x2f";
+
+pub(crate) fn data_of(alloc: Global, rtype: Rtype, octets: &[u8]) -> Result<Data, Fail> {
+    if !Data::is_readable(rtype, octets) {
+        return Err(Fail::new("unreadable"));
+    }
+    Ok(Data::new(rtype, Octets::new(Vec::from_slice(alloc, octets)?)))
+}
+
+fn record_of(
+    alloc: Global,
+    owner: &str,
+    class: Class,
+    rtype: Rtype,
+    octets: &[u8],
+) -> Result<Record, Fail> {
+    let owner = Name::parse(alloc, owner)?;
+    let rdata = data_of(alloc, rtype, octets)?;
+    Ok(Record::new(owner, class, Ttl::from_secs(60), rdata))
+}
+
+pub(crate) fn address(alloc: Global, owner: &str) -> Result<Record, Fail> {
+    record_of(alloc, owner, Class::IN, Rtype::A, ADDRESS)
+}
+
+// A signature of algorithm 13 with the original TTL 3600 and the period from 0 to 1000.
+fn signature(
+    alloc: Global,
+    owner: &str,
+    covered: Rtype,
+    labels: u8,
+    key_tag: u16,
+    signer: &[u8],
+    octets: &[u8],
+) -> Result<Record, Fail> {
+    let [high, low] = covered.to_int().to_be_bytes();
+    let [tag_high, tag_low] = key_tag.to_be_bytes();
+    let mut data = Vec::new(alloc);
+    data.extend_from_slice(&[
+        high, low, 13, labels, 0, 0, 14, 16, 0, 0, 3, 232, 0, 0, 0, 0,
+    ])?;
+    data.extend_from_slice(&[tag_high, tag_low])?;
+    data.extend_from_slice(signer)?;
+    data.extend_from_slice(octets)?;
+    record_of(alloc, owner, Class::IN, Rtype::RRSIG, &data)
+}
+
+// A signature over the address at www.example. that names KEY.
+pub(crate) fn plain(alloc: Global, octets: &[u8]) -> Result<Record, Fail> {
+    signature(alloc, "www.example.", Rtype::A, 2, 1296, ZONE, octets)
+}
+
+fn views_of<'a>(alloc: Global, keys: &'a [Data]) -> Result<Vec<Dnskey<'a>>, NoMemory> {
+    let mut views = Vec::new(alloc);
+    for key in keys {
+        if let Some(view) = key.dnskey() {
+            views.extend_from_slice(&[view])?;
+        }
+    }
+    Ok(views)
+}
+
+fn check_by<L: Ledger>(
+    alloc: Global,
+    section: Vec<Record>,
+    keys: &[Data],
+    max_bad: u8,
+    seconds: u32,
+    memo: &mut impl Memo<StandIn>,
+    blank: Blank,
+) -> Result<KeyCheck, Fail>
+    requires name { blank.name ≡ L.name }
+    requires parts { blank.parts ≡ L.parts }
+    requires some { 0 < L.parts }
+{
+    let found = groups(alloc, Records::new(section))?;
+    let views = views_of(alloc, keys)?;
+    let zone = Name::parse(alloc, "example.")?;
+    let mut limits = Limits::default();
+    limits.max_bad_signatures = max_bad;
+    let Some(group) = found.as_slice().first() else {
+        return Err(Fail::new("no group"));
+    };
+    let mut steps: Steps<L> = Steps::begin(blank);
+    let t = Timestamp::from_int(seconds);
+    let check = check_with_keys::<StandIn, L>(
+        alloc, group, &zone, &views, &limits, t, memo, &mut steps,
+    )?;
+    Ok(check)
+}
+
+// The same, with steps that nobody counts.
+pub(crate) fn checked(
+    alloc: Global,
+    section: Vec<Record>,
+    keys: &[Data],
+    max_bad: u8,
+    seconds: u32,
+    memo: &mut impl Memo<StandIn>,
+) -> Result<KeyCheck, Fail> {
+    check_by::<Brand>(alloc, section, keys, max_bad, seconds, memo, Blank::new(1))
+}
+
+// The first group of the section at 500 seconds, with a limit of one bad signature.
+fn check(alloc: Global, section: Vec<Record>, keys: &[&[u8]]) -> Result<KeyCheck, Fail> {
+    let mut datas = Vec::new(alloc);
+    for key in keys {
+        datas.push(data_of(alloc, Rtype::DNSKEY, *key)?)?;
+    }
+    checked(alloc, section, &datas, 1, 500, &mut NoMemo)
+}
+
+// How often a verifier's answer was asked for, and kept.
+#[derive(Drop)]
+struct Counting {
+    asked: u32,
+    kept: u32,
+}
+
+impl<V: Verifier> Memo<V> for Counting {
+    fn get_check(
+        &mut self,
+        _flags: u16,
+        _protocol: u8,
+        _algorithm: u8,
+        _key: &[u8],
+        _message: &[u8],
+        _signature: &[u8],
+    ) -> Result<Option<bool>, NoMemory> {
+        self.asked = self.asked.saturating_add(1);
+        Err(NoMemory)
+    }
+
+    fn put_check(
+        &mut self,
+        _flags: u16,
+        _protocol: u8,
+        _algorithm: u8,
+        _key: &[u8],
+        _message: &[u8],
+        _signature: &[u8],
+        _yes: bool,
+    ) -> Result<(), NoMemory> {
+        self.kept = self.kept.saturating_add(1);
+        Err(NoMemory)
+    }
+
+    fn get_hash(
+        &mut self,
+        _octets: &[u8],
+        _salt: &[u8],
+        _iterations: u16,
+    ) -> Result<Option<[u8; 20]>, NoMemory> {
+        Err(NoMemory)
+    }
+
+    fn put_hash(
+        &mut self,
+        _octets: &[u8],
+        _salt: &[u8],
+        _iterations: u16,
+        _hash: [u8; 20],
+    ) -> Result<(), NoMemory> {
+        Err(NoMemory)
+    }
+}
+
+// Four signatures of one key, the first two of them bad, under a memo that has no memory.
+fn two_bad_of_four(alloc: Global, max_bad: u8, memo: &mut Counting) -> Result<KeyCheck, Fail> {
+    let mut section = Vec::new(alloc);
+    section.push(address(alloc, "www.example.")?)?;
+    section.push(plain(alloc, b"first")?)?;
+    section.push(plain(alloc, b"second")?)?;
+    section.push(plain(alloc, GOOD)?)?;
+    section.push(plain(alloc, b"fourth")?)?;
+    let keys = [
+        data_of(alloc, Rtype::DNSKEY, NO_ZONE_KEY)?,
+        data_of(alloc, Rtype::DNSKEY, KEY)?,
+    ];
+    checked(alloc, section, &keys, max_bad, 500, memo)
+}
+
+#[test]
+fn one_more_is_tried_than_may_be_bad(rt: HostRuntime) -> Result<(), Fail> {
+    let alloc = rt.alloc();
+    let mut memo = Counting { asked: 0, kept: 0 };
+    let check = two_bad_of_four(alloc, 1, &mut memo)?;
+    assert!(rt; check.state == ValidationState::Bogus);
+    assert!(rt; check.cause == Some(Cause::TooManyBadSignatures));
+    assert!(rt; check.signature.is_none() && check.key.is_none());
+    assert_eq!(rt; memo.asked, 2);
+    assert_eq!(rt; memo.kept, 2);
+    let mut memo = Counting { asked: 0, kept: 0 };
+    let check = two_bad_of_four(alloc, 2, &mut memo)?;
+    assert!(rt; check.state == ValidationState::Secure);
+    assert!(rt; check.cause.is_none());
+    assert!(rt; check.signature == Some(2));
+    assert!(rt; check.key == Some(1));
+    assert!(rt; check.closest_encloser.is_none());
+    assert_eq!(rt; memo.asked, 3);
+    Ok(())
+}
+
+fn is_bogus(rt: &impl Abort, check: &KeyCheck, cause: Cause) {
+    assert!(rt; check.state == ValidationState::Bogus);
+    assert!(rt; check.cause == Some(cause));
+    assert!(rt; check.signature.is_none() && check.key.is_none());
+    assert!(rt; check.closest_encloser.is_none());
+}
+
+// The address at www.example. and a signature, which is good by the verifier but for what its caller changed.
+fn of_two(alloc: Global, sig: Record, key: &[u8]) -> Result<KeyCheck, Fail> {
+    let mut section = Vec::new(alloc);
+    section.push(address(alloc, "www.example.")?)?;
+    section.push(sig)?;
+    check(alloc, section, &[key])
+}
+
+#[test]
+fn keys_that_may_not_sign(rt: HostRuntime) -> Result<(), Fail> {
+    let alloc = rt.alloc();
+    let good = of_two(alloc, plain(alloc, GOOD)?, KEY)?;
+    assert!(rt; good.state == ValidationState::Secure);
+    assert!(rt; good.signature == Some(0) && good.key == Some(0));
+    let sig = signature(
+        alloc,
+        "www.example.",
+        Rtype::A,
+        2,
+        1040,
+        ZONE,
+        BY_NO_ZONE_KEY,
+    )?;
+    is_bogus(&rt, &of_two(alloc, sig, NO_ZONE_KEY)?, Cause::BadSignature);
+    let sig = signature(
+        alloc,
+        "www.example.",
+        Rtype::A,
+        2,
+        1040,
+        ZONE,
+        BY_OTHER_PROTOCOL,
+    )?;
+    is_bogus(
+        &rt,
+        &of_two(alloc, sig, OTHER_PROTOCOL)?,
+        Cause::BadSignature,
+    );
+    // It names another key.
+    is_bogus(
+        &rt,
+        &of_two(alloc, plain(alloc, GOOD)?, NO_ZONE_KEY)?,
+        Cause::NoSignature,
+    );
+    let mut section = Vec::new(alloc);
+    section.push(address(alloc, "www.example.")?)?;
+    section.push(plain(alloc, GOOD)?)?;
+    is_bogus(&rt, &check(alloc, section, &[])?, Cause::NoSignature);
+    Ok(())
+}
+
+#[test]
+fn signatures_that_do_not_count(rt: HostRuntime) -> Result<(), Fail> {
+    let alloc = rt.alloc();
+    let sig = signature(
+        alloc,
+        "www.example.",
+        Rtype::A,
+        2,
+        1296,
+        OTHER,
+        BY_OTHER_SIGNER,
+    )?;
+    is_bogus(&rt, &of_two(alloc, sig, KEY)?, Cause::NoSignature);
+    let sig = signature(
+        alloc,
+        "www.example.",
+        Rtype::A,
+        3,
+        1296,
+        ZONE,
+        OF_THREE_LABELS,
+    )?;
+    is_bogus(&rt, &of_two(alloc, sig, KEY)?, Cause::BadSignature);
+    let mut section = Vec::new(alloc);
+    section.push(address(alloc, "www.other.")?)?;
+    section.push(signature(alloc, "www.other.", Rtype::A, 2, 1296, ZONE, AT_OTHER_OWNER)?)?;
+    is_bogus(&rt, &check(alloc, section, &[KEY])?, Cause::BadSignature);
+    // The signature is of class IN, and so it isn't the group's.
+    let mut section = Vec::new(alloc);
+    section.push(record_of(alloc, "www.example.", Class::CH, Rtype::A, ADDRESS)?)?;
+    section.push(plain(alloc, OF_CLASS_CH)?)?;
+    is_bogus(&rt, &check(alloc, section, &[KEY])?, Cause::NoSignature);
+    Ok(())
+}
+
+#[test]
+fn duplicates_are_signed_once(rt: HostRuntime) -> Result<(), Fail> {
+    let alloc = rt.alloc();
+    let mut section = Vec::new(alloc);
+    let lower: &[u8] = b"\x00\x0a\x02mx\x07example\x00";
+    let upper: &[u8] = b"\x00\x0a\x02MX\x07Example\x00";
+    section.push(record_of(alloc, "WWW.example.", Class::IN, Rtype::MX, upper)?)?;
+    section.push(record_of(alloc, "www.Example.", Class::IN, Rtype::MX, lower)?)?;
+    section.push(signature(alloc, "www.example.", Rtype::MX, 2, 1296, ZONE, OF_EXCHANGE)?)?;
+    let found = check(alloc, section, &[KEY])?;
+    assert!(rt; found.state == ValidationState::Secure);
+    Ok(())
+}
+
+// RFC 4035 5.3.4.
+#[test]
+fn wildcard(rt: HostRuntime) -> Result<(), Fail> {
+    let alloc = rt.alloc();
+    let mut section = Vec::new(alloc);
+    section.push(address(alloc, "a.z.w.example.")?)?;
+    section.push(signature(
+        alloc,
+        "a.z.w.example.",
+        Rtype::A,
+        2,
+        1296,
+        ZONE,
+        OF_WILDCARD,
+    )?)?;
+    let found = check(alloc, section, &[KEY])?;
+    assert!(rt; found.state == ValidationState::Secure);
+    assert!(rt; found.closest_encloser == Some(Name::parse(alloc, "w.example.")?));
+    Ok(())
+}
+
+// A signature over no record of type RRSIG is one by its definition.
+#[test]
+fn signatures_alone(rt: HostRuntime) -> Result<(), Fail> {
+    let alloc = rt.alloc();
+    let mut section = Vec::new(alloc);
+    section.push(signature(
+        alloc,
+        "www.example.",
+        Rtype::RRSIG,
+        2,
+        1296,
+        ZONE,
+        OF_NOTHING,
+    )?)?;
+    let found = check(alloc, section, &[KEY])?;
+    assert!(rt; found.state == ValidationState::Secure);
+    let mut section = Vec::new(alloc);
+    section.push(plain(alloc, GOOD)?)?;
+    is_bogus(&rt, &check(alloc, section, &[KEY])?, Cause::BadSignature);
+    Ok(())
+}
+
+#[test]
+fn periods(rt: HostRuntime) -> Result<(), Fail> {
+    let alloc = rt.alloc();
+    let rows: [(u32, bool); 4] = [
+        (0, true),
+        (1000, true),
+        (1001, false),
+        (4_294_967_295, false),
+    ];
+    for (seconds, want) in rows {
+        let mut section = Vec::new(alloc);
+        section.push(address(alloc, "www.example.")?)?;
+        section.push(plain(alloc, GOOD)?)?;
+        let keys = [data_of(alloc, Rtype::DNSKEY, KEY)?];
+        let found = checked(alloc, section, &keys, 1, seconds, &mut NoMemo)?;
+        assert_eq!(rt;
+            found.state == ValidationState::Secure,
+            want,
+            "at {seconds}"
+        );
+    }
+    Ok(())
+}
+
+// Whether the address is signed by the one call for a record, where the key stands at the name and has the tag.
+fn is_signed(
+    alloc: Global,
+    section: Vec<Record>,
+    sig: &Record,
+    key_name: &str,
+    key_tag: u16,
+) -> Result<bool, Fail> {
+    let found = groups(alloc, Records::new(section))?;
+    let Some(group) = found.as_slice().first() else {
+        return Err(Fail::new("no group"));
+    };
+    let data = data_of(alloc, Rtype::DNSKEY, KEY)?;
+    let Some(key) = data.dnskey() else {
+        return Err(Fail::new("no key"));
+    };
+    let zone = Name::parse(alloc, "Example.")?;
+    let key_name = Name::parse(alloc, key_name)?;
+    let t = Timestamp::from_int(500);
+    let mut memo = Counting { asked: 0, kept: 0 };
+    let yes = group.check_sig_cached::<StandIn>(
+        alloc, sig, &zone, &key, &key_name, key_tag, &mut memo, t,
+    )?;
+    Ok(yes)
+}
+
+#[test]
+fn one_record_by_one_key(rt: HostRuntime) -> Result<(), Fail> {
+    let alloc = rt.alloc();
+    let sig = plain(alloc, GOOD)?;
+    let rows: [(&str, Class, &str, u16, bool); 5] = [
+        ("www.example.", Class::IN, "example.", 1296, true),
+        ("www.example.", Class::IN, "other.", 1296, false),
+        ("www.example.", Class::IN, "example.", 1297, false),
+        ("www.example.", Class::CH, "example.", 1296, false),
+        ("ww.example.", Class::IN, "example.", 1296, false),
+    ];
+    for (owner, class, key_name, key_tag, want) in rows {
+        let mut section = Vec::new(alloc);
+        section.push(record_of(alloc, owner, class, Rtype::A, ADDRESS)?)?;
+        let yes = is_signed(alloc, section, &sig, key_name, key_tag)?;
+        assert_eq!(rt; yes, want, "{owner} {key_name} {key_tag}");
+    }
+    let mut section = Vec::new(alloc);
+    section.push(address(alloc, "www.example.")?)?;
+    let other = address(alloc, "www.example.")?;
+    assert!(rt; !is_signed(alloc, section, &other, "example.", 1296)?);
+    Ok(())
+}
