@@ -1,0 +1,8 @@
+use Rattle.dsec_script.proofs.WordLemmas.{no_text, text_read}
+use Rattle.dsec_script.proofs.word.text.Goals as goal
+
+pub returns-in-Ok : goal.returns-in-Ok
+returns-in-Ok c = text_read c.args.word.now c.in-Ok.text.now c.in-Ok.ensures.cases.0 c.in-Ok.ensures.cases.1
+
+pub returns-in-Err : goal.returns-in-Err
+returns-in-Err c = no_text c.args.word.now c.in-Err.ensures.cases.0

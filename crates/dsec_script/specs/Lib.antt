@@ -1,0 +1,5 @@
+pub mod Text
+pub mod Words
+pub mod Line
+pub mod Place
+pub mod Script

@@ -1,0 +1,77 @@
+-- A text's lines, their words, and numbers in decimal digits.
+use Rattle.std.specs.Prelude.{ℕ, ◌==◌, ◌&&◌, ◌||◌, nat_lt, nat_le, List, [], ◌∷◌, length, Bool, true, false, Option, Some, None, if◌then◌else◌}
+use Rattle.std.proofs.Math.Bool.{not}
+use Rattle.std.specs.List.{list_all}
+use Rattle.std.specs.Char.{digit_value}
+use Rattle.std.specs.Str.Parse.{digits_value}
+use Rattle.dsec_script.specs.declared.text.Mark.{Mark}
+use Rattle.dsec_script.specs.declared.text.Mark.TheVariants as marks
+
+-- LF, which ends a line
+abbrev pub is_line_end : ℕ → Bool
+is_line_end octet = octet == 10
+
+-- CR
+abbrev pub is_return : ℕ → Bool
+is_return octet = octet == 13
+
+-- space and tab, which stand between words
+abbrev pub is_blank : ℕ → Bool
+is_blank octet = (octet == 32) || (octet == 9)
+
+-- whether the next octet ends a line
+abbrev pub ends_line : List ℕ → Bool
+ends_line [] = false
+ends_line (octet ∷ text) = is_line_end octet
+
+-- an octet at the front of the first line
+abbrev pub onto : ℕ → List (List ℕ) → List (List ℕ)
+onto octet [] = (octet ∷ []) ∷ []
+onto octet (line ∷ lines) = (octet ∷ line) ∷ lines
+
+-- the lines of a text: LF ends each, and a last one without LF is one where it has an octet; a CR directly before an LF is dropped
+unfoldable pub lines_of : List ℕ → List (List ℕ)
+lines_of [] = []
+lines_of (octet ∷ text) =
+    if is_line_end octet then [] ∷ lines_of text
+    else if is_return octet && ends_line text then lines_of text
+    else onto octet (lines_of text)
+
+-- whether a word ends here: at the end or before a blank
+abbrev pub ends_word : List ℕ → Bool
+ends_word [] = true
+ends_word (octet ∷ text) = is_blank octet
+
+-- the words of a line, which blanks separate
+unfoldable pub words_of : List ℕ → List (List ℕ)
+words_of [] = []
+words_of (octet ∷ line) =
+    if is_blank octet then words_of line
+    else if ends_word line then (octet ∷ []) ∷ words_of line
+    else onto octet (words_of line)
+
+-- whether a word is a number of at most so much: one or more decimal digits and nothing else, with leading zeros or without
+abbrev pub is_number : ℕ → List ℕ → Bool
+is_number most word =
+    nat_lt 0 (length word) && list_all (λ octet. nat_lt (digit_value octet) 10) word && nat_le (digits_value 10 word) most
+
+-- the number that a word writes, if it is one of at most so much
+abbrev pub number_of : ℕ → List ℕ → Option ℕ
+number_of most word = if is_number most word then Some (digits_value 10 word) else None
+
+-- whether an octet ends what is looked for: a line, a word, or what stands before a word
+abbrev pub is_mark : Mark → ℕ → Bool
+is_mark marks.LineEnd octet = is_line_end octet
+is_mark marks.Blank octet = is_blank octet
+is_mark marks.Word octet = not (is_blank octet)
+
+-- the octets before the first that passes a test, and those from it on
+unfoldable pub cut_of : (ℕ → Bool) → List ℕ → List ℕ × List ℕ
+cut_of test [] = ([], [])
+cut_of test (octet ∷ text) = if test octet then ([], octet ∷ text) else (octet ∷ (cut_of test text).0, (cut_of test text).1)
+
+-- a line without a CR at its end
+unfoldable pub without_return : List ℕ → List ℕ
+without_return [] = []
+without_return (octet ∷ []) = if is_return octet then [] else octet ∷ []
+without_return (octet ∷ next ∷ line) = octet ∷ without_return (next ∷ line)

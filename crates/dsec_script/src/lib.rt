@@ -1,0 +1,19 @@
+//! Validation scripts: their grammar, read exactly.
+#![tactic(auto)]
+
+mod error;
+mod items;
+mod line;
+mod place;
+mod script;
+mod text;
+mod word;
+
+pub use error::{Refused, ScriptError, Word};
+pub use items::{Item, Items};
+pub use script::{Script, read_script};
+
+#[cfg(test)]
+mod tests;
+#[cfg(test)]
+mod vectors;

@@ -1,0 +1,114 @@
+//! The lines of a text, the words of a line, and numbers.
+
+ghost use Rattle.std.specs.Prelude.{◌≡◌, ◌<◌, ◌≤◌, ◌^◌, [], ◌∷◌, length, IfSome, MatchOption};
+ghost use Rattle.std.specs.Option.{SomeIff};
+ghost use Rattle.std.specs.Str.Parse.{IsNumeral, digits_value};
+ghost use Rattle.dsec_script.specs.Text.{cut_of, is_blank as is_blank_octet, is_mark as is_mark_octet, lines_of, number_of, without_return as without_return_of, words_of};
+
+/// What ends a stretch of octets.
+#[derive(Clone, Copy)]
+enum Mark {
+    /// The LF of a line.
+    LineEnd,
+    /// A blank after a word.
+    Blank,
+    /// A word after blanks.
+    Word,
+}
+
+/// The first line of a text that isn't empty, and the text after it.
+pub fn first_line(text: &[u8]) -> (&[u8], &[u8])
+    requires { 0 < length text.now }
+    ensures line { lines_of text.now ≡ result.0.now ∷ lines_of result.1.now }
+    ensures shorter { length result.1.now < length text.now }
+{
+    let (line, rest) = cut(text, Mark::LineEnd);
+    match rest {
+        [] => (line, rest),
+        [_, after @ ..] => (without_return(line), after),
+    }
+}
+
+/// The first word of a line, and the line after it; none where there is no word.
+pub fn first_word(line: &[u8]) -> Option<(&[u8], &[u8])>
+    ensures { MatchOption result (words_of line.now ≡ []) (λ found. words_of line.now ≡ found.0.now ∷ words_of found.1.now) }
+{
+    let (_, rest) = cut(line, Mark::Word);
+    if rest.is_empty() {
+        return None;
+    }
+    Some(cut(rest, Mark::Blank))
+}
+
+/// The number that a word writes in decimal digits, if it is at most `most`.
+pub fn number(word: &[u8], most: u64) -> Option<u64>
+    ensures value { result ≡ number_of most word.now }
+    ensures bound { IfSome result (λ number. number ≤ most) }
+{
+    match decimal(word) {
+        None => None,
+        Some(number) => {
+            if number > most {
+                return None;
+            }
+            Some(number)
+        }
+    }
+}
+
+/// The number that decimal digits write, without a sign.
+fn decimal(digits: &[u8]) -> Option<u64>
+    ensures { SomeIff result (IsNumeral 10 digits.now × (digits_value 10 digits.now < 2 ^ 64)) (digits_value 10 digits.now) }
+{
+    if digits.starts_with(b"+") {
+        return None;
+    }
+    let text = str::from_utf8(digits).ok()?;
+    text.parse::<u64>().ok()
+}
+
+/// The octets before the first mark, and those from it on.
+fn cut(octets: &[u8], mark: Mark) -> (&[u8], &[u8])
+    ensures { (result.0.now, result.1.now) ≡ cut_of (is_mark_octet mark) octets.now }
+{
+    let mut at = 0;
+    while at < octets.len() {
+        if is_mark(octets[at], mark) {
+            return octets.split_at(at);
+        }
+        at += 1;
+    }
+    (octets, &[])
+}
+
+/// Whether an octet is such a mark.
+fn is_mark(octet: u8, mark: Mark) -> bool
+    ensures { result ≡ is_mark_octet mark octet }
+{
+    match mark {
+        Mark::LineEnd => octet == b'\n',
+        Mark::Blank => is_blank(octet),
+        Mark::Word => !is_blank(octet),
+    }
+}
+
+/// Whether an octet stands between words.
+fn is_blank(octet: u8) -> bool
+    ensures { result ≡ is_blank_octet octet }
+{
+    octet == b' ' || octet == b'\t'
+}
+
+/// The line without a CR at its end.
+fn without_return(line: &[u8]) -> &[u8]
+    ensures { result.now ≡ without_return_of line.now }
+{
+    let length = line.len();
+    if length == 0 {
+        return line;
+    }
+    if line[length - 1] != b'\r' {
+        return line;
+    }
+    &line[..length - 1]
+}
