@@ -1,0 +1,133 @@
+-- What is found of a group of records: whether a chain from an anchor shows its set (RFC 4033 5, RFC 4035 4.3, 5).
+use Rattle.std.specs.Prelude.{ℕ, ◌==◌, ◌&&◌, List, [], ◌∷◌, length, map, filter, find, filter_map, unwrap_or, Bool, false, Option, Some, None, if◌then◌else◌}
+use Rattle.std.specs.List.{list_any}
+use Rattle.std.specs.Str.{bytes_eq}
+use Rattle.dsec_spec.specs.Reading.{◌>>=◌}
+use Rattle.dsec_spec.specs.Names.{Place, place, same_place}
+use Rattle.dsec_spec.specs.Numbers.{IN, DNSKEY}
+use Rattle.dsec_spec.specs.Records.{Record, Key, key_of}
+use Rattle.dsec_spec.specs.Messages.{answers_of, authorities_of}
+use Rattle.dsec_spec.specs.Accepts.{Accepts}
+use Rattle.dsec_spec.specs.Groups.{Group, groups_of, set_in}
+use Rattle.dsec_spec.specs.Trying.{Tried, good, nothing, all_bad, too_many_bad, tried, pairs, pair_matches, pair_signs, checked}
+use Rattle.dsec_spec.specs.Islands.{looked_for_at, island, signers, target}
+use Rattle.dsec_spec.specs.Chain as chain
+use Rattle.dsec_judge.specs.declared.key_set.KeySet.{KeySet}
+use Rattle.dsec_judge.specs.declared.key_set.KeySet.TheVariants.{Held as held, Unheld as unheld}
+use Rattle.dsec_judge.specs.declared.finding.Finding.{Finding}
+use Rattle.dsec_judge.specs.declared.finding.Finding.TheVariants.{Shown as shown, Insecure as insecure, Bogus as bogus, Indeterminate as indeterminate}
+use Rattle.dsec_base.specs.declared.cause.Cause.TheVariants.{RrsigWithoutRrset, NoTrustAnchor, NoSignature, BadSignature, TooManyBadSignatures, TooManyBadSignaturesForDnskey, NoDnskeyForAnchor, NotBuilt}
+
+-- What judging goes by: the signatures that are accepted, the anchors, how many matching pairs of a signature and a key are tried of a set,
+-- the moment, and the reply to the question for the DNSKEY set at an anchor's place, if there is one.
+pub record World : Type 0 where
+  pub accepts : Accepts
+  pub anchors : List Record
+  pub room : ℕ
+  pub moment : ℕ
+  pub replies : Place → Option (List ℕ)
+
+-- whether DNSKEY data say this key
+abbrev pub says_key : Key → Option Key → Bool
+says_key key None = false
+says_key key (Some other) =
+    (other.flags == key.flags) && (other.protocol == key.protocol) && (other.algorithm == key.algorithm) && bytes_eq other.public_key key.public_key
+
+-- the keys that DNSKEY data say
+abbrev pub keys_of : List (List ℕ) → List Key
+keys_of datas = filter_map key_of datas
+
+-- the first DNSKEY data that say a key
+abbrev pub data_of : List (List ℕ) → Key → List ℕ
+data_of datas key = unwrap_or (find (λ rdata. says_key key (key_of rdata)) datas) []
+
+-- signature records and keys tried over a group's set in their order, of those that match
+abbrev pub tried_over : World → Group → Place → List (Record × Key) → Tried (Record × Key)
+tried_over w group zone candidates = tried (pair_signs w.accepts (set_in group) zone w.moment) w.room (filter (pair_matches zone) candidates)
+
+-- whether a group is the DNSKEY set of class IN at a place
+abbrev pub is_key_set_at : Place → Group → Bool
+is_key_set_at top group = same_place (place group.owner) top && (group.class == IN) && (group.rtype == DNSKEY)
+
+-- the DNSKEY set at a place in the answer section of a reply whose questions, answer and authority section are readable
+abbrev pub key_set_in : Place → List ℕ → Option Group
+key_set_in top reply = do
+  authorities ← authorities_of reply
+  answers ← answers_of reply
+  find (is_key_set_at top) (groups_of answers.0)
+
+-- whether an anchor is a DNSKEY record of class IN that is in the key set at its owner (RFC 4035 5)
+abbrev pub is_anchor_in : Group → Record → Bool
+is_anchor_in group anchor =
+    same_place (place anchor.owner) (place group.owner) && (anchor.class == IN) && (anchor.rtype == DNSKEY)
+    && list_any (λ r. bytes_eq r.rdata anchor.rdata) group.records
+
+-- the data of the anchors that are in a key set
+abbrev pub anchors_in : List Record → Group → List (List ℕ)
+anchors_in anchors group = map (λ a. a.rdata) (filter (is_anchor_in group) anchors)
+
+-- signature records with keys: by key, then by signature
+abbrev pub by_key : List Key → List Record → List (Record × Key)
+by_key keys signatures = map (λ p. (p.1, p.0)) (pairs keys signatures)
+
+-- the link of a key set that the key of one of these anchors has signed (RFC 4035 5)
+abbrev pub anchored_link : Group → List (List ℕ) → Record × Key → chain.Link
+anchored_link group own p =
+    record { kind = chain.anchor_key; records = set_in group; via = Some (data_of own p.1); signing_key = data_of own p.1; rrsig = p.0.rdata }
+
+-- the key set, by what trying the keys of these anchors came to
+abbrev pub key_set_by : Group → List (List ℕ) → Tried (Record × Key) → KeySet
+key_set_by group own (good p) = held (anchored_link group own p)
+key_set_by group own nothing = unheld NoSignature
+key_set_by group own all_bad = unheld BadSignature
+key_set_by group own too_many_bad = unheld TooManyBadSignaturesForDnskey
+
+-- the key set, by the anchors that are in it
+abbrev pub key_set_under : World → Group → List (List ℕ) → KeySet
+key_set_under w group own = key_set_by group own (tried_over w group (place group.owner) (by_key (keys_of own) group.signatures))
+
+-- the key set that was found, if one was
+abbrev pub key_set_of : World → Option Group → KeySet
+key_set_of w None = unheld NoDnskeyForAnchor
+key_set_of w (Some group) = key_set_under w group (anchors_in w.anchors group)
+
+-- the key set at an anchor's place, by the reply to its question (RFC 4035 5)
+abbrev pub key_set_from : World → Place → Option (List ℕ) → KeySet
+key_set_from w top reply = key_set_of w (reply >>= key_set_in top)
+
+abbrev pub key_set_at : World → Place → KeySet
+key_set_at w top = key_set_from w top (w.replies top)
+
+-- the link of a set that one of the keys of these data has signed
+abbrev pub set_link : Group → List (List ℕ) → Record × Key → chain.Link
+set_link group datas p = record { kind = chain.set; records = set_in group; via = None; signing_key = data_of datas p.1; rrsig = p.0.rdata }
+
+-- the finding, by what trying the keys of a held key set came to
+abbrev pub finding_by : Group → chain.Link → Tried (Record × Key) → Finding
+finding_by group keys (good p) = shown (keys ∷ []) (set_link group keys.records.datas p)
+finding_by group keys nothing = bogus NoSignature
+finding_by group keys all_bad = bogus BadSignature
+finding_by group keys too_many_bad = bogus TooManyBadSignatures
+
+-- the finding under an anchor's key set, where the zone that is to have signed the group is the anchor's; zones below an anchor are left out
+abbrev pub finding_under : World → Group → Place → Place → KeySet → Finding
+finding_under w group top zone (unheld cause) = bogus cause
+finding_under w group top zone (held keys) =
+    if same_place zone top then finding_by group keys (checked w.accepts group top (keys_of keys.records.datas) w.room w.moment) else bogus NotBuilt
+
+-- the zone that is to have signed a group whose island is this
+abbrev pub target_of : Group → Option Place → Place
+target_of group top = target top (looked_for_at (place group.owner) group.rtype) (signers group)
+
+-- the finding of a group with records, by its island (RFC 4033 5)
+abbrev pub finding_from : World → Group → Option Place → Finding
+finding_from w group None = indeterminate NoTrustAnchor
+finding_from w group (Some top) = finding_under w group top (target_of group (Some top)) (key_set_at w top)
+
+-- the island of a group
+abbrev pub island_of : List Record → Group → Option Place
+island_of anchors group = island anchors (place group.owner) group.rtype
+
+-- the finding of a group; signatures without a set are insecure
+abbrev pub finding : World → Group → Finding
+finding w group = if length group.records == 0 then insecure RrsigWithoutRrset else finding_from w group (island_of w.anchors group)

@@ -1,0 +1,196 @@
+//! Judging one message.
+
+ghost use Rattle.std.specs.Prelude.{◌≡◌, ◌≤◌, ◌+◌, ◌==◌, ◌&&◌, List, Option, Some, ℕ, IfOk, map};
+ghost use Rattle.std.proofs.Math.Bool.{not};
+ghost use Rattle.std.specs.List.{list_any};
+ghost use Rattle.std.specs.Option.{option_map};
+ghost use Rattle.dsec_spec.specs.Answering.{leads_on};
+ghost use Rattle.dsec_spec.specs.Names.{Place};
+ghost use Rattle.dsec_spec.specs.Numbers.{ANY};
+ghost use Rattle.dsec_wire.specs.MessageSections.{sections_of};
+ghost use Rattle.dsec_judge.specs.Asking.{with_replies};
+ghost use Rattle.dsec_judge.specs.Findings.{finding};
+ghost use Rattle.dsec_judge.specs.Judged.{JudgedAs, SoundIfSecure, reason, risen_by, told_by, world_of};
+ghost use Rattle.dsec_judge.specs.Parts.{Says, told_judgement};
+ghost use Rattle.dsec_judge.specs.Verdicts.{is_bare_alias as bare_alias, is_no_error as no_error, judgement, verdict_on_questions};
+
+use crate::answer::{answered, bogus};
+use crate::error::Error;
+use crate::finding::Finding;
+use crate::found::Found;
+use crate::question::{is_any_leading_on, is_bare_alias, is_no_error};
+use crate::sections::{BothFound, find_both};
+use crate::verdict::Verdict;
+use dsec_base::Cause;
+use dsec_crypto::Verifier;
+use dsec_group::{Group, Limits, groups};
+use dsec_name::NoMemory;
+use dsec_number::{Rtype, Timestamp};
+use dsec_outside::Upstream;
+use dsec_valbase::TrustAnchors;
+use dsec_wire::{Message, MessageError, Question, Record, Sections};
+use std::alloc::Global;
+
+/// The verdict on a message at a moment, in seconds since 1970, from these anchors. The upstream is asked for the key sets
+/// of anchors, for each at most once.
+pub fn judge<V: Verifier, U: Upstream>(
+    alloc: Global,
+    anchors: &TrustAnchors,
+    limits: &Limits,
+    message: &Message,
+    upstream: &mut U,
+    now: u64,
+) -> Result<Verdict<V>, Error>
+    ensures judged { JudgedAs (U.table upstream.old) (world_of V.accepts anchors.now limits.now now) message.now
+        (λ verdict. told_by verdict.state verdict.ede (option_map (λ why. reason why.group why.shown) verdict.why) verdict.questions) result }
+    ensures sound { IfOk result (λ verdict. SoundIfSecure V.accepts anchors.now now message.now
+        (told_by verdict.state verdict.ede (option_map (λ why. reason why.group why.shown) verdict.why) verdict.questions)) }
+    ensures counted { IfOk result (λ verdict. U.asked upstream.new ≡ risen_by (U.asked upstream.old) verdict.questions) }
+    ensures later { U.faults upstream.old ≤ U.faults upstream.new }
+    ensures same_table { U.table upstream.new ≡ U.table upstream.old }
+{
+    let t = Timestamp::from_seconds(now);
+    match message.sections(alloc) {
+        Ok(sections) => on_sections::<V, U>(
+            alloc,
+            anchors.as_slice(),
+            limits,
+            t,
+            message,
+            sections,
+            upstream,
+        ),
+        Err(MessageError::ParseError) => Err(Error::ParseError),
+        Err(MessageError::NoMemory) => Err(Error::NoMemory),
+    }
+}
+
+/// The verdict on a message by its sections.
+fn on_sections<V: Verifier, U: Upstream>(
+    alloc: Global,
+    anchors: &[Record],
+    limits: &Limits,
+    t: Timestamp,
+    message: &Message,
+    sections: Sections,
+    upstream: &mut U,
+) -> Result<Verdict<V>, Error>
+    requires { sections_of message.now ≡ Some sections }
+    ensures judged { JudgedAs (U.table upstream.old) (with_replies V.accepts anchors.now (limits.now.max_bad_signatures + 1) t) message.now
+        (λ verdict. told_by verdict.state verdict.ede (option_map (λ why. reason why.group why.shown) verdict.why) verdict.questions) result }
+    ensures counted { IfOk result (λ verdict. U.asked upstream.new ≡ risen_by (U.asked upstream.old) verdict.questions) }
+    ensures later { U.faults upstream.old ≤ U.faults upstream.new }
+    ensures same_table { U.table upstream.new ≡ U.table upstream.old }
+{
+    let Sections {
+        question,
+        answer,
+        authority,
+    } = sections;
+    let answers = groups(alloc, answer)?;
+    if is_any_bare_alias(answers.as_slice()) {
+        return Ok(bogus(Cause::NotBuilt, 0));
+    }
+    let authorities = groups(alloc, authority)?;
+    let both = find_both::<V, U>(
+        alloc,
+        anchors,
+        limits,
+        t,
+        answers.as_slice(),
+        authorities.as_slice(),
+        upstream,
+    )?;
+    let BothFound { found, questions } = both;
+    match found {
+        Found::OneBogus(cause) => Ok(bogus(cause, questions)),
+        Found::All(found) => on_questions::<V>(
+            alloc,
+            anchors,
+            t,
+            message,
+            question.as_slice(),
+            answers.as_slice(),
+            found,
+            questions,
+        ),
+    }
+}
+
+/// Whether any group is a bare alias.
+fn is_any_bare_alias(groups: &[Group]) -> bool
+    ensures { result ≡ list_any bare_alias groups.now }
+{
+    groups.iter().any(is_bare_alias)
+}
+
+/// The verdict on a message none of whose groups is bogus.
+fn on_questions<V: Verifier>(
+    alloc: Global,
+    anchors: &[Record],
+    t: Timestamp,
+    message: &Message,
+    questions: &[Question],
+    answers: &[Group],
+    found: Vec<Finding>,
+    asked: usize,
+) -> Result<Verdict<V>, Error>
+    requires { (room : ℕ) × (replies : Place → Option (List ℕ)) × (found.items ≡ map (finding (with_replies V.accepts anchors.now room t replies)) answers.now) }
+    ensures { (room : ℕ) (replies : Place → Option (List ℕ)) → found.items ≡ map (finding (with_replies V.accepts anchors.now room t replies)) answers.now
+        → Says (λ verdict. told_by verdict.state verdict.ede (option_map (λ why. reason why.group why.shown) verdict.why) verdict.questions)
+        (verdict_on_questions (with_replies V.accepts anchors.now room t replies) message.now questions.now answers.now asked) result }
+{
+    if questions.len() != 1 {
+        return Err(Error::FormError);
+    }
+    Ok(on_question::<V>(
+        alloc,
+        anchors,
+        t,
+        message,
+        &questions[0],
+        answers,
+        found,
+        asked,
+    )?)
+}
+
+/// The verdict on a message with this question.
+fn on_question<V: Verifier>(
+    alloc: Global,
+    anchors: &[Record],
+    t: Timestamp,
+    message: &Message,
+    question: &Question,
+    answers: &[Group],
+    found: Vec<Finding>,
+    asked: usize,
+) -> Result<Verdict<V>, NoMemory>
+    requires { (room : ℕ) × (replies : Place → Option (List ℕ)) × (found.items ≡ map (finding (with_replies V.accepts anchors.now room t replies)) answers.now) }
+    ensures { IfOk result (λ verdict. (room : ℕ) (replies : Place → Option (List ℕ)) → found.items ≡ map (finding (with_replies V.accepts anchors.now room t replies)) answers.now
+        → told_by verdict.state verdict.ede (option_map (λ why. reason why.group why.shown) verdict.why) verdict.questions
+        ≡ told_judgement (judgement (with_replies V.accepts anchors.now room t replies) message.now question.now answers.now) asked) }
+{
+    if is_answered_at_name(alloc, anchors, message, question, answers)? {
+        answered::<V>(anchors, t, question, answers, found, asked)
+    } else {
+        Ok(bogus(Cause::NotBuilt, asked))
+    }
+}
+
+/// Whether a message is answered at its question's own name, by a set of the type that is asked for.
+fn is_answered_at_name(
+    alloc: Global,
+    anchors: &[Record],
+    message: &Message,
+    question: &Question,
+    answers: &[Group],
+) -> Result<bool, NoMemory>
+    ensures { IfOk result (λ yes. yes ≡ not (list_any (leads_on anchors.now question.now) answers.now) && no_error message.now && not (question.now.rtype == ANY)) }
+{
+    if is_any_leading_on(anchors, question, answers)? {
+        return Ok(false);
+    }
+    let fine = is_no_error(alloc, message)?;
+    Ok(fine && question.qtype() != Rtype::ANY)
+}
