@@ -1,0 +1,4 @@
+pub mod VerdictLaws
+pub mod OutcomeLaws
+pub mod AnswerLoop
+pub mod Top

@@ -1,0 +1,80 @@
+-- Lemmas for the top calls.
+use Rattle.std.proofs.Common.{◌≡◌, ◌↔◌, ℕ, List, [], ◌∷◌, ◌++◌, ◌<◌, ◌≤◌, ◌+◌, length, get_or, Option, Some, None, Result, Ok, Err, IfSome, IsTrue, map, Bool, true, false, refl, sym, ap, ◌∙◌, subst, append-nil, arith}
+use Rattle.std.specs.Prelude.{nat_lt, bytes_eq}
+use Rattle.std.specs.Bool.{OnFalse}
+use Rattle.std.specs.Io.KnownBytes.{Consumes, IsAtEnd}
+use Rattle.std.proofs.KnownBytes.{Consumes-whole}
+use Rattle.std.proofs.lemmas.Bool.{lt-ltb, ltb-true, ltb-false}
+use Rattle.std.proofs.lemmas.List.{take-append-le, length-append}
+use Rattle.std.proofs.lemmas.Slice.Eq.{bytes_eq-Decides}
+use Rattle.dsec_outside.specs.declared.whole.TheConstants.{LIMIT}
+use Rattle.dsec_script.specs.declared.script.Script.{Script}
+use Rattle.dsec_script.specs.declared.error.Word.TheVariants as words
+use Rattle.dsec_script.specs.declared.error.Refused.{Refused}
+use Rattle.dsec_script.specs.declared.error.ScriptError.{ScriptError}
+use Rattle.dsec_script.specs.declared.error.ScriptError.TheVariants as errors
+use Rattle.dsec_script.specs.Place.{wants_memory}
+use Rattle.dsec_script.specs.Script.{script_of, line_past}
+use Rattle.dsec_spec.specs.Accepts.{Accepts}
+use Rattle.dsec_answer.specs.Headline.{Answered, RefusedAt, Done}
+
+-- past the limit the rest doesn't count
+same_script : (v more : List ℕ) → LIMIT < length v → script_of (v ++ more) ≡ script_of v
+unfolding script_of line_past
+same_script v more l =
+    let n : length (v ++ more) ≡ length v + length more = length-append v more in
+    rw (lt-ltb LIMIT (length (v ++ more)) (omega (arith, n, l)), lt-ltb LIMIT (length v) l, take-append-le LIMIT v more (omega (arith, l))) refl
+
+-- what was read says what all says
+pub told_script : (left rest : Option (List ℕ)) (v : List ℕ) → Consumes left rest v → (length v ≤ LIMIT → IsAtEnd rest) → IfSome left (λ xs. script_of xs ≡ script_of v)
+told_script None rest v c e = tt
+told_script (Some xs) None v c e = absurd c
+told_script (Some xs) (Some more) v c e = by (nat_lt LIMIT (length v)) refl
+  where
+    by : (t : Bool) → nat_lt LIMIT (length v) ≡ t → script_of xs ≡ script_of v
+    by true t = ap script_of c ∙ same_script v more (ltb-true LIMIT (length v) t)
+    by false t = ap script_of (c ∙ ap (λ z. v ++ z) (e (ltb-false LIMIT (length v) t)) ∙ append-nil v)
+
+past_limit : (v : List ℕ) → nat_lt LIMIT (length v) ≡ true → script_of v ≡ Err (errors.Refused (record { line = line_past v; word = words.Size }))
+unfolding script_of
+past_limit v t = rw t refl
+
+no_refusal : (x : Script) (y : ScriptError) (read : Result Script ScriptError) → read ≡ Ok x → read ≡ Err y → ⊥
+no_refusal x y read h k = cc
+
+-- a script is within the limit
+within : (v : List ℕ) (script : Script) → script_of v ≡ Ok script → length v ≤ LIMIT
+within v script h = by (nat_lt LIMIT (length v)) refl
+  where
+    by : (t : Bool) → nat_lt LIMIT (length v) ≡ t → length v ≤ LIMIT
+    by true t = absurd (no_refusal _ _ _ h (past_limit v t))
+    by false t = ltb-false LIMIT (length v) t
+
+pub done_of : (accepts : Accepts) (left rest before after : Option (List ℕ)) (v : List ℕ) → Consumes left rest v → (length v ≤ LIMIT → IsAtEnd rest) → Answered accepts v before after → Done accepts left rest before after
+done_of accepts left rest before after v c e a = record { content = v; read = c; whole = e (within v a.script a.reads); answered = a }
+
+pub told_answer : (accepts : Accepts) (left rest before after : Option (List ℕ)) → Done accepts left rest before after → IfSome left (λ xs. Answered accepts xs before after)
+told_answer accepts left rest before after d = Consumes-whole left rest d.content (λ xs. Answered accepts xs before after) d.read d.whole d.answered
+
+pub told_refusal : (left rest before after : Option (List ℕ)) (v : List ℕ) → Consumes left rest v → (length v ≤ LIMIT → IsAtEnd rest) → RefusedAt v before after → IfSome left (λ xs. RefusedAt xs before after)
+told_refusal None rest before after v c e r = tt
+told_refusal (Some xs) rest before after v c e r =
+    let s : script_of xs ≡ script_of v = told_script (Some xs) rest v c e in
+    record { refused = r.refused; reads = s ∙ r.reads; sent = r.sent }
+
+-- a refusal that was told is the script's
+pub refused_reads : (e : ScriptError) (r : Refused) (read : Result Script ScriptError) → e ≡ errors.Refused r → OnFalse (wants_memory e) (read ≡ Err e) → read ≡ Err (errors.Refused r)
+refused_reads e r read is f = subst (λ (x : ScriptError). OnFalse (wants_memory x) (read ≡ Err x)) is f
+
+pub one_word : {X : Type 0} (view : X → List ℕ) (words : List X) (d : X) → 1 ≤ length words → length words < 2 → map view words ≡ view (get_or words 0 d) ∷ []
+one_word view [] d l h = absurd (omega (arith, l))
+one_word view (x ∷ []) d l h = refl
+one_word view (x ∷ y ∷ zs) d l h = absurd (omega (arith, h))
+
+pub is_word : (words : List (List ℕ)) (word text : List ℕ) (r : Bool) → words ≡ word ∷ [] → r ≡ bytes_eq word text → IsTrue r ↔ (words ≡ text ∷ [])
+is_word words word text r ws h =
+    let d = bytes_eq-Decides word text in
+    (λ t. ws ∙ ap (λ w. w ∷ []) (d.0 (sym h ∙ t)), λ e. h ∙ d.1 (head_same (sym ws ∙ e)))
+  where
+    head_same : word ∷ [] ≡ text ∷ [] → word ≡ text
+    head_same e = cc

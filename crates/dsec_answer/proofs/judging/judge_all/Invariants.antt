@@ -1,0 +1,12 @@
+use Rattle.std.proofs.Common.{◌≡◌, ◌≤◌, take}
+use Rattle.std.specs.Io.KnownBytes.{Appends}
+use Rattle.dsec_answer.specs.Outcomes.{answer_text}
+use Rattle.dsec_answer.proofs.judging.judge_all.Given as goal
+
+abbrev pub invariant-loop-item : goal.invariant-loop-item
+invariant-loop-item g l =
+    (g.K.Sink.faults l.fn.sink ≤ g.K.Sink.faults l.sink)
+    × (l.index ≡ l.item-index)
+    × (l.context ≡ l.fn.context)
+    × (l.upstream.replies ≡ l.fn.upstream.replies)
+    × Appends (g.K.Sink.written l.fn.sink) (g.K.Sink.written l.sink) (answer_text g.V.Verifier.accepts l.fn.context.anchors l.fn.context.limits l.fn.upstream.replies (take l.item-index l.items))

@@ -1,0 +1,50 @@
+-- What `run` promises.
+use Rattle.std.specs.Prelude.{◌≡◌, ℕ, List, Option, Ok, Err}
+use Rattle.std.specs.Io.KnownBytes.{Appends, Consumes, IsAtEnd, Keeps}
+use Rattle.dsec_spec.specs.Accepts.{Accepts}
+use Rattle.dsec_spec.specs.Outside.{SentFront}
+use Rattle.dsec_script.specs.declared.error.Refused.{Refused}
+use Rattle.dsec_script.specs.declared.error.ScriptError.TheVariants as errors
+use Rattle.dsec_script.specs.declared.script.Script.{Script}
+use Rattle.dsec_script.specs.Script.{script_of}
+use Rattle.dsec_answer.specs.Outcomes.{IsAnswer}
+use Rattle.dsec_answer.specs.Words.{usage as usage_text, IsValidate, refused_text}
+
+-- the content is a script, and the text of the outcomes of its messages went out
+pub record Answered (accepts : Accepts) (content : List ℕ) (before after : Option (List ℕ)) : Type 0 where
+  pub script : Script
+  pub reads : script_of content ≡ Ok script
+  pub text : List ℕ
+  pub answer : IsAnswer accepts script text
+  pub sent : Appends before after text
+
+-- the content is refused, and its first refused line was named
+pub record RefusedAt (content : List ℕ) (before after : Option (List ℕ)) : Type 0 where
+  pub refused : Refused
+  pub reads : script_of content ≡ Err (errors.Refused refused)
+  pub sent : Appends before after (refused_text refused)
+
+-- status 0: the source was read to its end, and what it had was answered
+pub record Done (accepts : Accepts) (left rest before after : Option (List ℕ)) : Type 0 where
+  pub content : List ℕ
+  pub read : Consumes left rest content
+  pub whole : IsAtEnd rest
+  pub answered : Answered accepts content before after
+
+-- status 3: what was read is refused
+pub record Refuses (left rest before after : Option (List ℕ)) : Type 0 where
+  pub content : List ℕ
+  pub read : Consumes left rest content
+  pub refused : RefusedAt content before after
+
+-- of what was read, this went out: nothing, or a front of the line that names the refused one, or of the text of the outcomes
+pub data SentFor (accepts : Accepts) (content : List ℕ) (before after : Option (List ℕ)) : Type 0 where
+  nothing : Keeps before after → SentFor accepts content before after
+  refused : (r : Refused) → script_of content ≡ Err (errors.Refused r) → SentFront before after (refused_text r) → SentFor accepts content before after
+  answer : (script : Script) → script_of content ≡ Ok script → (text : List ℕ) → IsAnswer accepts script text → SentFront before after text → SentFor accepts content before after
+
+-- at any status this went out: nothing, or a front of the usage, or what a script makes
+pub data WentOut (accepts : Accepts) (words : List (List ℕ)) (left rest before after : Option (List ℕ)) : Type 0 where
+  nothing : Keeps before after → WentOut accepts words left rest before after
+  usage : (IsValidate words → ⊥) → SentFront before after usage_text → WentOut accepts words left rest before after
+  script : IsValidate words → (content : List ℕ) → Consumes left rest content → SentFor accepts content before after → WentOut accepts words left rest before after

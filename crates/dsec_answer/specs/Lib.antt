@@ -1,0 +1,4 @@
+pub mod Setting
+pub mod Outcomes
+pub mod Words
+pub mod Headline

@@ -1,0 +1,111 @@
+//! Messages judged one after the other, and their outcomes written.
+
+ghost use Rattle.std.specs.Prelude.{◌≡◌, ◌≤◌, IfOk, OnOk, IsErrOf};
+ghost use Rattle.std.specs.Io.KnownBytes.{Appends};
+ghost use Rattle.dsec_spec.specs.Outside.{Rose, SentFront};
+ghost use Rattle.dsec_outcome.specs.Texts.{outcome_text};
+ghost use Rattle.dsec_answer.specs.Outcomes.{answer_text, outcome_of};
+ghost use Rattle.dsec_answer.specs.declared.judging.Halt.TheVariants.{Memory};
+
+use crate::context::ValidationContext;
+use dsec_crypto::Verifier;
+use dsec_judge::Error;
+use dsec_name::NoMemory;
+use dsec_outcome::{Outcome, text};
+use dsec_outside::{Failed, Sink, TableUpstream, write_all};
+use dsec_script::Item;
+use dsec_wire::Message;
+use std::alloc::Global;
+
+/// Why not all was written.
+#[derive(Clone, Copy, Debug, PartialEq, Eq)]
+pub enum Halt {
+    /// A write failed.
+    Write,
+    /// There was no memory left.
+    Memory,
+}
+
+impl From<NoMemory> for Halt {
+    ghost from_gives = { λ _ halt. halt ≡ Memory };
+
+    fn from(_error: NoMemory) -> Halt {
+        Halt::Memory
+    }
+}
+
+/// Writes a text.
+pub fn send<K: Sink>(sink: &mut K, octets: &[u8]) -> Result<(), Halt>
+    ensures later { K.faults sink.old ≤ K.faults sink.new }
+    ensures write { IsErrOf result Halt.Write → Rose (K.faults sink.old) (K.faults sink.new) }
+    ensures only { IsErrOf result Halt.Memory → ⊥ }
+    ensures sent { OnOk result (Appends (K.written sink.old) (K.written sink.new) octets.now) }
+    ensures front { SentFront (K.written sink.old) (K.written sink.new) octets.now }
+{
+    match write_all(sink, octets) {
+        Ok(()) => Ok(()),
+        Err(Failed) => Err(Halt::Write),
+    }
+}
+
+/// What comes of a message at its moment.
+fn judge_one<V: Verifier>(
+    alloc: Global,
+    context: &mut ValidationContext<V>,
+    upstream: &mut TableUpstream,
+    item: &Item,
+) -> Result<Outcome<V>, NoMemory>
+    ensures exact { IfOk result (λ outcome. outcome ≡ outcome_of V.accepts context.old.anchors context.old.limits upstream.old.replies item.now.seconds item.now.octets) }
+    ensures same_context { context.new ≡ context.old }
+    ensures same_table { upstream.new.replies ≡ upstream.old.replies }
+{
+    let octets = item.octets.as_slice().to_vec(alloc)?;
+    let Ok(mut message) = Message::from_octets(octets) else {
+        return Ok(Outcome::refused(Error::ShortMessage));
+    };
+    match context.validate_msg(alloc, &mut message, upstream, item.seconds) {
+        Ok(verdict) => Ok(Outcome::judged(verdict)),
+        Err(Error::NoMemory) => Err(NoMemory),
+        Err(Error::FormError) => Ok(Outcome::refused(Error::FormError)),
+        Err(Error::ParseError) => Ok(Outcome::refused(Error::ParseError)),
+        Err(Error::ShortMessage) => Ok(Outcome::refused(Error::ShortMessage)),
+    }
+}
+
+/// The text of what comes of a message at its moment.
+fn text_of_one<V: Verifier>(
+    alloc: Global,
+    context: &mut ValidationContext<V>,
+    upstream: &mut TableUpstream,
+    index: u64,
+    item: &Item,
+) -> Result<Vec<u8>, NoMemory>
+    ensures exact { IfOk result (λ text. text.items ≡ outcome_text index (outcome_of V.accepts context.old.anchors context.old.limits upstream.old.replies item.now.seconds item.now.octets)) }
+    ensures same_context { context.new ≡ context.old }
+    ensures same_table { upstream.new.replies ≡ upstream.old.replies }
+{
+    let outcome = judge_one(alloc, context, upstream, item)?;
+    text(alloc, index, &outcome)
+}
+
+/// Judges messages and writes the text of each outcome.
+pub fn judge_all<V: Verifier, K: Sink>(
+    alloc: Global,
+    context: &mut ValidationContext<V>,
+    upstream: &mut TableUpstream,
+    items: &[Item],
+    sink: &mut K,
+) -> Result<(), Halt>
+    ensures later { K.faults sink.old ≤ K.faults sink.new }
+    ensures write { IsErrOf result Halt.Write → Rose (K.faults sink.old) (K.faults sink.new) }
+    ensures sent { OnOk result (Appends (K.written sink.old) (K.written sink.new) (answer_text V.accepts context.old.anchors context.old.limits upstream.old.replies items.now)) }
+    ensures front { SentFront (K.written sink.old) (K.written sink.new) (answer_text V.accepts context.old.anchors context.old.limits upstream.old.replies items.now) }
+{
+    let mut index = 0u64;
+    for item in items {
+        let out = text_of_one(alloc, context, upstream, index, item)?;
+        send(sink, &out)?;
+        index += 1;
+    }
+    Ok(())
+}

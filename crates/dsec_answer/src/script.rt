@@ -1,0 +1,117 @@
+//! Scripts judged, or the first refused line of one named.
+
+ghost use Rattle.std.specs.Prelude.{◌≡◌, ◌≤◌, ◌⊎◌, IfOk, OnOk, IsErrOf};
+ghost use Rattle.std.specs.Io.KnownBytes.{Appends};
+ghost use Rattle.dsec_spec.specs.Outside.{Rose, SentFront};
+ghost use Rattle.dsec_answer.specs.Headline.{Answered, RefusedAt, SentFor};
+ghost use Rattle.dsec_answer.specs.Outcomes.{script_text};
+ghost use Rattle.dsec_answer.specs.Words.{refused_text, word_text};
+
+use crate::context::ValidationContext;
+use crate::judging::{Halt, judge_all, send};
+use dsec_crypto::Verifier;
+use dsec_name::NoMemory;
+use dsec_outside::{Sink, TableUpstream};
+use dsec_script::{Refused, Script, ScriptError, Word, read_script};
+use dsec_valbase::TrustAnchors;
+use std::alloc::Global;
+
+/// The status of a halt.
+pub fn status_of(halt: Halt) -> u8
+    ensures values { (result ≡ 5) ⊎ (result ≡ 6) }
+    ensures write { result ≡ 5 → halt ≡ Halt.Write }
+{
+    match halt {
+        Halt::Write => 5,
+        Halt::Memory => 6,
+    }
+}
+
+/// Judges a script's messages, over an upstream that answers by its replies.
+fn judge_script<V: Verifier, K: Sink>(
+    alloc: Global,
+    script: Script,
+    sink: &mut K,
+) -> Result<(), Halt>
+    ensures later { K.faults sink.old ≤ K.faults sink.new }
+    ensures write { IsErrOf result Halt.Write → Rose (K.faults sink.old) (K.faults sink.new) }
+    ensures sent { OnOk result (Appends (K.written sink.old) (K.written sink.new) (script_text V.accepts script)) }
+    ensures front { SentFront (K.written sink.old) (K.written sink.new) (script_text V.accepts script) }
+{
+    let mut context = ValidationContext::<V>::new(TrustAnchors::from_vec(
+        script.anchors.into_vec(),
+    ));
+    let mut upstream = TableUpstream::new(script.replies);
+    judge_all(
+        alloc,
+        &mut context,
+        &mut upstream,
+        script.items.as_slice(),
+        sink,
+    )
+}
+
+/// The word for what is wrong with a line.
+fn word_of(word: Word) -> &'static str
+    ensures { result.now ≡ word_text word }
+{
+    match word {
+        Word::Size => "size",
+        Word::Other => "other",
+        Word::Order => "order",
+        Word::Now => "now",
+        Word::Anchor => "anchor",
+        Word::Reply => "reply",
+        Word::Message => "message",
+        Word::End => "end",
+    }
+}
+
+/// The line that names a refused one.
+#[tactic(auto, unfolding(crate::specs::Words::refused_text))]
+fn refusal(alloc: Global, refused: Refused) -> Result<Vec<u8>, NoMemory>
+    ensures { IfOk result (λ text. text.items ≡ refused_text refused) }
+{
+    let line = refused.line;
+    let number = format!(in alloc; "{line}")?;
+    let mut out = Vec::new(alloc);
+    out.extend_from_slice(b"line ")?;
+    out.extend_from_slice(number.as_bytes())?;
+    out.extend_from_slice(b": ")?;
+    out.extend_from_slice(word_of(refused.word).as_bytes())?;
+    out.push(b'\n')?;
+    Ok(out)
+}
+
+/// Names a refused line.
+fn refuse<K: Sink>(alloc: Global, refused: Refused, sink: &mut K) -> Result<(), Halt>
+    ensures later { K.faults sink.old ≤ K.faults sink.new }
+    ensures write { IsErrOf result Halt.Write → Rose (K.faults sink.old) (K.faults sink.new) }
+    ensures sent { OnOk result (Appends (K.written sink.old) (K.written sink.new) (refused_text refused)) }
+    ensures front { SentFront (K.written sink.old) (K.written sink.new) (refused_text refused) }
+{
+    let out = refusal(alloc, refused)?;
+    send(sink, &out)
+}
+
+/// Judges the messages of a script and writes their outcomes, or names its first refused line; and gives the status.
+pub fn answer<V: Verifier, K: Sink>(alloc: Global, content: &[u8], sink: &mut K) -> u8
+    ensures later { K.faults sink.old ≤ K.faults sink.new }
+    ensures write { result ≡ 5 → Rose (K.faults sink.old) (K.faults sink.new) }
+    ensures done { result ≡ 0 → Answered V.accepts content.now (K.written sink.old) (K.written sink.new) }
+    ensures refused { result ≡ 3 → RefusedAt content.now (K.written sink.old) (K.written sink.new) }
+    ensures front { SentFor V.accepts content.now (K.written sink.old) (K.written sink.new) }
+    ensures statuses { (result ≡ 0) ⊎ ((result ≡ 3) ⊎ ((result ≡ 5) ⊎ (result ≡ 6))) }
+{
+    match read_script(alloc, content) {
+        Ok(script) => match judge_script::<V, K>(alloc, script, sink) {
+            Ok(()) => 0,
+            Err(halt) => status_of(halt),
+        },
+        Err(ScriptError::Refused(refused)) => match refuse(alloc, refused, sink) {
+            Ok(()) => 3,
+            Err(halt) => status_of(halt),
+        },
+        Err(ScriptError::NoMemory) => 6,
+    }
+}
