@@ -1,0 +1,122 @@
+"""Makes scripts of many messages, runs a program on them and prints what it costs.
+
+usage: validate.py PROGRAM
+"""
+
+import hashlib
+import os
+import subprocess
+import sys
+import tempfile
+
+RUNS = 3
+ZONE = b"\x07example\0"
+WWW = b"\x03www" + ZONE
+KEY = bytes.fromhex("0101030d0102")
+TAG = 1296
+
+
+def number(value, octets):
+    return value.to_bytes(octets, "big")
+
+
+def record(owner, rtype, data):
+    return owner + number(rtype, 2) + number(1, 2) + number(3600, 4) + number(len(data), 2) + data
+
+
+def signature(rtype, labels, records, tag=TAG, good=True):
+    """The data of a signature over a set in canonical form."""
+    head = (number(rtype, 2) + bytes([13, labels]) + number(3600, 4) + number(1000, 4) + number(0, 4)
+            + number(tag, 2) + ZONE)
+    return head + (hashlib.sha256(KEY + head + b"".join(records)).digest() if good else bytes(32))
+
+
+def message(name, rtype, answers):
+    header = number(0, 2) + number(0x8400, 2) + number(1, 2) + number(len(answers), 2) + bytes(4)
+    return header + name + number(rtype, 2) + number(1, 2) + b"".join(answers)
+
+
+def keys():
+    own = record(ZONE, 48, KEY)
+    return message(ZONE, 48, [own, record(ZONE, 46, signature(48, 1, [own]))])
+
+
+def small():
+    """One address and its signature."""
+    own = record(WWW, 1, bytes([192, 0, 2, 1]))
+    return message(WWW, 1, [own, record(WWW, 46, signature(1, 2, [own]))])
+
+
+def long():
+    """16 addresses and four signatures: two of other keys, a bad one and a good one. Owners are pointers."""
+    owner = b"\xc0\x0c"
+    datas = [bytes([192, 0, 2, last]) for last in range(16)]
+    whole = [record(WWW, 1, data) for data in datas]
+    signatures = [signature(1, 2, whole, tag=1), signature(1, 2, whole, tag=2),
+                  signature(1, 2, whole, good=False), signature(1, 2, whole)]
+    return message(WWW, 1, [record(owner, 1, data) for data in reversed(datas)]
+                   + [record(owner, 46, data) for data in signatures])
+
+
+def write_script(path, octets, count):
+    with open(path, "w") as out:
+        out.write("now 500\nanchor example. 3600 IN DNSKEY 257 3 13 AQI=\n")
+        out.write("reply example. DNSKEY %s\n" % keys().hex())
+        for _ in range(count):
+            out.write("message %s\n" % octets.hex())
+
+
+def cpu(words, source=os.devnull):
+    """The least CPU time of some runs in seconds, and how many times as much the greatest is."""
+    times = []
+    for _ in range(RUNS):
+        with open(source, "rb") as stdin:
+            child = subprocess.Popen(words, stdin=stdin, stdout=subprocess.DEVNULL)
+            _, status, usage = os.wait4(child.pid, 0)
+            child.returncode = os.waitstatus_to_exitcode(status)
+        if child.returncode != 0:
+            sys.exit("%s: status %d" % (words[0], child.returncode))
+        times.append(usage.ru_utime + usage.ru_stime)
+    return min(times), max(times) / min(times)
+
+
+def memory(words, source):
+    """The most memory of a run in octets: measured by a process that is small itself."""
+    with open(source, "rb") as stdin:
+        run = subprocess.run(["/usr/bin/time", "-f", "%M"] + words, stdin=stdin, stdout=subprocess.DEVNULL,
+                             stderr=subprocess.PIPE, check=True)
+    return 1024 * int(run.stderr.split()[-1])
+
+
+def outcomes(program, source):
+    with open(source, "rb") as stdin:
+        out = subprocess.run([program, "validate"], stdin=stdin, stdout=subprocess.PIPE, check=True).stdout
+    return out.count(b" Secure - ")
+
+
+def main(program):
+    with tempfile.TemporaryDirectory() as folder:
+        zeros = os.path.join(folder, "zeros")
+        with open(zeros, "wb") as out:
+            out.truncate(100 << 20)
+        yard, noise = cpu(["openssl", "dgst", "-sha256", zeros])
+        print("yardstick: SHA-256 of 100 MiB in %.3f s CPU (noise %.2f)" % (yard, noise))
+        script = os.path.join(folder, "script")
+        for name, octets, counts in (("small", small(), (1000, 10000, 30000)),
+                                     ("long", long(), (1000, 10000, 14000))):
+            before = None
+            for count in counts:
+                write_script(script, octets, count)
+                size = os.path.getsize(script)
+                if outcomes(program, script) != count:
+                    sys.exit("not all messages are secure")
+                time, noise = cpu([program, "validate"], script)
+                most = memory([program, "validate"], script)
+                growth = "" if before is None else ", %.2f of linear growth" % (time / before[0] / (count / before[1]))
+                print("%s, %d messages, %d octets: %.3f s CPU (noise %.2f), %.1f us a message, %.2f of the yardstick, "
+                      "%.1f MiB, %.1f of the script%s" % (name, count, size, time, noise, 1e6 * time / count, time / yard,
+                                                          most / (1 << 20), most / size, growth))
+                before = time, count
+
+
+main(sys.argv[1])

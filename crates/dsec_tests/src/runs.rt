@@ -1,0 +1,162 @@
+//! What `run` writes for words and scripts, and its status.
+
+use crate::rows::{ANSWERS, KEY_SETS, Row, SHAPES, SIGNATURES};
+use crate::scripts::{READ, REFUSED, Script};
+use crate::vectors::ANCHOR;
+use dsec_answer::run;
+use dsec_outside::{LIMIT, OctetsSink, OctetsSource};
+use std::alloc::Global;
+use std::process::Abort;
+use std::test::Fail;
+
+/// What is written for words that name no command.
+const USAGE: &str = "usage: dsec validate|sign|reply|ask|gen\n";
+
+/// The parts as one text.
+pub(crate) fn joined(alloc: Global, parts: &[&str]) -> Result<String, Fail> {
+    let mut text = String::new(alloc);
+    for part in parts {
+        text.push_str(part)?;
+    }
+    Ok(text)
+}
+
+/// The words as strings.
+pub(crate) fn owned(alloc: Global, words: &[&str]) -> Result<Vec<String>, Fail> {
+    let mut strings = Vec::new(alloc);
+    for word in words {
+        strings.push(String::from_str(alloc, word)?)?;
+    }
+    Ok(strings)
+}
+
+/// Runs the command of these words, and asserts what is written and the status.
+fn assert_run(
+    rt: &impl Abort,
+    alloc: Global,
+    words: &[&str],
+    source: &[u8],
+    want: (&str, u8),
+    shows: &str,
+) -> Result<(), Fail> {
+    let words = owned(alloc, words)?;
+    let mut sink = OctetsSink::new(alloc);
+    let mut source = OctetsSource { rest: source };
+    let status = run(alloc, &words, &mut source, &mut sink);
+    assert_eq!(rt; status, want.1, "{shows}");
+    assert_eq!(rt; sink.octets.as_slice(), want.0.as_bytes(), "{shows}");
+    Ok(())
+}
+
+/// The script of a row.
+fn script_of(alloc: Global, row: &Row) -> Result<String, Fail> {
+    let (_, now, keys, message, _, _) = *row;
+    let parts = [
+        "now ",
+        now,
+        "\n",
+        ANCHOR,
+        "reply example. DNSKEY ",
+        keys,
+        "\nmessage ",
+        message,
+        "\n",
+    ];
+    joined(alloc, &parts)
+}
+
+/// What is written for a row.
+fn written_for(alloc: Global, row: &Row) -> Result<String, Fail> {
+    let (_, _, _, _, first, links) = *row;
+    let mut text = joined(alloc, &["0 ", first, "\n"])?;
+    for link in links {
+        text.push_str("link 0 ")?;
+        text.push_str(link)?;
+        text.push_str("\n")?;
+    }
+    Ok(text)
+}
+
+/// Runs the script of each row.
+fn assert_rows(rt: &impl Abort, alloc: Global, rows: &[Row]) -> Result<(), Fail> {
+    for row in rows {
+        let script = script_of(alloc, row)?;
+        let want = written_for(alloc, row)?;
+        let want = (want.as_str(), 0);
+        assert_run(rt, alloc, &["validate"], script.as_bytes(), want, row.0)?;
+    }
+    Ok(())
+}
+
+#[test]
+fn judges_signatures(rt: HostRuntime) -> Result<(), Fail> {
+    assert_rows(&rt, rt.alloc(), &SIGNATURES)
+}
+
+#[test]
+fn judges_key_sets(rt: HostRuntime) -> Result<(), Fail> {
+    assert_rows(&rt, rt.alloc(), &KEY_SETS)
+}
+
+#[test]
+fn judges_shapes(rt: HostRuntime) -> Result<(), Fail> {
+    assert_rows(&rt, rt.alloc(), &SHAPES)
+}
+
+#[test]
+fn judges_answers(rt: HostRuntime) -> Result<(), Fail> {
+    assert_rows(&rt, rt.alloc(), &ANSWERS)
+}
+
+/// Runs each script.
+fn assert_scripts(rt: &impl Abort, alloc: Global, scripts: &[Script]) -> Result<(), Fail> {
+    for (shows, source, output, status) in scripts {
+        let source = joined(alloc, source)?;
+        let output = joined(alloc, output)?;
+        let want = (output.as_str(), *status);
+        assert_run(rt, alloc, &["validate"], source.as_bytes(), want, shows)?;
+    }
+    Ok(())
+}
+
+#[test]
+fn reads_scripts(rt: HostRuntime) -> Result<(), Fail> {
+    assert_scripts(&rt, rt.alloc(), &READ)
+}
+
+#[test]
+fn refuses_scripts(rt: HostRuntime) -> Result<(), Fail> {
+    assert_scripts(&rt, rt.alloc(), &REFUSED)
+}
+
+#[test]
+fn refuses_a_source_past_its_limit(rt: HostRuntime) -> Result<(), Fail> {
+    let alloc = rt.alloc();
+    let mut source = Vec::with_capacity(alloc, LIMIT + 1)?;
+    source.extend_from_slice(b"now 1\nfoo\n#")?;
+    source.resize(LIMIT, b' ')?;
+    let want = ("line 2: other\n", 3);
+    assert_run(&rt, alloc, &["validate"], &source, want, "at the limit")?;
+    source.push(b' ')?;
+    let want = ("line 3: size\n", 3);
+    assert_run(&rt, alloc, &["validate"], &source, want, "past the limit")
+}
+
+/// Words that name no command, and what they show.
+const WORDS: [(&str, &[&str]); 7] = [
+    ("no word", &[]),
+    ("another word", &["verify"]),
+    ("a command that is left out", &["sign"]),
+    ("a word too many", &["validate", "x"]),
+    ("the word twice", &["validate", "validate"]),
+    ("a letter in upper case", &["Validate"]),
+    ("an empty word", &[""]),
+];
+
+#[test]
+fn refuses_words(rt: HostRuntime) -> Result<(), Fail> {
+    for (shows, words) in WORDS {
+        assert_run(&rt, rt.alloc(), words, b"now 1\n", (USAGE, 2), shows)?;
+    }
+    Ok(())
+}
