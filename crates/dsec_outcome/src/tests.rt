@@ -69,7 +69,7 @@ fn is_line(
 
 #[test]
 fn verdicts(rt: HostRuntime) -> Result<(), Fail> {
-    let rows: [(ValidationState, Option<Cause>, u32, &str); 4] = [
+    let rows: [(ValidationState, Option<Cause>, usize, &str); 4] = [
         (
             ValidationState::Secure,
             None,
