@@ -7,6 +7,7 @@ pub mod RecordDataLemmas
 pub mod CanonicalDataLemmas
 pub mod StepLemmas
 pub mod RecordLemmas
+pub mod RecordViewLemmas
 pub mod HeadLemmas
 pub mod NamesInMessages
 pub mod AscendingOrder

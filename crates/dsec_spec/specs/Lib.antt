@@ -4,6 +4,7 @@ pub mod Numbers
 pub mod Layouts
 pub mod RecordData
 pub mod Records
+pub mod RecordViews
 pub mod WireNames
 pub mod Messages
 pub mod Algorithms
