@@ -8,4 +8,5 @@ pub mod ManyLoop
 pub mod SectionReading
 pub mod KeyTags
 pub mod RrsigReading
+pub mod ViewsFound
 pub mod CanonicalLoops

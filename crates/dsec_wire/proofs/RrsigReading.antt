@@ -1,24 +1,21 @@
 -- The data of an RRSIG record, read in steps: 18 octets, the signer's name and the signature.
-use Rattle.std.proofs.Common.{◌≡◌, ◌↔◌, ℕ, zero, suc, Bool, true, false, not, eqb, ◌+◌, ◌<◌, ◌≤◌, List, [], ◌∷◌, length, drop, Option, Some, None, refl, sym, ap, ◌∙◌, subst, arith, length-append, length-drop}
-use Rattle.std.specs.Prelude.{IsSome, slice_get}
-use Rattle.std.specs.Option.{option_map}
+use Rattle.std.proofs.Common.{◌≡◌, ℕ, zero, suc, ◌<◌, ◌≤◌, List, [], ◌∷◌, length, drop, Option, Some, None, refl, ap, ◌∙◌, arith, length-append}
+use Rattle.std.specs.Prelude.{slice_get}
 use Rattle.std.proofs.lemmas.List.{drop_at}
-use Rattle.std.proofs.lemmas.Bool.{eqb-true}
 use Rattle.std.proofs.lemmas.Option.{same_Some}
 use Rattle.dsec_spec.specs.Names.{Labels}
 use Rattle.dsec_spec.specs.Numbers.{RRSIG}
 use Rattle.dsec_spec.specs.Layouts.{octets, lowered_name, rest}
-use Rattle.dsec_spec.specs.Reading.{◌>>=◌, u32_in, u16_at, u32_at}
+use Rattle.dsec_spec.specs.Reading.{◌>>=◌, u16_at, u32_at}
 use Rattle.dsec_spec.specs.RecordData.{Part, lowered, plain, IsReadable, octets_in, name_in, part_in, parts_in}
 use Rattle.dsec_spec.specs.Records as records
 use Rattle.dsec_spec.specs.Records.{rrsig_of}
 use Rattle.dsec_spec.proofs.ReadingLemmas.{from_bind}
 use Rattle.dsec_spec.proofs.RecordDataLemmas.{parts_of-readable}
+use Rattle.dsec_spec.proofs.RecordViewLemmas.{long_number_there}
 use Rattle.dsec_spec.proofs.WireNameLemmas.{from_octets_in}
-use Rattle.dsec_wire.specs.declared.rrsig.Rrsig.{Rrsig}
 use Rattle.dsec_wire.specs.declared.rrsig.RrsigHead.{RrsigHead}
 use Rattle.dsec_wire.specs.RrsigHeads.{rrsig_head}
-use Rattle.dsec_wire.specs.Views.{rrsig_view}
 use Rattle.dsec_wire.proofs.SectionReading.{number_there}
 
 -- a signature of a head, and what follows it
@@ -70,16 +67,6 @@ octet_there [] i below = absurd (omega arith)
 octet_there (first ∷ x) zero below = (first, refl)
 octet_there (first ∷ x) (suc i) below = octet_there x i (omega arith)
 
-long_number_there : (m : List ℕ) (at : ℕ) → at + 4 ≤ length m → (n : ℕ) × (u32_at m at ≡ Some n)
-long_number_there m at fits = there (drop at m) (omega (arith, length-drop at m))
-  where
-    there : (x : List ℕ) → 4 ≤ length x → (n : ℕ) × (u32_in x ≡ Some n)
-    there [] long = absurd (omega arith)
-    there (a ∷ []) long = absurd (omega arith)
-    there (a ∷ b ∷ []) long = absurd (omega arith)
-    there (a ∷ b ∷ c ∷ []) long = absurd (omega arith)
-    there (a ∷ b ∷ c ∷ d ∷ x) long = (_, refl)
-
 head_there : (x : List ℕ) → 18 ≤ length x → (head : RrsigHead) × (rrsig_head x ≡ Some head)
 head_there x long =
     let a = number_there x 0 (omega arith) in
@@ -110,20 +97,3 @@ rrsig_from_readable x readable =
     let signer = signer_there x readable in
     let head = head_there x signer.0 in
     (rrsig_with head.0 signer.1.0, by_head x ∙ rw (head.1, signer.1.1) refl)
-
--- so a reader that gives what they say finds one
-pub rrsig_found : (rtype : ℕ) (x : List ℕ) (found : Option Rrsig) → rtype ≡ RRSIG → IsReadable rtype x → option_map rrsig_view found ≡ rrsig_of x → IsSome found ↔ (rtype ≡ RRSIG)
-rrsig_found rtype x (Some sig) is readable h = (λ yes. is, λ e. refl)
-rrsig_found rtype x None is readable h =
-    let some = rrsig_from_readable x (subst (λ (t : ℕ). IsReadable t x) is readable) in
-    absurd (not_both (rrsig_of x) some.0 (sym h) some.1)
-  where
-    not_both : {A : Type 0} (o : Option A) (y : A) → o ≡ None → o ≡ Some y → ⊥
-    not_both o y e f = absurd cc
-
-pub same_number : (m n : ℕ) → not (eqb m n) ≡ false → m ≡ n
-same_number m n e = eqb-true m n (shown (eqb m n) e)
-  where
-    shown : (b : Bool) → not b ≡ false → b ≡ true
-    shown true f = refl
-    shown false f = sym f

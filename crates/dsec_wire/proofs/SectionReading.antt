@@ -159,6 +159,15 @@ no_opt m e = rw (authorities_none m e) (none (header_of m))
     none (Some header) = refl
     none None = refl
 
+-- where the header says that the additional section has no record, there is no OPT record
+pub no_additional : (m : List ℕ) (header : Header) → header_of m ≡ Some header → header.additionals ≡ 0 → opt_of m ≡ None
+unfolding opt_of first_opt
+no_additional m header h e = rw h (none (authorities_of m))
+  where
+    none : (o : Option (List Record × ℕ)) → (o >>= λ before. first_opt m header.additionals before.1) ≡ None
+    none (Some before) = rw e refl
+    none None = refl
+
 turn : (count k : ℕ) → k < count → count - k ≡ suc (count - (k + 1))
 turn count k below = omega arith
 

@@ -7,5 +7,6 @@ pub mod TypedData
 pub mod RecordHeads
 pub mod MessageSections
 pub mod Views
+pub mod DataViews
 pub mod RrsigHeads
 pub mod Canonical

@@ -2,15 +2,22 @@
 
 ghost use Rattle.std.specs.Prelude.{◌≡◌, ◌↔◌, ◌++◌, IsTrue, IsSome, OnOk, OnErr};
 ghost use Rattle.std.specs.Option.{option_map};
-ghost use Rattle.dsec_spec.specs.Numbers.{DNSKEY, RRSIG};
+ghost use Rattle.dsec_spec.specs.Numbers.{CNAME, SOA, DNAME, OPT, DS, RRSIG, NSEC, DNSKEY, NSEC3, NSEC3PARAM};
 ghost use Rattle.dsec_spec.specs.RecordData.{IsReadable, canonical_data};
+ghost use Rattle.dsec_wire.specs.DataViews.{cname_in, cname_view, dname_in, dname_view, soa_in, soa_view, ds_in, ds_view, nsec_in, nsec_view, nsec3_in, nsec3_view, nsec3param_in, hashing_view, opt_in, opt_view};
 ghost use Rattle.dsec_wire.specs.Views.{dnskey_in, key_view, rrsig_in, rrsig_view};
 
 use crate::canonical::push_canonical;
 use crate::dnskey::Dnskey;
+use crate::ds::{Ds, read_ds};
+use crate::edns::Opt;
 use crate::layout::layout;
+use crate::nsec::{Nsec, read_nsec};
+use crate::nsec3::{Nsec3, Nsec3param, read_nsec3, read_nsec3param};
 use crate::part::takes_all;
 use crate::rrsig::{Rrsig, read_rrsig};
+use crate::soa::{Soa, read_soa};
+use crate::target::{Cname, Dname, read_cname, read_dname};
 use dsec_name::{NoMemory, Octets};
 use dsec_number::Rtype;
 use std::marker::Model;
@@ -89,6 +96,95 @@ impl Data {
             return None;
         }
         read_rrsig(self.octets.as_slice())
+    }
+
+    /// The start of a zone, where the type is SOA.
+    pub fn soa(&self) -> Option<Soa<'_>>
+        ensures value { option_map soa_view result ≡ soa_in self.now }
+        ensures found { IsSome result ↔ (self.now.rtype ≡ SOA) }
+    {
+        if self.rtype != Rtype::SOA {
+            return None;
+        }
+        read_soa(self.octets.as_slice())
+    }
+
+    /// The name that the owner is an alias of, where the type is CNAME.
+    pub fn cname(&self) -> Option<Cname<'_>>
+        ensures value { option_map cname_view result ≡ cname_in self.now }
+        ensures found { IsSome result ↔ (self.now.rtype ≡ CNAME) }
+    {
+        if self.rtype != Rtype::CNAME {
+            return None;
+        }
+        read_cname(self.octets.as_slice())
+    }
+
+    /// The name that stands for the owner, where the type is DNAME.
+    pub fn dname(&self) -> Option<Dname<'_>>
+        ensures value { option_map dname_view result ≡ dname_in self.now }
+        ensures found { IsSome result ↔ (self.now.rtype ≡ DNAME) }
+    {
+        if self.rtype != Rtype::DNAME {
+            return None;
+        }
+        read_dname(self.octets.as_slice())
+    }
+
+    /// The digest of a key, where the type is DS.
+    pub fn ds(&self) -> Option<Ds<'_>>
+        ensures value { option_map ds_view result ≡ ds_in self.now }
+        ensures found { IsSome result ↔ (self.now.rtype ≡ DS) }
+    {
+        if self.rtype != Rtype::DS {
+            return None;
+        }
+        read_ds(self.octets.as_slice())
+    }
+
+    /// The gap after a name, where the type is NSEC.
+    pub fn nsec(&self) -> Option<Nsec<'_>>
+        ensures value { option_map nsec_view result ≡ nsec_in self.now }
+        ensures found { IsSome result ↔ (self.now.rtype ≡ NSEC) }
+    {
+        if self.rtype != Rtype::NSEC {
+            return None;
+        }
+        read_nsec(self.octets.as_slice())
+    }
+
+    /// The gap after a hash, where the type is NSEC3.
+    pub fn nsec3(&self) -> Option<Nsec3<'_>>
+        ensures value { option_map nsec3_view result ≡ nsec3_in self.now }
+        ensures found { IsSome result ↔ (self.now.rtype ≡ NSEC3) }
+    {
+        if self.rtype != Rtype::NSEC3 {
+            return None;
+        }
+        read_nsec3(self.octets.as_slice())
+    }
+
+    /// How hashes are made, where the type is NSEC3PARAM.
+    pub fn nsec3param(&self) -> Option<Nsec3param<'_>>
+        ensures value { option_map hashing_view result ≡ nsec3param_in self.now }
+        ensures found { IsSome result ↔ (self.now.rtype ≡ NSEC3PARAM) }
+    {
+        if self.rtype != Rtype::NSEC3PARAM {
+            return None;
+        }
+        read_nsec3param(self.octets.as_slice())
+    }
+
+    /// The options, where the type is OPT.
+    pub fn opt(&self) -> Option<Opt<'_>>
+        ensures value { option_map opt_view result ≡ opt_in self.now }
+        ensures found { IsSome result ↔ (self.now.rtype ≡ OPT) }
+    {
+        if self.rtype != Rtype::OPT {
+            return None;
+        }
+        let options = self.octets.as_slice();
+        Some(Opt { options })
     }
 
     /// Adds the data as signatures take them (RFC 4034 6.2).

@@ -116,6 +116,9 @@ impl Message {
     {
         let message = self.as_slice();
         let count = header_at(message).arcount();
+        if count == 0 {
+            return Ok(None);
+        }
         let at = match read_sections(alloc, message) {
             Ok((_, at)) => at,
             Err(MessageError::ParseError) => return Ok(None),

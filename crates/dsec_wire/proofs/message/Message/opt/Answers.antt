@@ -1,6 +1,10 @@
-use Rattle.std.proofs.Common.{sym}
-use Rattle.dsec_wire.proofs.SectionReading.{no_opt, opt_after}
+use Rattle.std.proofs.Common.{sym, ◌∙◌}
+use Rattle.dsec_wire.proofs.SectionReading.{no_additional, no_opt, opt_after}
 use Rattle.dsec_wire.proofs.message.Message.opt.Goals as goal
+
+pub returns-then-count-eq0 : goal.returns-then-count-eq0
+returns-then-count-eq0 c =
+    sym (no_additional c.args.self.now c.header_at.result (rw (← c.as_slice-message.ensures.value) c.header_at.ensures) (sym c.arcount-count.ensures ∙ c.if-count-eq0.true))
 
 pub returns-in-Err-ParseError : goal.returns-in-Err-ParseError
 returns-in-Err-ParseError c = sym (no_opt c.args.self.now (rw (← c.as_slice-message.ensures.value) (rw c.in-Err-ParseError.field-0-is at c.in-Err-ParseError.ensures)))
