@@ -4,7 +4,13 @@
 mod cause;
 mod laws;
 #[cfg(test)]
+mod layout_tests;
+#[cfg(test)]
+mod layout_vectors;
+#[cfg(test)]
 mod tests;
+#[cfg(test)]
+mod view_tests;
 
 pub use cause::Cause;
 pub use dsec_name::{Name, NameError, NameRef, NoMemory, Octets};
@@ -18,7 +24,8 @@ pub use dsec_outside::{
     Writing, read_all, write_all,
 };
 pub use dsec_wire::{
-    Data, Dnskey, Header, Message, MessageError, Question, Questions, Record, Records, Rrsig,
-    Sections, ShortMessage, read_name,
+    Cname, Data, Dname, Dnskey, Ds, EdnsOption, Header, Message, MessageError, Nsec, Nsec3,
+    Nsec3param, Opt, Question, Questions, Record, Records, Rrsig, Sections, ShortMessage, Soa,
+    read_name,
 };
 pub use laws::law_of_causes;
