@@ -7,7 +7,7 @@ use Rattle.dsec_spec.proofs.WireNameLemmas.{name_in-wire_octets, from_name_in}
 use Rattle.dsec_spec.proofs.RecordLemmas.{IsRrsig}
 use Rattle.dsec_spec.proofs.ReadingLemmas.{from_bind, read_as}
 
-two_again : (n : ℕ) → n < 2 ^ 16 → n / 256 % 256 * 256 + n % 256 ≡ n
+pub two_again : (n : ℕ) → n < 2 ^ 16 → n / 256 % 256 * 256 + n % 256 ≡ n
 two_again n small = omega arith
 
 four_again : (n : ℕ) → n < 2 ^ 32 → ((n / 16777216 % 256 * 256 + n / 65536 % 256) * 256 + n / 256 % 256) * 256 + n % 256 ≡ n
@@ -27,22 +27,22 @@ rrsig_of-rrsig_octets sig is =
     ) refl
 
 -- the octets of numbers that were made of octets
-two_high : (a b : ℕ) → a < 256 → b < 256 → (a * 256 + b) / 256 % 256 ≡ a
+pub two_high : (a b : ℕ) → a < 256 → b < 256 → (a * 256 + b) / 256 % 256 ≡ a
 two_high a b ha hb = omega arith
 
-two_low : (a b : ℕ) → a < 256 → b < 256 → (a * 256 + b) % 256 ≡ b
+pub two_low : (a b : ℕ) → a < 256 → b < 256 → (a * 256 + b) % 256 ≡ b
 two_low a b ha hb = omega arith
 
-four_first : (a b c d : ℕ) → a < 256 → b < 256 → c < 256 → d < 256 → (((a * 256 + b) * 256 + c) * 256 + d) / 16777216 % 256 ≡ a
+pub four_first : (a b c d : ℕ) → a < 256 → b < 256 → c < 256 → d < 256 → (((a * 256 + b) * 256 + c) * 256 + d) / 16777216 % 256 ≡ a
 four_first a b c d ha hb hc hd = omega arith
 
-four_second : (a b c d : ℕ) → a < 256 → b < 256 → c < 256 → d < 256 → (((a * 256 + b) * 256 + c) * 256 + d) / 65536 % 256 ≡ b
+pub four_second : (a b c d : ℕ) → a < 256 → b < 256 → c < 256 → d < 256 → (((a * 256 + b) * 256 + c) * 256 + d) / 65536 % 256 ≡ b
 four_second a b c d ha hb hc hd = omega arith
 
-four_third : (a b c d : ℕ) → a < 256 → b < 256 → c < 256 → d < 256 → (((a * 256 + b) * 256 + c) * 256 + d) / 256 % 256 ≡ c
+pub four_third : (a b c d : ℕ) → a < 256 → b < 256 → c < 256 → d < 256 → (((a * 256 + b) * 256 + c) * 256 + d) / 256 % 256 ≡ c
 four_third a b c d ha hb hc hd = omega arith
 
-four_last : (a b c d : ℕ) → a < 256 → b < 256 → c < 256 → d < 256 → (((a * 256 + b) * 256 + c) * 256 + d) % 256 ≡ d
+pub four_last : (a b c d : ℕ) → a < 256 → b < 256 → c < 256 → d < 256 → (((a * 256 + b) * 256 + c) * 256 + d) % 256 ≡ d
 four_last a b c d ha hb hc hd = omega arith
 
 -- data that say what an RRSIG record does are its octets

@@ -28,11 +28,15 @@ pub record Soa : Type 0 where
   pub expire : ℕ
   pub minimum : ℕ
 
+-- the 20 octets after the names
+abbrev pub soa_numbers : Soa → List ℕ
+soa_numbers soa =
+    to_be_bytes w32 soa.serial ++ to_be_bytes w32 soa.refresh ++ to_be_bytes w32 soa.retry
+    ++ to_be_bytes w32 soa.expire ++ to_be_bytes w32 soa.minimum
+
 -- an SOA record's data
 abbrev pub soa_octets : Soa → List ℕ
-soa_octets soa =
-    wire_octets soa.mname ++ wire_octets soa.rname ++ to_be_bytes w32 soa.serial ++ to_be_bytes w32 soa.refresh
-    ++ to_be_bytes w32 soa.retry ++ to_be_bytes w32 soa.expire ++ to_be_bytes w32 soa.minimum
+soa_octets soa = wire_octets soa.mname ++ wire_octets soa.rname ++ soa_numbers soa
 
 -- what an SOA record's data say
 unfoldable pub soa_of : List ℕ → Option Soa
