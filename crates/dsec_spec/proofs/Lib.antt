@@ -10,6 +10,8 @@ pub mod RecordLemmas
 pub mod RecordViewLemmas
 pub mod HeadLemmas
 pub mod NamesInMessages
+pub mod WrittenParts
+pub mod WrittenMessageLaws
 pub mod AscendingOrder
 pub mod SignedBytesLaws
 pub mod ChainLaws

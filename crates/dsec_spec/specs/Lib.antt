@@ -7,6 +7,7 @@ pub mod Records
 pub mod RecordViews
 pub mod WireNames
 pub mod Messages
+pub mod WrittenMessages
 pub mod Algorithms
 pub mod KeyTag
 pub mod Digests
