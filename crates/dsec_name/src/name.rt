@@ -1,6 +1,6 @@
 //! Domain names.
 
-ghost use Rattle.std.specs.Prelude.{◌≡◌, ◌↔◌, ◌++◌, [], ◌∷◌, length, IfOk, OnOk, OnErr, IsTrue};
+ghost use Rattle.std.specs.Prelude.{◌≡◌, ◌↔◌, ◌≤◌, ◌++◌, [], ◌∷◌, length, IfOk, OnOk, OnErr, IsTrue};
 ghost use Rattle.std.specs.Option.{option_map};
 ghost use Rattle.std.specs.List.{list_any};
 ghost use Rattle.dsec_spec.specs.Names.{Labels, IsAtOrBelow, IsName, canonical_octets, label_count, name_cmp, place, rrsig_label_count, wire_length, wire_octets};
@@ -130,7 +130,8 @@ impl Name {
 
     /// How many octets the name has on the wire, uncompressed.
     pub fn wire_len(&self) -> usize
-        ensures { result ≡ wire_length self.now }
+        ensures value { result ≡ wire_length self.now }
+        ensures at_most { result ≤ 255 }
     {
         self.octets().len() + 1
     }
@@ -180,6 +181,7 @@ impl Name {
     pub fn compose(&self, out: &mut Vec<u8>) -> Result<(), NoMemory>
         ensures ok { OnOk result (out.new.items ≡ out.old.items ++ wire_octets self.now) }
         ensures err { OnErr result (out.new.items ≡ out.old.items) }
+        ensures name { IsName self.now }
     {
         let labels = self.octets();
         out.reserve(labels.len() + 1)?;
