@@ -1,8 +1,8 @@
 //! Numbers and words against the registries' values, and moments on their circle.
 
 use crate::{
-    Class, DigestAlgorithm, Nsec3HashAlgorithm, Rcode, Rtype, SecurityAlgorithm, Serial, Timestamp,
-    Ttl, UnknownWord,
+    Class, DefMinMax, DigestAlgorithm, Nsec3HashAlgorithm, Rcode, Rtype, SecurityAlgorithm, Serial,
+    Timestamp, Ttl, UnknownWord,
 };
 use std::test::Fail;
 
@@ -270,5 +270,29 @@ fn has_times_in_seconds(rt: HostRuntime) -> Result<(), Fail> {
     assert_eq!(rt; Ttl::from_secs(3600).as_secs(), 3600);
     assert_eq!(rt; Ttl::ZERO.as_secs(), 0);
     assert_eq!(rt; Serial::from_int(u32::MAX).to_int(), u32::MAX);
+    Ok(())
+}
+
+#[test]
+fn settings_between_their_ends(rt: HostRuntime) -> Result<(), Fail> {
+    let seconds = DefMinMax::new(604_800u64, 60, 6_048_000);
+    let tries = DefMinMax::new(1u8, 1, 8);
+    for (value, limited) in [
+        (0, 60),
+        (59, 60),
+        (60, 60),
+        (61, 61),
+        (6_047_999, 6_047_999),
+        (6_048_000, 6_048_000),
+        (6_048_001, 6_048_000),
+        (u64::MAX, 6_048_000),
+    ] {
+        assert_eq!(rt; seconds.limit(value), limited);
+    }
+    for (value, limited) in [(0, 1), (1, 1), (5, 5), (8, 8), (9, 8), (255, 8)] {
+        assert_eq!(rt; tries.limit(value), limited);
+    }
+    assert_eq!(rt; seconds.default(), 604_800);
+    assert_eq!(rt; tries.default(), 1);
     Ok(())
 }
