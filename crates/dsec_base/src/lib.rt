@@ -13,10 +13,13 @@ mod tests;
 mod view_tests;
 
 pub use cause::Cause;
+pub use dsec_builder::{
+    AdditionalBuilder, AnswerBuilder, AuthorityBuilder, MessageBuilder, PushError, QuestionBuilder,
+};
 pub use dsec_name::{Name, NameError, NameRef, NoMemory, Octets};
 pub use dsec_number::{
-    Class, DigestAlgorithm, Nsec3HashAlgorithm, Rcode, Rtype, SecurityAlgorithm, Serial, Timestamp,
-    Ttl, UnknownWord,
+    Class, DefMinMax, DigestAlgorithm, Nsec3HashAlgorithm, Rcode, Rtype, SecurityAlgorithm, Serial,
+    Timestamp, Ttl, UnknownWord,
 };
 pub use dsec_outside::{
     AskError, Failed, FailingSink, FailingSource, FailingUpstream, FixedUpstream, LIMIT,

@@ -14,10 +14,10 @@ pub(crate) fn question_len(question: &Question) -> usize
 }
 
 /// How many octets a record has.
-pub(crate) fn record_len(record: &Record) -> usize
-    ensures { result ≡ length (record_octets record.now) }
+pub(crate) fn record_len(item: &Record) -> usize
+    ensures { result ≡ length (record_octets item.now) }
 {
-    record.owner().wire_len() + 10 + record.rdata().octets().len()
+    item.owner().wire_len() + 10 + item.rdata().octets().len()
 }
 
 /// Adds a question. Where memory is wanting, a part of it may be there.
@@ -34,16 +34,16 @@ pub(crate) fn write_question(out: &mut Vec<u8>, question: &Question) -> Result<(
 }
 
 /// Adds a record. Where memory is wanting, a part of it may be there.
-pub(crate) fn write_record(out: &mut Vec<u8>, record: &Record) -> Result<(), NoMemory>
-    ensures ok { OnOk result (out.new.items ≡ out.old.items ++ record_octets record.now) }
-    ensures good { OnOk result (IsWritableRecord record.now) }
+pub(crate) fn write_record(out: &mut Vec<u8>, item: &Record) -> Result<(), NoMemory>
+    ensures ok { OnOk result (out.new.items ≡ out.old.items ++ record_octets item.now) }
+    ensures good { OnOk result (IsWritableRecord item.now) }
     ensures err { OnErr result (take (length out.old.items) out.new.items ≡ out.old.items) }
 {
-    let octets = record.rdata().octets();
-    record.owner().compose(out)?;
-    out.extend_from_slice(&record.rtype().to_int().to_be_bytes())?;
-    out.extend_from_slice(&record.class().to_int().to_be_bytes())?;
-    out.extend_from_slice(&record.ttl().as_secs().to_be_bytes())?;
+    let octets = item.rdata().octets();
+    item.owner().compose(out)?;
+    out.extend_from_slice(&item.rtype().to_int().to_be_bytes())?;
+    out.extend_from_slice(&item.class().to_int().to_be_bytes())?;
+    out.extend_from_slice(&item.ttl().as_secs().to_be_bytes())?;
     out.extend_from_slice(&(octets.len() as u16).to_be_bytes())?;
     out.extend_from_slice(octets.as_slice())?;
     Ok(())

@@ -7,6 +7,8 @@ mod error;
 mod items;
 mod octets;
 mod sections;
+#[cfg(test)]
+mod tests;
 
 pub use builder::{MessageBuilder, QuestionBuilder};
 pub use error::PushError;

@@ -60,23 +60,23 @@ pub(crate) fn count_question(octets: &mut Vec<u8>, question: &Question) -> Resul
 pub(crate) fn count_record(
     octets: &mut Vec<u8>,
     count_at: usize,
-    record: &Record,
+    item: &Record,
 ) -> Result<(), PushError>
     requires count_at { count_at + 2 ≤ 12 }
     requires header { 12 ≤ length octets.old.items }
     requires most { length octets.old.items ≤ 65535 }
     requires low { number_or_0 (u16_at octets.old.items count_at) < 65535 }
-    ensures ok { OnOk result (octets.new.items ≡ raised count_at (octets.old.items ++ record_octets record.now)) }
-    ensures good { OnOk result (IsWritableRecord record.now) }
-    ensures fits { OnOk result (length octets.old.items + length (record_octets record.now) ≤ 65535) }
+    ensures ok { OnOk result (octets.new.items ≡ raised count_at (octets.old.items ++ record_octets item.now)) }
+    ensures good { OnOk result (IsWritableRecord item.now) }
+    ensures fits { OnOk result (length octets.old.items + length (record_octets item.now) ≤ 65535) }
     ensures err { OnErr result (octets.new.items ≡ octets.old.items) }
-    ensures full { IsErrOf result PushError.PushError ↔ (65535 < length octets.old.items + length (record_octets record.now)) }
+    ensures full { IsErrOf result PushError.PushError ↔ (65535 < length octets.old.items + length (record_octets item.now)) }
 {
     let start = octets.len();
-    if record_len(record) > MAX_MESSAGE - start {
+    if record_len(item) > MAX_MESSAGE - start {
         return Err(PushError::PushError);
     }
-    let Ok(()) = write_record(octets, record) else {
+    let Ok(()) = write_record(octets, item) else {
         octets.truncate(start);
         return Err(PushError::NoMemory);
     };

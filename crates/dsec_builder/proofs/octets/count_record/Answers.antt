@@ -7,4 +7,4 @@ pub raise-requires-clause-low : goal.raise-requires-clause-low
 raise-requires-clause-low c =
     let old = c.args.octets.now.items in
     let is = c.in-Ok.ensures.ok in
-    rw (is, number_in_front old (record_octets c.args.«record».now) c.args.count_at (omega (arith, c.requires.count_at, c.requires.header))) c.requires.low
+    rw (is, number_in_front old (record_octets c.args.item.now) c.args.count_at (omega (arith, c.requires.count_at, c.requires.header))) c.requires.low
