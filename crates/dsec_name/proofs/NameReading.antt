@@ -113,7 +113,8 @@ answers Writes (Some labels) reads writes r g =
     let w = reads labels refl in
     answers_some Writes labels (name_of_labels labels) w.0 (sized labels (list_any is_long labels) refl w.1) r g
 
-no_long : (labels : Labels) → All IsLabel labels → list_any is_long labels ≡ false
+-- labels of a name, none of which is long
+pub no_long : (labels : Labels) → All IsLabel labels → list_any is_long labels ≡ false
 no_long [] h = refl
 no_long (label ∷ labels) h =
     let short = (All-head IsLabel label labels h).at_most in

@@ -67,46 +67,46 @@ pushed_short text old new rest n h e some short =
       pushed = λ _. ap (λ (x : List ℕ). slice_set x (length old) n) there ∙ (set_at old 0 h.label n (length old) refl ∙ ap (λ (x : ℕ). old ++ x ∷ h.label) long);
     }
 
-room_then : (n m : ℕ) (p : List ℕ × List ℕ) → ((rest : List ℕ) → length rest < length p.1 → read_labels_within n rest ≡ read_labels_within m rest) → then_labels (read_labels_within n) p ≡ then_labels (read_labels_within m) p
-room_then n m ([], rest) same = refl
-room_then n m (c ∷ label, []) same = refl
-room_then n m (c ∷ label, dot ∷ []) same = refl
-room_then n m (c ∷ label, dot ∷ d ∷ rest) same = ap (λ (read : Option Labels). read >>= λ labels. Some ((c ∷ label) ∷ labels)) (same (d ∷ rest) (omega arith))
+room_then : (origin : Labels) (n m : ℕ) (p : List ℕ × List ℕ) → ((rest : List ℕ) → length rest < length p.1 → read_labels_within origin n rest ≡ read_labels_within origin m rest) → then_labels origin (read_labels_within origin n) p ≡ then_labels origin (read_labels_within origin m) p
+room_then origin n m ([], rest) same = refl
+room_then origin n m (c ∷ label, []) same = refl
+room_then origin n m (c ∷ label, dot ∷ []) same = refl
+room_then origin n m (c ∷ label, dot ∷ d ∷ rest) same = ap (λ (read : Option Labels). read >>= λ labels. Some ((c ∷ label) ∷ labels)) (same (d ∷ rest) (omega arith))
 
-room_bind : (n m : ℕ) (read : Option (List ℕ × List ℕ)) → ((p : List ℕ × List ℕ) → read ≡ Some p → then_labels (read_labels_within n) p ≡ then_labels (read_labels_within m) p) → (read >>= then_labels (read_labels_within n)) ≡ (read >>= then_labels (read_labels_within m))
-room_bind n m None same = refl
-room_bind n m (Some p) same = same p refl
+room_bind : (origin : Labels) (n m : ℕ) (read : Option (List ℕ × List ℕ)) → ((p : List ℕ × List ℕ) → read ≡ Some p → then_labels origin (read_labels_within origin n) p ≡ then_labels origin (read_labels_within origin m) p) → (read >>= then_labels origin (read_labels_within origin n)) ≡ (read >>= then_labels origin (read_labels_within origin m))
+room_bind origin n m None same = refl
+room_bind origin n m (Some p) same = same p refl
 
-room_labels : (n m : ℕ) (text : List ℕ) → length text ≤ n → length text ≤ m → read_labels_within n text ≡ read_labels_within m text
-room_labels zero zero text a b = refl
-room_labels zero (suc m) [] a b = refl
-room_labels zero (suc m) (c ∷ text) a b = absurd (omega arith)
-room_labels (suc n) zero [] a b = refl
-room_labels (suc n) zero (c ∷ text) a b = absurd (omega arith)
-room_labels (suc n) (suc m) text a b =
-    room_bind n m (read_label text) (λ p e. let s = label_shorter text p e in room_then n m p (λ rest l. room_labels n m rest (omega arith) (omega arith)))
+room_labels : (origin : Labels) (n m : ℕ) (text : List ℕ) → length text ≤ n → length text ≤ m → read_labels_within origin n text ≡ read_labels_within origin m text
+room_labels origin zero zero text a b = refl
+room_labels origin zero (suc m) [] a b = refl
+room_labels origin zero (suc m) (c ∷ text) a b = absurd (omega arith)
+room_labels origin (suc n) zero [] a b = refl
+room_labels origin (suc n) zero (c ∷ text) a b = absurd (omega arith)
+room_labels origin (suc n) (suc m) text a b =
+    room_bind origin n m (read_label text) (λ p e. let s = label_shorter text p e in room_then origin n m p (λ rest l. room_labels origin n m rest (omega arith) (omega arith)))
 
-step_then : (n : ℕ) (p : List ℕ × List ℕ) → ((rest : List ℕ) → length rest < length p.1 → read_labels_within n rest ≡ read_labels rest) → then_labels (read_labels_within n) p ≡ then_labels read_labels p
-step_then n ([], rest) same = refl
-step_then n (c ∷ label, []) same = refl
-step_then n (c ∷ label, dot ∷ []) same = refl
-step_then n (c ∷ label, dot ∷ d ∷ rest) same = ap (λ (read : Option Labels). read >>= λ labels. Some ((c ∷ label) ∷ labels)) (same (d ∷ rest) (omega arith))
+step_then : (origin : Labels) (n : ℕ) (p : List ℕ × List ℕ) → ((rest : List ℕ) → length rest < length p.1 → read_labels_within origin n rest ≡ read_labels origin rest) → then_labels origin (read_labels_within origin n) p ≡ then_labels origin (read_labels origin) p
+step_then origin n ([], rest) same = refl
+step_then origin n (c ∷ label, []) same = refl
+step_then origin n (c ∷ label, dot ∷ []) same = refl
+step_then origin n (c ∷ label, dot ∷ d ∷ rest) same = ap (λ (read : Option Labels). read >>= λ labels. Some ((c ∷ label) ∷ labels)) (same (d ∷ rest) (omega arith))
 
-step_bind : (n : ℕ) (read : Option (List ℕ × List ℕ)) → ((p : List ℕ × List ℕ) → read ≡ Some p → then_labels (read_labels_within n) p ≡ then_labels read_labels p) → (read >>= then_labels (read_labels_within n)) ≡ (read >>= then_labels read_labels)
-step_bind n None same = refl
-step_bind n (Some p) same = same p refl
+step_bind : (origin : Labels) (n : ℕ) (read : Option (List ℕ × List ℕ)) → ((p : List ℕ × List ℕ) → read ≡ Some p → then_labels origin (read_labels_within origin n) p ≡ then_labels origin (read_labels origin) p) → (read >>= then_labels origin (read_labels_within origin n)) ≡ (read >>= then_labels origin (read_labels origin))
+step_bind origin n None same = refl
+step_bind origin n (Some p) same = same p refl
 
 -- a label, and the others
-pub labels_step : (text : List ℕ) → read_labels text ≡ (read_label text >>= then_labels read_labels)
-labels_step [] = refl
-labels_step (c ∷ text) =
-    step_bind (length text) (read_label (c ∷ text))
-    (λ p e. let s = label_shorter (c ∷ text) p e in step_then (length text) p (λ rest l. room_labels (length text) (length rest) rest (omega arith) (omega arith)))
+pub labels_step : (origin : Labels) (text : List ℕ) → read_labels origin text ≡ (read_label text >>= then_labels origin (read_labels origin))
+labels_step origin [] = refl
+labels_step origin (c ∷ text) =
+    step_bind origin (length text) (read_label (c ∷ text))
+    (λ p e. let s = label_shorter (c ∷ text) p e in step_then origin (length text) p (λ rest l. room_labels origin (length text) (length rest) rest (omega arith) (omega arith)))
 
 -- labels that were read before, and the text after them
-pub record HasFront (text rest octets : List ℕ) (long : Bool) : Type 0 where
+pub record HasFront (origin : Labels) (text rest octets : List ℕ) (long : Bool) : Type 0 where
   pub front : Labels
-  pub others : after_labels front (read_labels rest) ≡ read_labels text
+  pub others : after_labels front (read_labels origin rest) ≡ read_labels origin text
   pub sized : long ≡ list_any is_long front
   pub written : long ≡ false → octets ≡ labels_octets front
 
@@ -130,39 +130,60 @@ push_written front label old new true is f g e = absurd cc
 push_written front label old new false true f g e = absurd cc
 push_written front label old new false false f g e = g refl ∙ (ap (λ (x : List ℕ). x ++ label_octets label) (f refl) ∙ sym (octets_push front label))
 
-pub last_read : (label rest : List ℕ) → 0 < length label → length rest ≤ 1 → then_labels read_labels (label, rest) ≡ Some (label ∷ [])
-last_read [] rest h g = absurd (omega arith)
-last_read (c ∷ label) [] h g = refl
-last_read (c ∷ label) (dot ∷ []) h g = refl
-last_read (c ∷ label) (dot ∷ d ∷ rest) h g = absurd (omega arith)
+pub last_read : (origin : Labels) (label rest : List ℕ) → 0 < length label → length rest ≤ 0 → then_labels origin (read_labels origin) (label, rest) ≡ Some (label ∷ origin)
+last_read origin [] rest h g = absurd (omega arith)
+last_read origin (c ∷ label) [] h g = refl
+last_read origin (c ∷ label) (dot ∷ rest) h g = absurd (omega arith)
 
-pub more_read : (label : List ℕ) (dot : ℕ) (rest : List ℕ) → 0 < length label → 0 < length rest → then_labels read_labels (label, dot ∷ rest) ≡ (read_labels rest >>= λ labels. Some (label ∷ labels))
-more_read [] dot rest h g = absurd (omega arith)
-more_read (c ∷ label) dot [] h g = absurd (omega arith)
-more_read (c ∷ label) dot (d ∷ rest) h g = refl
+pub ended_read : (origin : Labels) (label rest : List ℕ) → 0 < length label → length rest ≡ 1 → then_labels origin (read_labels origin) (label, rest) ≡ Some (label ∷ [])
+ended_read origin [] rest h g = absurd (omega arith)
+ended_read origin (c ∷ label) [] h g = absurd (omega arith)
+ended_read origin (c ∷ label) (dot ∷ []) h g = refl
+ended_read origin (c ∷ label) (dot ∷ d ∷ rest) h g = absurd (omega arith)
+
+pub more_read : (origin : Labels) (label : List ℕ) (dot : ℕ) (rest : List ℕ) → 0 < length label → 0 < length rest → then_labels origin (read_labels origin) (label, dot ∷ rest) ≡ (read_labels origin rest >>= λ labels. Some (label ∷ labels))
+more_read origin [] dot rest h g = absurd (omega arith)
+more_read origin (c ∷ label) dot [] h g = absurd (omega arith)
+more_read origin (c ∷ label) dot (d ∷ rest) h g = refl
 
 after_label : (front : Labels) (label : List ℕ) (read : Option Labels) → after_labels (front ++ label ∷ []) read ≡ after_labels front (read >>= λ labels. Some (label ∷ labels))
 after_label front label None = refl
 after_label front label (Some labels) = ap (λ (x : Labels). Some x) (append_assoc front (label ∷ []) labels)
 
--- the last label was read
-pub read_last : (text rest old new after : List ℕ) (long is : Bool) → HasFront text rest old long → HasPushed rest old new after is → length after ≤ 1 → HasRead text new (long || is)
-read_last text rest old new after long is f p short =
+-- the last label was read, and a `.` after it
+pub read_ended : (origin : Labels) (text rest old new after : List ℕ) (long is : Bool) → HasFront origin text rest old long → HasPushed rest old new after is → length after ≡ 1 → HasRead origin text new (long || is)
+read_ended origin text rest old new after long is f p short =
     record {
       labels = f.front ++ p.label ∷ [];
-      read = sym f.others ∙ ap (after_labels f.front) (labels_step rest ∙ (ap (λ (x : Option (List ℕ × List ℕ)). x >>= then_labels read_labels) p.read ∙ last_read p.label after p.some short));
+      read = sym f.others ∙ ap (after_labels f.front) (labels_step origin rest ∙ (ap (λ (x : Option (List ℕ × List ℕ)). x >>= then_labels origin (read_labels origin)) p.read ∙ ended_read origin p.label after p.some short));
       sized = sym (any_push f.front p.label ∙ rw (← f.sized, ← p.sized) refl);
       written = push_written f.front p.label old new long is f.written p.pushed;
     }
 
+any_origin : (front origin : Labels) → list_any is_long origin ≡ false → list_any is_long (front ++ origin) ≡ list_any is_long front
+any_origin [] origin h = h
+any_origin (x ∷ front) origin h = ap (λ (b : Bool). is_long x || b) (any_origin front origin h)
+
+-- the last label was read, and no `.` after it
+pub read_last : (origin : Labels) (text rest old new after all : List ℕ) (long is : Bool) → HasFront origin text rest old long → HasPushed rest old new after is → length after ≤ 0 → list_any is_long origin ≡ false → all ≡ new ++ labels_octets origin → HasRead origin text all (long || is)
+read_last origin text rest old new after all long is f p short fits e =
+    let front = f.front ++ p.label ∷ [] in
+    record {
+      labels = front ++ origin;
+      read = sym f.others ∙ (ap (after_labels f.front) (labels_step origin rest ∙ (ap (λ (x : Option (List ℕ × List ℕ)). x >>= then_labels origin (read_labels origin)) p.read ∙ last_read origin p.label after p.some short))
+          ∙ ap (λ (x : Labels). Some x) (sym (append_assoc f.front (p.label ∷ []) origin)));
+      sized = sym (any_origin front origin fits ∙ (any_push f.front p.label ∙ rw (← f.sized, ← p.sized) refl));
+      written = λ h. e ∙ (ap (λ (x : List ℕ). x ++ labels_octets origin) (push_written f.front p.label old new long is f.written p.pushed h) ∙ sym (flat_map-append label_octets front origin));
+    }
+
 -- a label before others was read
-pub front_step : (text rest old new after others : List ℕ) (dot : ℕ) (long is : Bool) → HasFront text rest old long → HasPushed rest old new after is → after ≡ dot ∷ others → 0 < length others → HasFront text others new (long || is)
-front_step text rest old new after others dot long is f p e some =
-    let read : read_labels rest ≡ (read_labels others >>= λ labels. Some (p.label ∷ labels)) =
-    labels_step rest ∙ (ap (λ (x : Option (List ℕ × List ℕ)). x >>= then_labels read_labels) (p.read ∙ ap (λ (x : List ℕ). Some (p.label, x)) e) ∙ more_read p.label dot others p.some some) in
+pub front_step : (origin : Labels) (text rest old new after others : List ℕ) (dot : ℕ) (long is : Bool) → HasFront origin text rest old long → HasPushed rest old new after is → after ≡ dot ∷ others → 0 < length others → HasFront origin text others new (long || is)
+front_step origin text rest old new after others dot long is f p e some =
+    let read : read_labels origin rest ≡ (read_labels origin others >>= λ labels. Some (p.label ∷ labels)) =
+    labels_step origin rest ∙ (ap (λ (x : Option (List ℕ × List ℕ)). x >>= then_labels origin (read_labels origin)) (p.read ∙ ap (λ (x : List ℕ). Some (p.label, x)) e) ∙ more_read origin p.label dot others p.some some) in
     record {
       front = f.front ++ p.label ∷ [];
-      others = after_label f.front p.label (read_labels others) ∙ (ap (after_labels f.front) (sym read) ∙ f.others);
+      others = after_label f.front p.label (read_labels origin others) ∙ (ap (after_labels f.front) (sym read) ∙ f.others);
       sized = sym (any_push f.front p.label ∙ rw (← f.sized, ← p.sized) refl);
       written = push_written f.front p.label old new long is f.written p.pushed;
     }

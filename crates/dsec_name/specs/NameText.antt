@@ -29,3 +29,10 @@ pub data WritesName : Labels → List ℕ → Type 0 where
   root : WritesName [] (46 ∷ [])
   open_ended : (labels : Labels) (text : List ℕ) → WritesLabels labels text → WritesName labels text
   ended : (labels : Labels) (text : List ℕ) → WritesLabels labels text → WritesName labels (text ++ 46 ∷ [])
+
+-- a text writes a name in a zone: the root is a lone `.`; labels without a `.` at the end are relative to
+-- the origin, whose labels follow; with a `.` at the end they are the name (RFC 1035 5.1)
+pub data WritesNameIn (origin : Labels) : Labels → List ℕ → Type 0 where
+  root : WritesNameIn origin [] (46 ∷ [])
+  relative : (labels : Labels) (text : List ℕ) → WritesLabels labels text → WritesNameIn origin (labels ++ origin) text
+  absolute : (labels : Labels) (text : List ℕ) → WritesLabels labels text → WritesNameIn origin labels (text ++ 46 ∷ [])

@@ -17,11 +17,11 @@ pub record HasPushed (text old new rest : List ℕ) (long : Bool) : Type 0 where
 
 -- there is no label, or an empty one
 abbrev pub HasNoLabel : List ℕ → Type 0
-HasNoLabel text = (others : List ℕ → Option Labels) → (read_label text >>= then_labels others) ≡ None
+HasNoLabel text = (origin : Labels) (others : List ℕ → Option Labels) → (read_label text >>= then_labels origin others) ≡ None
 
 -- labels were read, and their lengths and octets written, unless one is too long
-pub record HasRead (text octets : List ℕ) (long : Bool) : Type 0 where
+pub record HasRead (origin : Labels) (text octets : List ℕ) (long : Bool) : Type 0 where
   pub labels : Labels
-  pub read : read_labels text ≡ Some labels
+  pub read : read_labels origin text ≡ Some labels
   pub sized : long ≡ list_any is_long labels
   pub written : long ≡ false → octets ≡ labels_octets labels

@@ -1,4 +1,4 @@
--- Names as text, read from the front: the function that `WritesName` is the graph of.
+-- Names as text, read from the front: the functions that `WritesNameIn` and `WritesName` are the graphs of.
 use Rattle.std.specs.Prelude.{ℕ, zero, suc, nat_le, List, [], ◌∷◌, ◌++◌, length, ◌&&◌, Option, Some, None, Result, ◌==◌, if◌then◌else◌}
 use Rattle.std.specs.Char.{is_ascii_digit}
 use Rattle.std.specs.Str.{bytes_eq}
@@ -39,28 +39,36 @@ read_label_within (suc n) (c ∷ text) =
 abbrev pub read_label : List ℕ → Option (List ℕ × List ℕ)
 read_label text = read_label_within (length text) text
 
--- a label, and the labels after its `.`, if there is more after that
-abbrev pub then_labels : (List ℕ → Option Labels) → List ℕ × List ℕ → Option Labels
-then_labels others ([], rest) = None
-then_labels others (c ∷ label, []) = Some ((c ∷ label) ∷ [])
-then_labels others (c ∷ label, dot ∷ []) = Some ((c ∷ label) ∷ [])
-then_labels others (c ∷ label, dot ∷ d ∷ rest) = others (d ∷ rest) >>= λ labels. Some ((c ∷ label) ∷ labels)
+-- a label, and the labels after its `.`, if there is more after that; without a `.` it stands before the origin
+abbrev pub then_labels : Labels → (List ℕ → Option Labels) → List ℕ × List ℕ → Option Labels
+then_labels origin others ([], rest) = None
+then_labels origin others (c ∷ label, []) = Some ((c ∷ label) ∷ origin)
+then_labels origin others (c ∷ label, dot ∷ []) = Some ((c ∷ label) ∷ [])
+then_labels origin others (c ∷ label, dot ∷ d ∷ rest) = others (d ∷ rest) >>= λ labels. Some ((c ∷ label) ∷ labels)
 
-abbrev pub read_labels_within : ℕ → List ℕ → Option Labels
-read_labels_within zero text = None
-read_labels_within (suc n) text = read_label text >>= then_labels (read_labels_within n)
+abbrev pub read_labels_within : Labels → ℕ → List ℕ → Option Labels
+read_labels_within origin zero text = None
+read_labels_within origin (suc n) text = read_label text >>= then_labels origin (read_labels_within origin n)
 
--- the labels, one at least, that a text writes
-abbrev pub read_labels : List ℕ → Option Labels
-read_labels text = read_labels_within (length text) text
+-- the labels, one at least, that a text writes before the origin's, where it doesn't end by a `.`
+abbrev pub read_labels : Labels → List ℕ → Option Labels
+read_labels origin text = read_labels_within origin (length text) text
 
--- the labels that a text writes
+-- the labels that a text writes in a zone
+abbrev pub text_labels_in : Labels → List ℕ → Option Labels
+text_labels_in origin text = if bytes_eq text (46 ∷ []) then Some [] else read_labels origin text
+
+-- the name that a text writes in a zone
+abbrev pub name_of_text_in : Labels → List ℕ → Result Labels NameError
+name_of_text_in origin text = name_of_read (text_labels_in origin text)
+
+-- the labels that a text writes: as with the root for an origin
 abbrev pub text_labels : List ℕ → Option Labels
-text_labels text = if bytes_eq text (46 ∷ []) then Some [] else read_labels text
+text_labels text = text_labels_in [] text
 
 -- the name that a text writes
 abbrev pub name_of_text : List ℕ → Result Labels NameError
-name_of_text text = name_of_read (text_labels text)
+name_of_text text = name_of_text_in [] text
 
 -- what was read after a front that was read before
 abbrev pub after_octets : List ℕ → Option (List ℕ × List ℕ) → Option (List ℕ × List ℕ)

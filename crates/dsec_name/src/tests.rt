@@ -96,6 +96,44 @@ fn the_longest_names_are_read(rt: HostRuntime) -> Result<(), Fail> {
 }
 
 #[test]
+fn names_in_a_zone_are_relative_without_a_dot(rt: HostRuntime) -> Result<(), Fail> {
+    let alloc = rt.alloc();
+    let origin = Name::parse(alloc, "Example.org.")?;
+    let rows: [(&[u8], &[u8]); 8] = [
+        (b"www", b"\x03www\x07Example\x03org\0"),
+        (b"a.b", b"\x01a\x01b\x07Example\x03org\0"),
+        (b"a.b.", b"\x01a\x01b\0"),
+        (b".", b"\0"),
+        (b"a\\.", b"\x02a.\x07Example\x03org\0"),
+        (b"a\\046", b"\x02a.\x07Example\x03org\0"),
+        (b"a\\\\.", b"\x02a\\\0"),
+        (b"\xff@", b"\x02\xff@\x07Example\x03org\0"),
+    ];
+    for (text, wire) in rows {
+        let name = Name::parse_in(alloc, text, &origin)?;
+        let mut octets = Vec::new(alloc);
+        name.compose(&mut octets)?;
+        assert_eq!(rt; octets.as_slice(), wire);
+    }
+    Ok(())
+}
+
+#[test]
+fn the_limits_of_names_in_a_zone_count_the_origin(rt: HostRuntime) -> Result<(), Fail> {
+    let alloc = rt.alloc();
+    let text = format!(in alloc; "{LABEL_63}.{LABEL_63}.{LABEL_63}.")?;
+    let origin = Name::parse(alloc, text.as_str())?;
+    let name = Name::parse_in(alloc, LABEL_61.as_bytes(), &origin)?;
+    assert_eq!(rt; name.wire_len(), 255);
+    let longer = Name::parse_in(alloc, &LABEL_63.as_bytes()[..62], &origin);
+    assert_eq!(rt; longer.err(), Some(NameError::LongName));
+    assert!(rt; Name::parse_in(alloc, b"a.b.", &origin)? == Name::parse(alloc, "a.b")?);
+    let empty = Name::parse_in(alloc, b"", &origin);
+    assert_eq!(rt; empty.err(), Some(NameError::BadLabel));
+    Ok(())
+}
+
+#[test]
 fn octets_of_no_name_are_refused(rt: HostRuntime) -> Result<(), Fail> {
     let alloc = rt.alloc();
     let wires: [&[u8]; 6] = [

@@ -6,9 +6,10 @@ ghost use Rattle.std.specs.Option.{option_map};
 ghost use Rattle.dsec_spec.specs.Names.{Labels};
 ghost use Rattle.dsec_spec.specs.Reading.{Gives};
 ghost use Rattle.dsec_name.specs.Errors.{Answers, wants_memory};
-ghost use Rattle.dsec_name.specs.NameText.{WritesName};
+ghost use Rattle.dsec_name.specs.Keys.{IsWhole, labels_of};
+ghost use Rattle.dsec_name.specs.NameText.{WritesName, WritesNameIn};
 ghost use Rattle.dsec_name.specs.TextParts.{HasNoLabel, HasPushed, HasRead};
-ghost use Rattle.dsec_name.specs.TextReading.{after_octets, name_of_text, read_escape, read_label, read_labels, read_number, read_octet};
+ghost use Rattle.dsec_name.specs.TextReading.{after_octets, name_of_text, name_of_text_in, read_escape, read_label, read_labels, read_number, read_octet};
 
 use crate::error::{NameError, NoMemory};
 use crate::name::{MAX_LABEL, MAX_NAME, Name};
@@ -22,18 +23,28 @@ impl Name {
         ensures exact { Gives {Y = Labels} wants_memory (λ name. name) result (name_of_text text.now) }
         ensures meaning { Answers (λ labels. WritesName labels text.now) result }
     {
-        read_text(alloc, text.as_bytes())
+        read_text(alloc, text.as_bytes(), &[])
+    }
+
+    /// The name that a text in a zone writes, by the same grammar. A text without a `.` at its end is relative: the
+    /// origin's labels follow, and the limits are those of the whole name. An escaped dot ends no text.
+    pub fn parse_in(alloc: Global, text: &[u8], origin: &Name) -> Result<Self, NameError>
+        ensures exact { Gives {Y = Labels} wants_memory (λ name. name) result (name_of_text_in origin.now text.now) }
+        ensures meaning { Answers (λ labels. WritesNameIn origin.now labels text.now) result }
+    {
+        read_text(alloc, text, origin.octets())
     }
 }
 
-/// The name that a text's octets write.
-fn read_text(alloc: Global, text: &[u8]) -> Result<Name, NameError>
-    ensures { Gives {Y = Labels} wants_memory (λ name. name) result (name_of_text text.now) }
+/// The name that a text's octets write before an origin's labels, which are given as octets.
+fn read_text(alloc: Global, text: &[u8], origin: &[u8]) -> Result<Name, NameError>
+    requires { IsWhole origin.now }
+    ensures { Gives {Y = Labels} wants_memory (λ name. name) result (name_of_text_in (labels_of origin.now) text.now) }
 {
     if text == b".".as_slice() {
         return Ok(Name::root(alloc));
     }
-    let Some((octets, long)) = labels_of_text(alloc, text)? else {
+    let Some((octets, long)) = labels_of_text(alloc, text, origin)? else {
         return Err(NameError::BadLabel);
     };
     if long {
@@ -45,10 +56,15 @@ fn read_text(alloc: Global, text: &[u8]) -> Result<Name, NameError>
     Ok(Name::keep(alloc, octets)?)
 }
 
-/// The labels that a text writes, each with its length before it, and whether one of them is too long;
-/// then the octets are of no use. None where the text writes no labels.
-fn labels_of_text(alloc: Global, text: &[u8]) -> Result<Option<(Vec<u8>, bool)>, NoMemory>
-    ensures { IfOk result (λ found. MatchOption found (read_labels text.now ≡ None) (λ read. HasRead text.now read.0.items read.1)) }
+/// The labels that a text writes, and the origin's where no `.` ends it, each with its length before it; and whether
+/// one of them is too long: then the octets are of no use. None where the text writes no labels.
+fn labels_of_text(
+    alloc: Global,
+    text: &[u8],
+    origin: &[u8],
+) -> Result<Option<(Vec<u8>, bool)>, NoMemory>
+    requires { IsWhole origin.now }
+    ensures { IfOk result (λ found. MatchOption found (read_labels (labels_of origin.now) text.now ≡ None) (λ read. HasRead (labels_of origin.now) text.now read.0.items read.1)) }
 {
     let mut octets = Vec::with_capacity(alloc, text.len() + 1)?;
     let mut long = false;
@@ -59,6 +75,7 @@ fn labels_of_text(alloc: Global, text: &[u8]) -> Result<Option<(Vec<u8>, bool)>,
         };
         long |= is_long;
         let Some((_, others)) = after.split_first() else {
+            octets.extend_from_slice(origin)?;
             return Ok(Some((octets, long)));
         };
         if others.is_empty() {
