@@ -20,22 +20,22 @@ test_yes a b h = (Decides-eqb a b).0 h
 pub no_test : (a b : ℕ) → a ≢ b → (a == b) ≡ false
 no_test a b h = grind (arith, nat_tests)
 
-digit_yes : (c : ℕ) → is_ascii_digit c ≡ true → IsAsciiDigit c
+pub digit_yes : (c : ℕ) → is_ascii_digit c ≡ true → IsAsciiDigit c
 digit_yes c h = grind (arith, nat_tests)
 
-digit_no : (c : ℕ) → is_ascii_digit c ≡ false → IsNotAsciiDigit c
+pub digit_no : (c : ℕ) → is_ascii_digit c ≡ false → IsNotAsciiDigit c
 digit_no c h = grind (arith, nat_tests)
 
-yes_digit : (c : ℕ) → IsAsciiDigit c → is_ascii_digit c ≡ true
+pub yes_digit : (c : ℕ) → IsAsciiDigit c → is_ascii_digit c ≡ true
 yes_digit c h = grind (arith, nat_tests)
 
-no_digit : (c : ℕ) → IsNotAsciiDigit c → is_ascii_digit c ≡ false
+pub no_digit : (c : ℕ) → IsNotAsciiDigit c → is_ascii_digit c ≡ false
 no_digit c h = grind (arith, nat_tests)
 
-le_yes : (a b : ℕ) → nat_le a b ≡ true → a ≤ b
+pub le_yes : (a b : ℕ) → nat_le a b ≡ true → a ≤ b
 le_yes a b h = grind (arith, nat_tests)
 
-yes_le : (a b : ℕ) → a ≤ b → nat_le a b ≡ true
+pub yes_le : (a b : ℕ) → a ≤ b → nat_le a b ≡ true
 yes_le a b h = grind (arith, nat_tests)
 
 -- the front of a text writes this octet, and this is the text after it
@@ -51,7 +51,7 @@ pub record HasNumber (a b c octet : ℕ) : Type 0 where
   pub at_most : number_of a b c ≤ 255
   pub is : octet ≡ number_of a b c
 
-has_number : (a b c octet : ℕ) → read_number a b c ≡ Some octet → HasNumber a b c octet
+pub has_number : (a b c octet : ℕ) → read_number a b c ≡ Some octet → HasNumber a b c octet
 has_number a b c octet e =
     elim (is_ascii_digit b) as (λ t. is_ascii_digit b ≡ t → (if t && (is_ascii_digit c && nat_le (number_of a b c) 255) then Some (number_of a b c) else None) ≡ Some octet → HasNumber a b c octet) [
       | false ↦ λ f g. nothing octet g

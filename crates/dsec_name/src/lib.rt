@@ -16,6 +16,7 @@ pub use laws::{law_of_display, law_of_equality, law_of_text, law_of_wire};
 pub use name::Name;
 pub use name_ref::NameRef;
 pub use octets::Octets;
+pub use text::octet_of_digits;
 
 #[cfg(test)]
 mod tests;

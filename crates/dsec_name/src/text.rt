@@ -150,12 +150,12 @@ fn escaped_at(text: &[u8]) -> Option<(u8, &[u8])>
     }
     let (&second, rest) = rest.split_first()?;
     let (&third, rest) = rest.split_first()?;
-    let octet = number_of(first, second, third)?;
+    let octet = octet_of_digits(first, second, third)?;
     Some((octet, rest))
 }
 
 /// The octet of the value that three digits write, of which the first is known to be one.
-fn number_of(first: u8, second: u8, third: u8) -> Option<u8>
+pub fn octet_of_digits(first: u8, second: u8, third: u8) -> Option<u8>
     requires { IsAsciiDigit first }
     ensures { result ≡ read_number first second third }
 {

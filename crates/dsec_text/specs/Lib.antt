@@ -1,0 +1,4 @@
+pub mod Escapes
+pub mod Tokens
+pub mod Lines
+pub mod Words
