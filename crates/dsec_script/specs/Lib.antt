@@ -1,5 +1,4 @@
 pub mod Text
-pub mod Words
 pub mod Line
 pub mod Place
 pub mod Script

@@ -5,8 +5,8 @@ use Rattle.std.specs.Str.{bytes_eq, str_eq_ignore_ascii_case}
 use Rattle.dsec_spec.specs.Reading.{◌>>=◌}
 use Rattle.dsec_spec.specs.Numbers.{DNSKEY, IN}
 use Rattle.dsec_spec.specs.Records.{Record, key_octets}
-use Rattle.dsec_script.specs.Text.{number_of}
-use Rattle.dsec_script.specs.Words.{base64_in, hex_in, name_in, rtype_in}
+use Rattle.dsec_word.specs.Numbers.{number_of}
+use Rattle.dsec_word.specs.Words.{base64_in, hex_in, name_in, rtype_in}
 use Rattle.dsec_script.specs.declared.line.Keyword.{Keyword}
 use Rattle.dsec_script.specs.declared.line.Keyword.TheVariants as keywords
 use Rattle.dsec_script.specs.declared.line.Line.{Line}

@@ -1,9 +1,6 @@
--- A text's lines, their words, and numbers in decimal digits.
-use Rattle.std.specs.Prelude.{ℕ, ◌==◌, ◌&&◌, ◌||◌, nat_lt, nat_le, List, [], ◌∷◌, length, Bool, true, false, Option, Some, None, if◌then◌else◌}
+-- A text's lines, and their words.
+use Rattle.std.specs.Prelude.{ℕ, ◌==◌, ◌&&◌, ◌||◌, List, [], ◌∷◌, Bool, true, false, if◌then◌else◌}
 use Rattle.std.proofs.Math.Bool.{not}
-use Rattle.std.specs.List.{list_all}
-use Rattle.std.specs.Char.{digit_value}
-use Rattle.std.specs.Str.Parse.{digits_value}
 use Rattle.dsec_script.specs.declared.text.Mark.{Mark}
 use Rattle.dsec_script.specs.declared.text.Mark.TheVariants as marks
 
@@ -49,15 +46,6 @@ words_of (octet ∷ line) =
     if is_blank octet then words_of line
     else if ends_word line then (octet ∷ []) ∷ words_of line
     else onto octet (words_of line)
-
--- whether a word is a number of at most so much: one or more decimal digits and nothing else, with leading zeros or without
-abbrev pub is_number : ℕ → List ℕ → Bool
-is_number most word =
-    nat_lt 0 (length word) && list_all (λ octet. nat_lt (digit_value octet) 10) word && nat_le (digits_value 10 word) most
-
--- the number that a word writes, if it is one of at most so much
-abbrev pub number_of : ℕ → List ℕ → Option ℕ
-number_of most word = if is_number most word then Some (digits_value 10 word) else None
 
 -- whether an octet ends what is looked for: a line, a word, or what stands before a word
 abbrev pub is_mark : Mark → ℕ → Bool

@@ -7,7 +7,6 @@ mod line;
 mod place;
 mod script;
 mod text;
-mod word;
 
 pub use error::{Refused, ScriptError, Word};
 pub use items::{Item, Items};

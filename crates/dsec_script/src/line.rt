@@ -6,13 +6,13 @@ ghost use Rattle.dsec_spec.specs.Reading.{Reads};
 ghost use Rattle.dsec_spec.specs.Records.{key_octets as key_octets_of};
 ghost use Rattle.dsec_script.specs.Line.{anchor_in, anchor_of, kept_in, key_data, keyword_of, octets_in, reply_in, rest_of, seconds_in};
 ghost use Rattle.dsec_script.specs.Text.{words_of};
-ghost use Rattle.dsec_script.specs.Words.{wants_memory};
+ghost use Rattle.dsec_word.specs.Words.{wants_memory};
 
-use crate::text::{first_word, number};
-use crate::word::{ReadError, is_word, read_base64, read_hex, read_name, read_rtype};
+use crate::text::first_word;
 use dsec_name::{Name, Octets};
 use dsec_number::{Class, Rtype, Ttl};
 use dsec_wire::{Data, Record};
+use dsec_word::{ReadError, is_word, number, read_base64, read_hex, read_name, read_rtype};
 use std::alloc::{AllocError, Global};
 
 /// The first word of a line.

@@ -8,7 +8,7 @@ ghost use Rattle.dsec_script.specs.Text.{words_of};
 use crate::error::{Refused, ScriptError, Word};
 use crate::line::{Keyword, Line, read_keyword, read_rest};
 use crate::text::first_word;
-use crate::word::ReadError;
+use dsec_word::ReadError;
 use std::alloc::Global;
 
 /// A place in a script.

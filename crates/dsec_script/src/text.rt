@@ -1,9 +1,7 @@
-//! The lines of a text, the words of a line, and numbers.
+//! The lines of a text, and the words of a line.
 
-ghost use Rattle.std.specs.Prelude.{◌≡◌, ◌<◌, ◌≤◌, ◌^◌, [], ◌∷◌, length, IfSome, MatchOption};
-ghost use Rattle.std.specs.Option.{SomeIff};
-ghost use Rattle.std.specs.Str.Parse.{IsNumeral, digits_value};
-ghost use Rattle.dsec_script.specs.Text.{cut_of, is_blank as is_blank_octet, is_mark as is_mark_octet, lines_of, number_of, without_return as without_return_of, words_of};
+ghost use Rattle.std.specs.Prelude.{◌≡◌, ◌<◌, [], ◌∷◌, length, MatchOption};
+ghost use Rattle.dsec_script.specs.Text.{cut_of, is_blank as is_blank_octet, is_mark as is_mark_octet, lines_of, without_return as without_return_of, words_of};
 
 /// What ends a stretch of octets.
 #[derive(Clone, Copy)]
@@ -38,33 +36,6 @@ pub fn first_word(line: &[u8]) -> Option<(&[u8], &[u8])>
         return None;
     }
     Some(cut(rest, Mark::Blank))
-}
-
-/// The number that a word writes in decimal digits, if it is at most `most`.
-pub fn number(word: &[u8], most: u64) -> Option<u64>
-    ensures value { result ≡ number_of most word.now }
-    ensures bound { IfSome result (λ number. number ≤ most) }
-{
-    match decimal(word) {
-        None => None,
-        Some(number) => {
-            if number > most {
-                return None;
-            }
-            Some(number)
-        }
-    }
-}
-
-/// The number that decimal digits write, without a sign.
-fn decimal(digits: &[u8]) -> Option<u64>
-    ensures { SomeIff result (IsNumeral 10 digits.now × (digits_value 10 digits.now < 2 ^ 64)) (digits_value 10 digits.now) }
-{
-    if digits.starts_with(b"+") {
-        return None;
-    }
-    let text = str::from_utf8(digits).ok()?;
-    text.parse::<u64>().ok()
 }
 
 /// The octets before the first mark, and those from it on.

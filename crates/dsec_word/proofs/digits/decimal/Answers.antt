@@ -1,8 +1,8 @@
 -- Octets that aren't UTF-8 aren't digits.
 use Rattle.std.proofs.lemmas.Fmt.{IsAscii-from_digits}
 use Rattle.std.proofs.lemmas.Str.{IsUtf8-from_ascii}
-use Rattle.dsec_script.proofs.Results.{error_says}
-use Rattle.dsec_script.proofs.text.decimal.Goals as goal
+use Rattle.dsec_word.proofs.Results.{error_says}
+use Rattle.dsec_word.proofs.digits.decimal.Goals as goal
 
 pub returns-in_err-text : goal.returns-in_err-text
 returns-in_err-text c =

@@ -7,7 +7,7 @@ use Rattle.std.specs.Char.{digit_value}
 use Rattle.std.specs.Str.Parse.{AllDigits, IsNumeral, digits_value}
 use Rattle.std.specs.Cmp.{first_so, second_so}
 use Rattle.std.proofs.lemmas.Bool.{lt-ltb, ltb-true, le-leb, leb-true}
-use Rattle.dsec_script.specs.Text.{is_number, number_of}
+use Rattle.dsec_word.specs.Numbers.{is_number, number_of}
 
 abbrev are_digits : List ℕ → Bool
 are_digits word = list_all (λ octet. nat_lt (digit_value octet) 10) word

@@ -1,5 +1,5 @@
-use Rattle.dsec_script.proofs.NumberLemmas.{number_missing, number_within}
-use Rattle.dsec_script.proofs.text.number.Goals as goal
+use Rattle.dsec_word.proofs.NumberLemmas.{number_missing, number_within}
+use Rattle.dsec_word.proofs.digits.number.Goals as goal
 
 pub returns-in-None-clause-value : goal.returns-in-None-clause-value
 returns-in-None-clause-value c = number_missing c.args.word.now c.args.most c.ranges.most.fits c.in-None.ensures

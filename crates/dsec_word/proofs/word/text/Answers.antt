@@ -1,5 +1,5 @@
-use Rattle.dsec_script.proofs.WordLemmas.{no_text, text_read}
-use Rattle.dsec_script.proofs.word.text.Goals as goal
+use Rattle.dsec_word.proofs.WordLemmas.{no_text, text_read}
+use Rattle.dsec_word.proofs.word.text.Goals as goal
 
 pub returns-in-Ok : goal.returns-in-Ok
 returns-in-Ok c = text_read c.args.word.now c.in-Ok.text.now c.in-Ok.ensures.cases.0 c.in-Ok.ensures.cases.1

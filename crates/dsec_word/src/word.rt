@@ -1,4 +1,4 @@
-//! What single words say: names, types and octets.
+//! What single words say: names, types, classes and octets.
 
 ghost use Rattle.std.specs.Prelude.{◌≡◌, codes};
 ghost use Rattle.std.specs.Option.{option_map};
@@ -6,33 +6,16 @@ ghost use Rattle.std.specs.Result.{result_ok};
 ghost use Rattle.std.specs.Str.{str_eq_ignore_ascii_case};
 ghost use Rattle.dsec_spec.specs.Names.{Labels};
 ghost use Rattle.dsec_spec.specs.Reading.{Reads};
-ghost use Rattle.dsec_number.specs.Words.{IsNumberOf, named_of, type_words};
-ghost use Rattle.dsec_script.specs.Words.{base64_in, hex_in, name_in, rtype_after, rtype_in, text_of, wants_memory};
-ghost use Rattle.dsec_script.specs.declared.word.ReadError.TheVariants.{NoMemory};
+ghost use Rattle.dsec_number.specs.Words.{IsNumberOf, class_words, named_of, type_words};
+ghost use Rattle.dsec_word.specs.Words.{base64_in, class_in, hex_in, name_in, number_after, rtype_in, text_of, wants_memory};
 
+use crate::error::ReadError;
 use base64::DecodeAllocError;
 use base64::engine::general_purpose::STANDARD;
 use dsec_name::{Name, NameError, Octets};
-use dsec_number::Rtype;
+use dsec_number::{Class, Rtype};
 use hex::FromHexError;
-use std::alloc::{AllocError, Global};
-
-/// Why words were not read.
-#[derive(Clone, Copy, Debug, PartialEq, Eq)]
-pub enum ReadError {
-    /// They are outside the grammar.
-    Bad,
-    /// There was no memory left, whatever they are.
-    NoMemory,
-}
-
-impl From<AllocError> for ReadError {
-    ghost from_gives = { λ _ error. error ≡ NoMemory };
-
-    fn from(_error: AllocError) -> ReadError {
-        ReadError::NoMemory
-    }
-}
+use std::alloc::Global;
 
 /// The text that a word is.
 fn text(word: &[u8]) -> Option<&str>
@@ -70,7 +53,7 @@ pub fn read_rtype(word: &[u8]) -> Option<Rtype>
 
 /// The type that a text writes.
 fn rtype_of(text: &str) -> Option<Rtype>
-    ensures { result ≡ rtype_after (named_of type_words text.now) text.now }
+    ensures { result ≡ number_after (codes "TYPE") (named_of type_words text.now) text.now }
 {
     parse_rtype(text)
 }
@@ -80,6 +63,30 @@ fn parse_rtype(text: &str) -> Option<Rtype>
     ensures { IsNumberOf type_words (codes "TYPE") text.now result }
 {
     text.parse::<Rtype>().ok()
+}
+
+/// The class that a word writes.
+pub fn read_class(word: &[u8]) -> Option<Class>
+    ensures { result ≡ class_in word.now }
+{
+    match text(word) {
+        None => None,
+        Some(text) => class_of(text),
+    }
+}
+
+/// The class that a text writes.
+fn class_of(text: &str) -> Option<Class>
+    ensures { result ≡ number_after (codes "CLASS") (named_of class_words text.now) text.now }
+{
+    parse_class(text)
+}
+
+/// The same, in the words of `Class`.
+fn parse_class(text: &str) -> Option<Class>
+    ensures { IsNumberOf class_words (codes "CLASS") text.now result }
+{
+    text.parse::<Class>().ok()
 }
 
 /// The octets that a word writes in hex.

@@ -1,0 +1,13 @@
+//! What single words say: numbers, names, types, classes, and octets in hex and base64.
+#![tactic(auto)]
+
+mod digits;
+mod error;
+mod word;
+
+pub use digits::number;
+pub use error::ReadError;
+pub use word::{is_word, read_base64, read_class, read_hex, read_name, read_rtype};
+
+#[cfg(test)]
+mod tests;
