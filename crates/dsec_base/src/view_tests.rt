@@ -1,9 +1,8 @@
 //! What the views find in data, field by field.
 
 use crate::layout_tests::data_of;
-use crate::{Data, Name, NameRef, Opt, Rtype};
+use crate::{Data, Dnskey, Ds, Name, NameRef, Nsec, Nsec3, Nsec3param, Opt, Rrsig, Rtype, Soa};
 use std::alloc::Global;
-use std::process::Abort;
 use std::test::Fail;
 
 /// `NS.EXAMPLE.`
@@ -27,6 +26,39 @@ const NSEC3PARAM: &str = "0100000c04aabbccdd";
 
 const OPTIONS: &str = "000f00080012616263646566000a0000000b";
 
+/// The digest, the key and the hash of the vectors.
+const DIGEST: &[u8] = &[
+    0x3a, 0xa5, 0xab, 0x37, 0xef, 0xce, 0x57, 0xf7, 0x37, 0xfc, 0x16, 0x27, 0x01, 0x3f, 0xee, 0x07,
+    0xbd, 0xf2, 0x41, 0xbd, 0x10, 0xf3, 0xb1, 0x96, 0x4a, 0xb5, 0x5c, 0x78, 0xe7, 0x9a, 0x30, 0x4b,
+];
+
+const PUBLIC_KEY: &[u8] = &[
+    0x97, 0x4d, 0x96, 0xa2, 0x2d, 0x22, 0x4b, 0xc0, 0x1a, 0xdb, 0x91, 0x50, 0x91, 0x47, 0x7d, 0x44,
+    0xcc, 0xd9, 0x1c, 0x9a, 0x41, 0xa1, 0x14, 0x30, 0x01, 0x01, 0x17, 0xd5, 0x2c, 0x59, 0x24, 0x0e,
+];
+
+const HASH: &[u8] = &[
+    0x17, 0x4e, 0xb2, 0x40, 0x9f, 0xe2, 0x8b, 0xcb, 0x48, 0x87, 0xa1, 0x83, 0x6f, 0x95, 0x7f, 0x0a,
+    0x84, 0x25, 0xe2, 0x7b,
+];
+
+/// Data, and how many views find something in them.
+const VECTORS: [(Rtype, &str, usize); 13] = [
+    (Rtype::SOA, SOA, 1),
+    (Rtype::CNAME, NAME, 1),
+    (Rtype::DNAME, NAME, 1),
+    (Rtype::NS, NAME, 0),
+    (Rtype::DS, DS, 1),
+    (Rtype::DNSKEY, KEY, 1),
+    (Rtype::CDS, DS, 0),
+    (Rtype::RRSIG, SIGNATURE, 1),
+    (Rtype::NSEC, NSEC, 1),
+    (Rtype::NSEC3, NSEC3, 1),
+    (Rtype::NSEC3PARAM, NSEC3PARAM, 1),
+    (Rtype::OPT, OPTIONS, 1),
+    (Rtype::A, OPTIONS, 0),
+];
+
 /// Whether the name is this one.
 fn is(alloc: Global, name: NameRef<'_>, text: &str) -> Result<bool, Fail> {
     match Name::parse(alloc, text) {
@@ -35,246 +67,144 @@ fn is(alloc: Global, name: NameRef<'_>, text: &str) -> Result<bool, Fail> {
     }
 }
 
-/// Whether the octets are these in hexadecimal.
-fn are(alloc: Global, octets: &[u8], text: &str) -> Result<bool, Fail> {
-    let want = hex::decode(alloc, text)?;
-    Ok(want.as_slice() == octets)
-}
-
 /// How many views find something in the data.
-fn views(alloc: Global, rtype: Rtype, text: &str) -> Result<usize, Fail> {
-    match data_of(alloc, rtype, text)? {
-        Some(rdata) => {
-            let found = [
-                rdata.soa().is_some(),
-                rdata.cname().is_some(),
-                rdata.dname().is_some(),
-                rdata.ds().is_some(),
-                rdata.dnskey().is_some(),
-                rdata.rrsig().is_some(),
-                rdata.nsec().is_some(),
-                rdata.nsec3().is_some(),
-                rdata.nsec3param().is_some(),
-                rdata.opt().is_some(),
-            ];
-            Ok(found.iter().filter(|is_found| **is_found).count())
-        }
-        None => Ok(0),
+fn views(rdata: &Data) -> usize {
+    let found = [
+        rdata.soa().is_some(),
+        rdata.cname().is_some(),
+        rdata.dname().is_some(),
+        rdata.ds().is_some(),
+        rdata.dnskey().is_some(),
+        rdata.rrsig().is_some(),
+        rdata.nsec().is_some(),
+        rdata.nsec3().is_some(),
+        rdata.nsec3param().is_some(),
+        rdata.opt().is_some(),
+    ];
+    found.iter().filter(|is_found| **is_found).count()
+}
+
+fn says_soa(alloc: Global, soa: &Soa<'_>) -> Result<bool, Fail> {
+    let mname = is(alloc, soa.mname, "ns.example.")?;
+    let rname = is(alloc, soa.rname, "hostmaster.example.")?;
+    let times = (
+        soa.refresh.as_secs(),
+        soa.retry.as_secs(),
+        soa.expire.as_secs(),
+    );
+    let others = (soa.serial.to_int(), soa.minimum.as_secs());
+    Ok(mname && rname && times == (7200, 3600, 1_209_600) && others == (0x0102_0304, 300))
+}
+
+fn says_ds(ds: &Ds<'_>) -> bool {
+    let numbers = (ds.key_tag, ds.algorithm.to_int(), ds.digest_type.to_int());
+    numbers == (3613, 15, 2) && ds.digest == DIGEST
+}
+
+fn says_dnskey(key: &Dnskey<'_>) -> bool {
+    let numbers = (key.flags, key.protocol, key.algorithm.to_int());
+    numbers == (257, 3, 15) && key.public_key == PUBLIC_KEY
+}
+
+fn says_rrsig(alloc: Global, rrsig: &Rrsig<'_>) -> Result<bool, Fail> {
+    let signer = is(alloc, rrsig.signer_name, "z.example.")?;
+    Ok(signer && rrsig.key_tag == 4660 && rrsig.signature == [0xa1, 0xb2, 0xc3, 0xd4].as_slice())
+}
+
+fn says_nsec(alloc: Global, nsec: &Nsec<'_>) -> Result<bool, Fail> {
+    let next_name = is(alloc, nsec.next_name, "host.example.")?;
+    Ok(next_name && nsec.types == [0, 6, 0x40, 1, 0, 0, 0, 3].as_slice())
+}
+
+fn says_nsec3(nsec3: &Nsec3<'_>) -> bool {
+    let numbers = (nsec3.hash_algorithm.to_int(), nsec3.flags, nsec3.iterations);
+    numbers == (1, 1, 12)
+        && nsec3.salt == [0xaa, 0xbb, 0xcc, 0xdd].as_slice()
+        && nsec3.next_owner == HASH
+        && nsec3.types == [0, 7, 0x22, 1, 0, 0, 0, 2, 0x90].as_slice()
+}
+
+fn says_nsec3param(nsec3param: &Nsec3param<'_>) -> bool {
+    let (flags, iterations) = (nsec3param.flags, nsec3param.iterations);
+    let numbers = (nsec3param.hash_algorithm.to_int(), flags, iterations);
+    numbers == (1, 0, 12) && nsec3param.salt == [0xaa, 0xbb, 0xcc, 0xdd].as_slice()
+}
+
+/// Whether the view of the data says what its vector does.
+fn says(alloc: Global, rdata: &Data) -> Result<bool, Fail> {
+    if let Some(soa) = rdata.soa() {
+        return says_soa(alloc, &soa);
+    }
+    if let Some(cname) = rdata.cname() {
+        return is(alloc, cname.cname, "ns.example.");
+    }
+    if let Some(dname) = rdata.dname() {
+        return is(alloc, dname.dname, "ns.example.");
+    }
+    if let Some(rrsig) = rdata.rrsig() {
+        return says_rrsig(alloc, &rrsig);
+    }
+    if let Some(nsec) = rdata.nsec() {
+        return says_nsec(alloc, &nsec);
+    }
+    Ok(says_octets(rdata))
+}
+
+/// The same of the views without names.
+fn says_octets(rdata: &Data) -> bool {
+    if let Some(ds) = rdata.ds() {
+        return says_ds(&ds);
+    }
+    if let Some(key) = rdata.dnskey() {
+        return says_dnskey(&key) && key.key_tag() == 3613;
+    }
+    if let Some(nsec3) = rdata.nsec3() {
+        return says_nsec3(&nsec3);
+    }
+    if let Some(nsec3param) = rdata.nsec3param() {
+        return says_nsec3param(&nsec3param);
+    }
+    match rdata.opt() {
+        Some(opt) => opt.options.len() == 18,
+        None => false,
     }
 }
 
 #[test]
-fn one_view_of_each_type(rt: HostRuntime) -> Result<(), Fail> {
+fn each_view(rt: HostRuntime) -> Result<(), Fail> {
     let alloc = rt.alloc();
-    for (rtype, text, count) in [
-        (Rtype::SOA, SOA, 1),
-        (Rtype::CNAME, NAME, 1),
-        (Rtype::DNAME, NAME, 1),
-        (Rtype::NS, NAME, 0),
-        (Rtype::DS, DS, 1),
-        (Rtype::DNSKEY, KEY, 1),
-        (Rtype::CDS, DS, 0),
-        (Rtype::RRSIG, SIGNATURE, 1),
-        (Rtype::NSEC, NSEC, 1),
-        (Rtype::NSEC3, NSEC3, 1),
-        (Rtype::NSEC3PARAM, NSEC3PARAM, 1),
-        (Rtype::OPT, OPTIONS, 1),
-        (Rtype::A, OPTIONS, 0),
-    ] {
-        assert_eq!(rt; views(alloc, rtype, text)?, count, "{}", rtype.to_int());
+    for (rtype, text, count) in VECTORS {
+        let Some(rdata) = data_of(alloc, rtype, text)? else {
+            return Ok(assert!(rt; false, "{text}"));
+        };
+        assert_eq!(rt; views(&rdata), count, "{text}");
+        let is_said = says(alloc, &rdata)?;
+        assert_eq!(rt; is_said, count == 1, "{text}");
     }
     Ok(())
 }
 
-#[test]
-fn soa(rt: HostRuntime) -> Result<(), Fail> {
-    let alloc = rt.alloc();
-    if let Some(rdata) = data_of(alloc, Rtype::SOA, SOA)? {
-        if let Some(soa) = rdata.soa() {
-            assert!(rt; is(alloc, soa.mname, "ns.example.")?);
-            assert!(rt; is(alloc, soa.rname, "hostmaster.example.")?);
-            assert_eq!(rt; soa.serial.to_int(), 16_909_060);
-            assert_eq!(rt; soa.refresh.as_secs(), 7200);
-            assert_eq!(rt; soa.retry.as_secs(), 3600);
-            assert_eq!(rt; soa.expire.as_secs(), 1_209_600);
-            assert_eq!(rt; soa.minimum.as_secs(), 300);
-            return Ok(());
-        }
+/// Whether the first option is of this code, has these octets, and these are left after it.
+fn first_is(options: &[u8], code: u16, octets: &[u8], left: &[u8]) -> bool {
+    match (Opt { options }).first_option() {
+        Some((option, rest)) => option.code == code && option.octets == octets && rest == left,
+        None => false,
     }
-    Ok(assert!(rt; false))
 }
 
 #[test]
-fn cname(rt: HostRuntime) -> Result<(), Fail> {
-    let alloc = rt.alloc();
-    if let Some(rdata) = data_of(alloc, Rtype::CNAME, NAME)? {
-        if let Some(cname) = rdata.cname() {
-            assert!(rt; is(alloc, cname.cname, "ns.example.")?);
-            return Ok(());
-        }
+fn first_options(rt: HostRuntime) {
+    assert!(rt;
+        first_is(
+            &[0, 15, 0, 2, 0, 6, 0, 10, 0, 0],
+            15,
+            &[0, 6],
+            &[0, 10, 0, 0]
+        )
+    );
+    assert!(rt; first_is(&[1, 10, 0, 0, 255], 266, &[], &[255]));
+    for text in ["", "\0", "\0\n\0", "\0\n\0\x02a"] {
+        let options = text.as_bytes();
+        assert!(rt; (Opt { options }).first_option().is_none(), "{text}");
     }
-    Ok(assert!(rt; false))
-}
-
-#[test]
-fn dname(rt: HostRuntime) -> Result<(), Fail> {
-    let alloc = rt.alloc();
-    if let Some(rdata) = data_of(alloc, Rtype::DNAME, NAME)? {
-        if let Some(dname) = rdata.dname() {
-            assert!(rt; is(alloc, dname.dname, "ns.example.")?);
-            return Ok(());
-        }
-    }
-    Ok(assert!(rt; false))
-}
-
-#[test]
-fn ds(rt: HostRuntime) -> Result<(), Fail> {
-    let alloc = rt.alloc();
-    if let Some(rdata) = data_of(alloc, Rtype::DS, DS)? {
-        if let Some(ds) = rdata.ds() {
-            assert_eq!(rt; ds.key_tag, 3613);
-            assert_eq!(rt; ds.algorithm.to_int(), 15);
-            assert_eq!(rt; ds.digest_type.to_int(), 2);
-            assert!(rt;
-                are(
-                    alloc,
-                    ds.digest,
-                    "3aa5ab37efce57f737fc1627013fee07bdf241bd10f3b1964ab55c78e79a304b"
-                )?
-            );
-            return Ok(());
-        }
-    }
-    Ok(assert!(rt; false))
-}
-
-#[test]
-fn dnskey(rt: HostRuntime) -> Result<(), Fail> {
-    let alloc = rt.alloc();
-    if let Some(rdata) = data_of(alloc, Rtype::DNSKEY, KEY)? {
-        if let Some(key) = rdata.dnskey() {
-            assert_eq!(rt; key.flags, 257);
-            assert_eq!(rt; key.protocol, 3);
-            assert_eq!(rt; key.algorithm.to_int(), 15);
-            assert_eq!(rt; key.key_tag(), 3613);
-            assert!(rt;
-                are(
-                    alloc,
-                    key.public_key,
-                    "974d96a22d224bc01adb915091477d44ccd91c9a41a11430010117d52c59240e"
-                )?
-            );
-            return Ok(());
-        }
-    }
-    Ok(assert!(rt; false))
-}
-
-#[test]
-fn rrsig(rt: HostRuntime) -> Result<(), Fail> {
-    let alloc = rt.alloc();
-    if let Some(rdata) = data_of(alloc, Rtype::RRSIG, SIGNATURE)? {
-        if let Some(rrsig) = rdata.rrsig() {
-            assert_eq!(rt; rrsig.key_tag, 4660);
-            assert!(rt; is(alloc, rrsig.signer_name, "z.example.")?);
-            assert!(rt; are(alloc, rrsig.signature, "a1b2c3d4")?);
-            return Ok(());
-        }
-    }
-    Ok(assert!(rt; false))
-}
-
-#[test]
-fn nsec(rt: HostRuntime) -> Result<(), Fail> {
-    let alloc = rt.alloc();
-    if let Some(rdata) = data_of(alloc, Rtype::NSEC, NSEC)? {
-        if let Some(nsec) = rdata.nsec() {
-            assert!(rt; is(alloc, nsec.next_name, "host.example.")?);
-            assert!(rt; are(alloc, nsec.types, "0006400100000003")?);
-            return Ok(());
-        }
-    }
-    Ok(assert!(rt; false))
-}
-
-#[test]
-fn nsec3(rt: HostRuntime) -> Result<(), Fail> {
-    let alloc = rt.alloc();
-    if let Some(rdata) = data_of(alloc, Rtype::NSEC3, NSEC3)? {
-        if let Some(nsec3) = rdata.nsec3() {
-            assert_eq!(rt; nsec3.hash_algorithm.to_int(), 1);
-            assert_eq!(rt; nsec3.flags, 1);
-            assert_eq!(rt; nsec3.iterations, 12);
-            assert!(rt; are(alloc, nsec3.salt, "aabbccdd")?);
-            assert!(rt;
-                are(
-                    alloc,
-                    nsec3.next_owner,
-                    "174eb2409fe28bcb4887a1836f957f0a8425e27b"
-                )?
-            );
-            assert!(rt; are(alloc, nsec3.types, "000722010000000290")?);
-            return Ok(());
-        }
-    }
-    Ok(assert!(rt; false))
-}
-
-#[test]
-fn nsec3param(rt: HostRuntime) -> Result<(), Fail> {
-    let alloc = rt.alloc();
-    if let Some(rdata) = data_of(alloc, Rtype::NSEC3PARAM, NSEC3PARAM)? {
-        if let Some(nsec3param) = rdata.nsec3param() {
-            assert_eq!(rt; nsec3param.hash_algorithm.to_int(), 1);
-            assert_eq!(rt; nsec3param.flags, 0);
-            assert_eq!(rt; nsec3param.iterations, 12);
-            assert!(rt; are(alloc, nsec3param.salt, "aabbccdd")?);
-            return Ok(());
-        }
-    }
-    Ok(assert!(rt; false))
-}
-
-/// The first option of these, its octets and those left after it, where there is one.
-fn assert_option(rt: &impl Abort, alloc: Global, row: [&str; 3], code: u16) -> Result<(), Fail> {
-    let [text, octets, left] = row;
-    let options = hex::decode(alloc, text)?;
-    match (Opt { options: &options }).first_option() {
-        Some((option, rest)) => {
-            assert_eq!(rt; option.code, code, "{text}");
-            assert!(rt; are(alloc, option.octets, octets)?, "{text}");
-            assert!(rt; are(alloc, rest, left)?, "{text}");
-        }
-        None => assert!(rt; octets == "none", "{text}"),
-    }
-    Ok(())
-}
-
-#[test]
-fn first_options(rt: HostRuntime) -> Result<(), Fail> {
-    let alloc = rt.alloc();
-    assert_option(
-        &rt,
-        alloc,
-        [OPTIONS, "0012616263646566", "000a0000000b"],
-        15,
-    )?;
-    assert_option(&rt, alloc, ["000a0000000b", "", "000b"], 10)?;
-    assert_option(&rt, alloc, ["000b", "none", ""], 0)?;
-    assert_option(&rt, alloc, ["", "none", ""], 0)?;
-    assert_option(&rt, alloc, ["000f0003aabb", "none", ""], 0)?;
-    assert_option(&rt, alloc, ["000f0002aabb", "aabb", ""], 15)
-}
-
-#[test]
-fn opt(rt: HostRuntime) -> Result<(), Fail> {
-    let alloc = rt.alloc();
-    if let Some(rdata) = data_of(alloc, Rtype::OPT, OPTIONS)? {
-        if let Some(opt) = rdata.opt() {
-            assert!(rt; are(alloc, opt.options, "000f00080012616263646566000a0000000b")?);
-            return Ok(());
-        }
-    }
-    Ok(assert!(rt; false))
 }
