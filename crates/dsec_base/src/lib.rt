@@ -15,6 +15,7 @@ mod view_tests;
 pub use cause::Cause;
 pub use dsec_builder::{
     AdditionalBuilder, AnswerBuilder, AuthorityBuilder, MessageBuilder, PushError, QuestionBuilder,
+    law_of_built_messages,
 };
 pub use dsec_name::{Name, NameError, NameRef, NoMemory, Octets};
 pub use dsec_number::{

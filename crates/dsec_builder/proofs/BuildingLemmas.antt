@@ -10,7 +10,7 @@ use Rattle.dsec_spec.specs.Reading.{u16_in, u16_at}
 use Rattle.dsec_spec.specs.Records.{Record}
 use Rattle.dsec_spec.specs.WrittenMessages.{Written, question_octets, record_octets, items_octets, message_octets, IsWritableQuestion, IsWritableRecord, IsWritable}
 use Rattle.dsec_spec.proofs.WrittenParts.{two_again}
-use Rattle.dsec_spec.proofs.WrittenMessageLaws.{ReadsBack, reads_back, counts_fit, length-message_octets}
+use Rattle.dsec_spec.proofs.WrittenMessageLaws.{reads_back, counts_fit, length-message_octets}
 use Rattle.dsec_builder.specs.Building.{number_or_0, read_back, IsMessageOf, IsBuilt, Says, with_id, with_flags, with_question, with_answer, with_authority, with_additional, nothing_written, with_number, raised, EndsInQuestions, EndsInAnswers, EndsInAuthorities}
 
 id_of : (w : Written) → IsWritable w → u16_at (message_octets w) 0 ≡ Some w.id
@@ -292,19 +292,24 @@ ends_in_answers octets w it n x = record {
 pub ends_in_authorities : (octets : List ℕ) (w : Written) → Says octets w → w.additionals ≡ [] → EndsInAuthorities octets
 ends_in_authorities octets w it x = record { built = it.built; no_additionals = ap (λ (v : Written). v.additionals) it.is ∙ x }
 
--- octets in progress are a message that says what is read of them
-pub is_message : (octets : List ℕ) → IsBuilt octets → IsMessageOf (read_back octets) octets
-is_message octets built =
-    let w = read_back octets in
-    let back : ReadsBack w octets = subst (ReadsBack w) (sym built.is) (reads_back w built.good (rw (sym built.is) built.at_most)) in
+-- a message that can be written is one that says what was written
+pub written_reads_back : (w : Written) → IsWritable w → length (message_octets w) ≤ 65535 → IsMessageOf w (message_octets w)
+written_reads_back w good most =
+    let back = reads_back w good most in
     record {
-      octets = built.is;
+      octets = refl;
       header = back.header;
       questions = rw back.questions refl;
       answers = rw back.answers refl;
       authorities = rw back.authorities refl;
       additionals = rw back.additionals refl;
     }
+
+-- octets in progress are a message that says what is read of them
+pub is_message : (octets : List ℕ) → IsBuilt octets → IsMessageOf (read_back octets) octets
+is_message octets built =
+    let w = read_back octets in
+    subst (IsMessageOf w) (sym built.is) (written_reads_back w built.good (rw (sym built.is) built.at_most))
 
 -- what follows from three things that hold where a call succeeds
 pub all_ok : {X E : Type 0} (r : Result X E) (A B C D : Type 0) → OnOk r A → OnOk r B → OnOk r C → (A → B → C → D) → OnOk r D

@@ -5,6 +5,7 @@ mod builder;
 mod building;
 mod error;
 mod items;
+mod laws;
 mod octets;
 mod sections;
 #[cfg(test)]
@@ -12,4 +13,5 @@ mod tests;
 
 pub use builder::{MessageBuilder, QuestionBuilder};
 pub use error::PushError;
+pub use laws::law_of_built_messages;
 pub use sections::{AdditionalBuilder, AnswerBuilder, AuthorityBuilder};
