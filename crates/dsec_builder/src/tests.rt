@@ -1,9 +1,9 @@
 //! Messages against octets that were written out by hand, and built messages that read back.
 
-use crate::{AnswerBuilder, MessageBuilder, PushError, QuestionBuilder};
+use crate::{AnswerBuilder, AuthorityBuilder, MessageBuilder, PushError, QuestionBuilder};
 use dsec_name::{Name, Octets};
 use dsec_number::{Class, Rtype, Ttl};
-use dsec_wire::{Data, Message, Question, Record, Records};
+use dsec_wire::{Data, Message, Question, Record};
 use std::alloc::Global;
 use std::test::Fail;
 
@@ -41,18 +41,43 @@ fn opaque(alloc: Global, size: usize) -> Result<Record, Fail> {
     record(alloc, ".", Rtype::from_int(65280), rdata)
 }
 
-/// Each section by one item, two answers, and the flags set last.
-fn by_hand(alloc: Global) -> Result<Message, Fail> {
+fn push_answer(
+    alloc: Global,
+    builder: &mut AnswerBuilder,
+    owner: &str,
+    rtype: Rtype,
+    rdata: &str,
+) -> Result<(), Fail> {
+    let answer = record(alloc, owner, rtype, octets(alloc, rdata)?)?;
+    Ok(builder.push(&answer)?)
+}
+
+fn push_authority(
+    alloc: Global,
+    builder: &mut AuthorityBuilder,
+    owner: &str,
+    rtype: Rtype,
+    rdata: &str,
+) -> Result<(), Fail> {
+    let authority = record(alloc, owner, rtype, octets(alloc, rdata)?)?;
+    Ok(builder.push(&authority)?)
+}
+
+fn asked(alloc: Global, name: &str, qtype: Rtype) -> Result<QuestionBuilder, Fail> {
     let mut builder = MessageBuilder::new(alloc)?.question();
-    builder.push(&question(alloc, "WwW.Example.", Rtype::MX)?)?;
-    let mut builder = builder.answer();
+    builder.push(&question(alloc, name, qtype)?)?;
+    Ok(builder)
+}
+
+/// An item or two in each section, the identifier set among them and the flags last.
+fn by_hand(alloc: Global) -> Result<Message, Fail> {
+    let mut builder = asked(alloc, "WwW.Example.", Rtype::MX)?.answer();
+    let mail = "000a044d61696c074578616d706c6500";
+    push_answer(alloc, &mut builder, "WwW.Example.", Rtype::MX, mail)?;
     builder.set_id(0x1234);
-    let rdata = octets(alloc, "000a044d61696c074578616d706c6500")?;
-    builder.push(&record(alloc, "WwW.Example.", Rtype::MX, rdata)?)?;
-    builder.push(&record(alloc, "b.", Rtype::TXT, Vec::new(alloc))?)?;
+    push_answer(alloc, &mut builder, "b.", Rtype::TXT, "")?;
     let mut builder = builder.authority();
-    let rdata = octets(alloc, "026e7300")?;
-    builder.push(&record(alloc, "example.", Rtype::NS, rdata)?)?;
+    push_authority(alloc, &mut builder, "example.", Rtype::NS, "026e7300")?;
     let mut builder = builder.additional();
     builder.push(&record(alloc, ".", Rtype::OPT, Vec::new(alloc))?)?;
     builder.set_flags(0x8400);
@@ -75,41 +100,42 @@ const BY_HAND: &str = "123484000001000200010001\
     076578616d706c65000002000100000e100004026e7300\
     000029000100000e100000";
 
-fn push_questions(
-    builder: &mut QuestionBuilder,
-    alloc: Global,
-    from: &Message,
-) -> Result<(), Fail> {
+fn questions_of(alloc: Global, from: &Message) -> Result<QuestionBuilder, Fail> {
+    let mut builder = MessageBuilder::new(alloc)?.question();
     let questions = from.question(alloc)?;
     for question in questions.as_slice() {
         builder.push(question)?;
     }
-    Ok(())
+    Ok(builder)
 }
 
-fn push_answers(builder: &mut AnswerBuilder, records: &Records) -> Result<(), Fail> {
-    for answer in records.as_slice() {
+fn answers_of(alloc: Global, from: &Message) -> Result<AnswerBuilder, Fail> {
+    let mut builder = questions_of(alloc, from)?.answer();
+    let answers = from.answer(alloc)?;
+    for answer in answers.as_slice() {
         builder.push(answer)?;
     }
-    Ok(())
+    Ok(builder)
 }
 
-/// The same header and items again.
+fn authorities_of(alloc: Global, from: &Message) -> Result<AuthorityBuilder, Fail> {
+    let mut builder = answers_of(alloc, from)?.authority();
+    let authorities = from.authority(alloc)?;
+    for authority in authorities.as_slice() {
+        builder.push(authority)?;
+    }
+    Ok(builder)
+}
+
+/// The same items and header again.
 fn rebuilt(alloc: Global, from: &Message) -> Result<Message, Fail> {
-    let mut builder = MessageBuilder::new(alloc)?.question();
+    let mut builder = authorities_of(alloc, from)?.additional();
+    let additionals = from.additional(alloc)?;
+    for additional in additionals.as_slice() {
+        builder.push(additional)?;
+    }
     builder.set_id(from.header().id());
     builder.set_flags(from.header().flags());
-    push_questions(&mut builder, alloc, from)?;
-    let mut builder = builder.answer();
-    push_answers(&mut builder, &from.answer(alloc)?)?;
-    let mut builder = builder.authority();
-    for item in from.authority(alloc)?.as_slice() {
-        builder.push(item)?;
-    }
-    let mut builder = builder.additional();
-    for item in from.additional(alloc)?.as_slice() {
-        builder.push(item)?;
-    }
     Ok(builder.finish())
 }
 
@@ -156,50 +182,72 @@ const LONG: &str = "aaaaaaaaaaaaaaaaaaaaaaaaaaaaaaaaaaaaaaaaaaaaaaaaaaaaaaaaaaaa
     ccccccccccccccccccccccccccccccccccccccccccccccccccccccccccccccc.\
     ddddddddddddddddddddddddddddddddddddddddddddddddddddddddddddd.";
 
+/// So many octets of this number.
+fn copies(alloc: Global, octet: u8, size: u8) -> Result<Vec<u8>, Fail> {
+    let mut octets = Vec::new(alloc);
+    for _ in 0..size {
+        octets.push(octet)?;
+    }
+    Ok(octets)
+}
+
+/// 120 records, each with one octet more of data.
+fn many(alloc: Global) -> Result<Message, Fail> {
+    let mut builder = MessageBuilder::new(alloc)?.answer();
+    for size in 0..120 {
+        let rdata = copies(alloc, size, size)?;
+        builder.push(&record(alloc, LONG, Rtype::TXT, rdata)?)?;
+    }
+    Ok(builder.finish())
+}
+
+/// `LONG` on the wire.
+fn long_octets(alloc: Global) -> Result<Vec<u8>, Fail> {
+    let mut octets = Vec::new(alloc);
+    for (letter, size) in [(b'a', 63), (b'B', 63), (b'c', 63), (b'd', 61)] {
+        octets.push(size)?;
+        octets.extend_from_slice(&copies(alloc, letter, size)?)?;
+    }
+    octets.push(0)?;
+    Ok(octets)
+}
+
+/// The octets of the 120 records and their header.
+fn many_octets(alloc: Global) -> Result<Vec<u8>, Fail> {
+    let owner = long_octets(alloc)?;
+    let mut octets = Vec::from_slice(alloc, &[0, 0, 0, 0, 0, 0, 0, 120, 0, 0, 0, 0])?;
+    for size in 0..120 {
+        octets.extend_from_slice(&owner)?;
+        octets.extend_from_slice(&[0, 16, 0, 1, 0, 0, 0x0e, 0x10, 0, size])?;
+        octets.extend_from_slice(&copies(alloc, size, size)?)?;
+    }
+    Ok(octets)
+}
+
 #[test]
 fn many_items(rt: HostRuntime) -> Result<(), Fail> {
     let alloc = rt.alloc();
-    let mut builder = MessageBuilder::new(alloc)?.answer();
-    for size in 0..120 {
-        let mut rdata = Vec::new(alloc);
-        for _ in 0..size {
-            rdata.push(size)?;
-        }
-        builder.push(&record(alloc, LONG, Rtype::TXT, rdata)?)?;
-    }
-    let built = builder.finish();
-    // 12 octets, 120 times 255 and 10, and what 0 to 119 come to.
-    assert_eq!(rt; built.as_slice().len(), 38952);
-    assert_eq!(rt; built.header().ancount(), 120);
-    let answer = built.answer(alloc)?;
-    for (size, item) in (0u8..120).zip(answer.as_slice()) {
-        assert_eq!(rt; item.owner().wire_len(), 255);
-        assert_eq!(rt; item.rdata().octets().len(), usize::from(size));
-        assert!(rt;
-            item.rdata()
-                .octets()
-                .as_slice()
-                .iter()
-                .all(|octet| *octet == size)
-        );
-    }
-    let again = rebuilt(alloc, &built)?;
-    assert_eq!(rt; again.as_slice(), built.as_slice());
+    let built = many(alloc)?;
+    assert_eq!(rt; built.as_slice(), many_octets(alloc)?.as_slice());
+    assert_eq!(rt; rebuilt(alloc, &built)?.as_slice(), built.as_slice());
+    assert_eq!(rt; built.answer(alloc)?.len(), 120);
     Ok(())
+}
+
+/// Two records that fill a message: 12 octets, 65011 and 512. One that is longer by an octet is refused first.
+fn full(alloc: Global) -> Result<(AnswerBuilder, bool), Fail> {
+    let mut builder = MessageBuilder::new(alloc)?.answer();
+    builder.push(&opaque(alloc, 65000)?)?;
+    let refused = builder.push(&opaque(alloc, 502)?) == Err(PushError::PushError);
+    builder.push(&opaque(alloc, 501)?)?;
+    Ok((builder, refused))
 }
 
 #[test]
 fn the_last_octet_that_fits(rt: HostRuntime) -> Result<(), Fail> {
     let alloc = rt.alloc();
-    let mut builder = MessageBuilder::new(alloc)?.answer();
-    builder.push(&opaque(alloc, 65000)?)?;
-    // 12 and 65011 octets leave 512, and a record has 11 besides its data.
-    assert_eq!(rt;
-        builder.push(&opaque(alloc, 502)?),
-        Err(PushError::PushError)
-    );
-    builder.push(&opaque(alloc, 501)?)?;
-    assert_eq!(rt; builder.push(&opaque(alloc, 0)?), Err(PushError::PushError));
+    let (builder, refused) = full(alloc)?;
+    assert!(rt; refused);
     let mut builder = builder.additional();
     assert_eq!(rt; builder.push(&opaque(alloc, 0)?), Err(PushError::PushError));
     let built = builder.finish();
