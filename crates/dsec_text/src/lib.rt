@@ -8,3 +8,6 @@ mod word;
 
 pub use line::{BadLine, Span, first_line};
 pub use word::{Word, first_word};
+
+#[cfg(test)]
+mod tests;
