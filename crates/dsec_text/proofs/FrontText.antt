@@ -90,6 +90,11 @@ front_read quoted _ _ rest (more octet octets first others w ws) e =
     ∙ (ap (with_octet (octet, length first)) next
     ∙ ap (λ (n : ℕ). (octet ∷ octets, n)) (sym (length-append first others)))))
 
+-- a text stands for the octets that it writes
+pub octets_written : (quoted : Bool) (octets text : List ℕ) → WritesOctets quoted octets text → (front quoted text).0 ≡ octets
+octets_written quoted octets text w =
+    ap (λ (x : List ℕ). (front quoted x).0) (sym (append-nil text)) ∙ ap (λ (p : List ℕ × ℕ). p.0) (front_read quoted octets text [] w refl)
+
 -- ---- steps of the code
 
 -- the size goes on by an octet

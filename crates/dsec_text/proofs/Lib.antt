@@ -3,3 +3,5 @@ pub mod FrontText
 pub mod TokenLemmas
 pub mod LineLemmas
 pub mod SpanLemmas
+pub mod TokenText
+pub mod LineText

@@ -26,7 +26,7 @@ pub record IsSized (text : List ℕ) (token : Kind × ℕ) : Type 0 where
 line_within : (text : List ℕ) → position_or_len is_line_end text ≤ length text
 line_within text = prefix_len-le-length (λ (x : ℕ). not (is_line_end x)) text
 
-no_end : (c : ℕ) (text : List ℕ) (n : ℕ) → is_between c ≡ false → ends_word (drop n (c ∷ text)) ≡ true → 0 < n
+pub no_end : (c : ℕ) (text : List ℕ) (n : ℕ) → is_between c ≡ false → ends_word (drop n (c ∷ text)) ≡ true → 0 < n
 no_end c text zero e h = absurd cc
 no_end c text (suc n) e h = omega arith
 

@@ -1,7 +1,7 @@
 -- The lines of zone text, which parentheses join (RFC 1035 5.1).
-use Rattle.std.specs.Prelude.{ℕ, zero, suc, ◌+◌, List, [], ◌∷◌, ◌++◌, length, Bool, true, false, Option, Some, None, Result, Ok, Err, if◌then◌else◌}
+use Rattle.std.specs.Prelude.{◌≡◌, ℕ, zero, suc, ◌+◌, List, [], ◌∷◌, ◌++◌, length, Bool, true, false, Option, Some, None, Result, Ok, Err, if◌then◌else◌}
 use Rattle.std.specs.List.{count_by}
-use Rattle.dsec_text.specs.Escapes.{is_line_end}
+use Rattle.dsec_text.specs.Escapes.{is_blank, is_line_end}
 use Rattle.dsec_text.specs.Tokens.{Token, tokens_of}
 use Rattle.dsec_text.specs.Words.{Word, words_of}
 use Rattle.dsec_text.specs.declared.token.Kind.{Kind}
@@ -49,6 +49,18 @@ lines_from depth (token ∷ tokens) =
 -- the lines of a text
 abbrev pub lines_of : List ℕ → List (Option (List ℕ))
 lines_of text = lines_from 0 (tokens_of text)
+
+-- a text begins with a line, which is made of the same tokens alone as there, and other lines follow
+pub record BeginsWith (line text : List ℕ) (others : List (Option (List ℕ))) : Type 0 where
+  pub rest : List ℕ
+  pub is : text ≡ line ++ rest
+  pub tokens : tokens_of text ≡ tokens_of line ++ tokens_of rest
+  pub follow : others ≡ lines_of rest
+
+-- whether a line's first octet is a blank
+abbrev pub begins_with_blank : List ℕ → Bool
+begins_with_blank [] = false
+begins_with_blank (octet ∷ line) = is_blank octet
 
 -- how many line ends octets have
 abbrev pub line_ends : List ℕ → ℕ

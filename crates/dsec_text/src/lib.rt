@@ -2,11 +2,13 @@
 #![tactic(auto)]
 
 mod escape;
+mod laws;
 mod line;
 mod token;
 mod word;
 
-pub use line::{BadLine, Span, first_line};
+pub use laws::{law_of_lines, law_of_tokens, law_of_words};
+pub use line::{BadLine, Span, begins_with_blank, first_line};
 pub use word::{Word, first_word};
 
 #[cfg(test)]

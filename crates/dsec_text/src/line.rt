@@ -1,7 +1,7 @@
 //! The lines of zone text, which parentheses join (RFC 1035 5.1).
 
 ghost use Rattle.std.specs.Prelude.{◌≡◌, ◌<◌, ◌≤◌, ◌∷◌, [], length, take, drop, Some, None, IfOk, IfSome, IfErr, MatchOption};
-ghost use Rattle.dsec_text.specs.Lines.{depth_after as depth_behind, ends_line as ends_line_at, first_line_of, line_ends as line_ends_of, lines_of};
+ghost use Rattle.dsec_text.specs.Lines.{begins_with_blank as begins_blank, depth_after as depth_behind, ends_line as ends_line_at, first_line_of, line_ends as line_ends_of, lines_of};
 
 use crate::token::{Kind, token};
 use crate::word::first_word;
@@ -53,6 +53,16 @@ pub fn first_line(text: &[u8]) -> Result<Option<Span>, BadLine>
         rest = after;
     }
     Ok(None)
+}
+
+/// Whether a line's first octet is a space or a tab, and so no word begins at its first octet.
+pub fn begins_with_blank(line: &[u8]) -> bool
+    ensures { result ≡ begins_blank line.now }
+{
+    match line.split_first() {
+        None => false,
+        Some((&octet, _)) => octet == b' ' || octet == b'\t',
+    }
 }
 
 /// How many octets the first line of a text has; none where it is refused.

@@ -138,6 +138,13 @@ fn plain_words_and_marks_are_told(rt: HostRuntime) -> Result<(), Fail> {
 }
 
 #[test]
+fn a_blank_may_begin_a_line(rt: HostRuntime) -> Result<(), Fail> {
+    assert!(rt; begins_with_blank(b" a") && begins_with_blank(b"\t"));
+    assert!(rt; !begins_with_blank(b"a ") && !begins_with_blank(b"( a") && !begins_with_blank(b""));
+    Ok(())
+}
+
+#[test]
 fn a_line_of_a_megabyte_is_read_once(rt: HostRuntime) -> Result<(), Fail> {
     let alloc: Global = rt.alloc();
     let mut text = Vec::new(alloc);
