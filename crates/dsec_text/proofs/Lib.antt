@@ -5,3 +5,4 @@ pub mod LineLemmas
 pub mod SpanLemmas
 pub mod TokenText
 pub mod LineText
+pub mod SpanText
