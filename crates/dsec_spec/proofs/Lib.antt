@@ -21,6 +21,8 @@ pub mod ChainExample
 pub mod DelegationExample
 pub mod RrsigLemmas
 pub mod SignedTests
+pub mod DelegationLaws
+pub mod KeySearchLemmas
 pub mod Members
 pub mod IslandLemmas
 pub mod AnsweringLemmas

@@ -16,6 +16,8 @@ pub mod Period
 pub mod SignedBytes
 pub mod Signed
 pub mod DelegationSigner
+pub mod KeySearch
+pub mod KeySizes
 pub mod Chain
 pub mod Groups
 pub mod Trying
