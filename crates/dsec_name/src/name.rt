@@ -14,6 +14,7 @@ ghost use Rattle.dsec_name.specs.Wire.{IsOnWire, name_on_wire, wire_labels};
 use crate::error::{NameError, NoMemory};
 use crate::key::sort_key;
 use crate::name_ref::NameRef;
+use arrayvec::ArrayVec;
 use std::alloc::Global;
 use std::cmp::Ordering;
 use std::marker::Model;
@@ -188,6 +189,13 @@ impl Name {
         out.extend_from_slice(labels)?;
         out.push_reserved(0);
         Ok(())
+    }
+
+    /// The name's canonical octets: uncompressed and in lower case (RFC 4034 6.2).
+    pub fn canonical_octets(&self) -> ArrayVec<u8, 255>
+        ensures { result.items ≡ canonical_octets self.now }
+    {
+        self.as_name_ref().canonical_octets()
     }
 
     /// Adds the name's canonical octets: uncompressed and in lower case (RFC 4034 6.2).

@@ -9,6 +9,7 @@ ghost use Rattle.dsec_name.specs.NamePrefix.{labels_size_in};
 
 use crate::error::NoMemory;
 use crate::name::{MAX_LABEL, MAX_NAME, Name};
+use arrayvec::ArrayVec;
 use std::alloc::Global;
 
 /// A domain name that stands uncompressed in octets of another value, its letters as they came. A clause sees
@@ -68,6 +69,20 @@ impl<'a> NameRef<'a> {
             rest = next;
         }
         labels
+    }
+
+    /// The name's canonical octets: uncompressed and in lower case (RFC 4034 6.2).
+    pub fn canonical_octets(&self) -> ArrayVec<u8, 255>
+        ensures { result.items ≡ canonical_octets (name_view self.now) }
+    {
+        let mut out = ArrayVec::<u8, 255>::new();
+        let labels = self.octets;
+        // A length is at most 63, and so no letter.
+        for octet in labels {
+            out.push(octet.to_ascii_lowercase());
+        }
+        out.push(0);
+        out
     }
 
     /// Adds the name's canonical octets: uncompressed and in lower case (RFC 4034 6.2).
