@@ -3,3 +3,6 @@ pub mod NameParts
 pub mod LinkLemmas
 pub mod SignedTests
 pub mod KeyedLemmas
+pub mod KeyDigestLemmas
+pub mod IslandSteps
+pub mod KeySearchSteps

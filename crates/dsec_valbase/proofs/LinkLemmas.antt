@@ -5,13 +5,14 @@ use Rattle.std.specs.Char.{to_ascii_lowercase}
 use Rattle.std.proofs.Math.Bool.{not}
 use Rattle.std.proofs.lemmas.Bool.Decides.{nat_tests}
 use Rattle.std.proofs.lemmas.List.{length-map, length-reverse}
+use Rattle.std.proofs.lemmas.Option.{same_Some}
 use Rattle.dsec_spec.specs.Names.{Labels, Place, place, lower, IsAtOrBelow, IsStrictlyBelow}
 use Rattle.dsec_spec.specs.Numbers.{DS}
-use Rattle.dsec_spec.specs.Records.{Record, RecordSet}
+use Rattle.dsec_spec.specs.Records.{Record, RecordSet, ds_of}
 use Rattle.dsec_spec.specs.Accepts.{Accepts}
-use Rattle.dsec_spec.specs.Chain.{IsSigned, IsAnchorKeyLink, IsSetLink}
+use Rattle.dsec_spec.specs.Chain.{IsSigned, IsAnchorKeyLink, IsAnchorDsLink, IsSetLink}
 use Rattle.dsec_spec.proofs.NamesBelow.{at_or_below, same_or_below}
-use Rattle.dsec_valbase.specs.Links.{anchor_key_link, set_link, Anchors, FitsZone}
+use Rattle.dsec_valbase.specs.Links.{anchor_key_link, anchor_ds_link, set_link, Anchors, AnchorsByDs, FitsZone}
 
 -- a list of one thing contains that thing alone
 the_one : {A : Type 0} (a b : A) → Contains (a ∷ []) b → a ≡ b
@@ -50,6 +51,54 @@ anchor_of_link accepts a s sig t link =
 
 pub signed_of_link : (accepts : Accepts) (a : Record) (s : RecordSet) (sig : List ℕ) (t : ℕ) → IsAnchorKeyLink accepts (a ∷ []) (anchor_key_link s sig a.rdata) t → IsSigned accepts (set_link s sig a.rdata) (place s.owner) t
 signed_of_link accepts a s sig t link =
+    let signed = link.key_set.signed in
+    record { public_key = signed.public_key; reads = signed.reads; signature = signed.signature; reads_signature = signed.reads_signature; signed = signed.signed }
+
+-- a key that has signed its set gives the set's link by a DS record that speaks of it, among any anchors that the record is one of
+pub anchors_ds_link : (accepts : Accepts) (a : Record) (s : RecordSet) (sig key : List ℕ) (t : ℕ) → AnchorsByDs a s key → IsSigned accepts (set_link s sig key) (place s.owner) t
+    → (anchors : List Record) → Contains anchors a → IsAnchorDsLink accepts anchors (anchor_ds_link s sig a.rdata key) t
+anchors_ds_link accepts a s sig key t is signed anchors there = record {
+  of_kind = refl;
+  key_set = record {
+    of_class = is.of_class;
+    of_type = is.of_type;
+    its_own = is.its_own;
+    signed = record { public_key = signed.public_key; reads = signed.reads; signature = signed.signature; reads_signature = signed.reads_signature; signed = signed.signed };
+  };
+  ds_data = a.rdata;
+  by_way_of = refl;
+  anchored = record { anchor = a; listed = there; of_class = is.anchor_class; of_type = is.anchor_type; stands_at = is.same_owner; says = refl };
+  speaks = record {
+    ds_record = is.speaks.ds_record;
+    public_key = is.speaks.public_key;
+    reads_ds = is.speaks.reads_ds;
+    reads_key = is.speaks.reads_key;
+    matches = is.speaks.matches;
+  };
+}
+
+-- and a link by the one DS record comes of it
+pub anchor_of_ds_link : (accepts : Accepts) (a : Record) (s : RecordSet) (sig key : List ℕ) (t : ℕ) → IsAnchorDsLink accepts (a ∷ []) (anchor_ds_link s sig a.rdata key) t → AnchorsByDs a s key
+anchor_of_ds_link accepts a s sig key t link =
+    let one : a ≡ link.anchored.anchor = the_one a link.anchored.anchor link.anchored.listed in
+    let via : a.rdata ≡ link.ds_data = same_Some _ _ link.by_way_of in record {
+      anchor_class = ap (λ (r : Record). r.class) one ∙ link.anchored.of_class;
+      anchor_type = ap (λ (r : Record). r.rtype) one ∙ link.anchored.of_type;
+      of_class = link.key_set.of_class;
+      of_type = link.key_set.of_type;
+      same_owner = ap (λ (r : Record). place r.owner) one ∙ link.anchored.stands_at;
+      its_own = link.key_set.its_own;
+      speaks = record {
+        ds_record = link.speaks.ds_record;
+        public_key = link.speaks.public_key;
+        reads_ds = ap ds_of via ∙ link.speaks.reads_ds;
+        reads_key = link.speaks.reads_key;
+        matches = link.speaks.matches;
+      };
+    }
+
+pub signed_of_ds_link : (accepts : Accepts) (a : Record) (s : RecordSet) (sig key : List ℕ) (t : ℕ) → IsAnchorDsLink accepts (a ∷ []) (anchor_ds_link s sig a.rdata key) t → IsSigned accepts (set_link s sig key) (place s.owner) t
+signed_of_ds_link accepts a s sig key t link =
     let signed = link.key_set.signed in
     record { public_key = signed.public_key; reads = signed.reads; signature = signed.signature; reads_signature = signed.reads_signature; signed = signed.signed }
 

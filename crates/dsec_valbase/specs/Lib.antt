@@ -4,3 +4,5 @@ pub mod Keyed
 pub mod Tests
 pub mod Links
 pub mod Shown
+pub mod KeyDigests
+pub mod KeySearches

@@ -68,7 +68,7 @@ pub fn admit_set<V: Verifier>(
 }
 
 /// Whether the key of these DNSKEY data has signed the set as a key of the zone, by these RRSIG data.
-fn key_signs<V: Verifier>(
+pub(crate) fn key_signs<V: Verifier>(
     alloc: Global,
     key: &Data,
     set: &RecordSet,

@@ -1,0 +1,39 @@
+//! What a key is used for by those that vouch for it (RFC 4034 5.1.4).
+
+ghost use Rattle.std.specs.Prelude.{◌++◌};
+ghost use Rattle.std.specs.Option.{ok_or};
+ghost use Rattle.dsec_crypto.specs.Digest.{octets_of};
+ghost use Rattle.dsec_crypto.specs.declared.error.AlgorithmError.TheVariants.{Unsupported};
+ghost use Rattle.dsec_spec.specs.Digests.{digest_by};
+ghost use Rattle.dsec_spec.specs.Names.{canonical_octets};
+ghost use Rattle.dsec_spec.specs.Reading.{Gives};
+ghost use Rattle.dsec_spec.specs.Records as records;
+ghost use Rattle.dsec_spec.specs.Records.{key_octets};
+ghost use Rattle.dsec_wire.specs.Views.{key_view};
+ghost use Rattle.dsec_valbase.specs.KeyDigests.{never};
+
+use crate::key_digest::key_digest;
+use dsec_crypto::{AlgorithmError, Digest};
+use dsec_name::Name;
+use dsec_number::DigestAlgorithm;
+use dsec_wire::Dnskey;
+
+/// The digests of a key, and its size.
+pub trait DnskeyExt {
+    /// What the DNSKEY record says.
+    ghost says: { Self → records.Key };
+
+    /// The digest that a DS record has of the key: that of the owner's canonical name and the DNSKEY data
+    /// (RFC 4034 5.1.4). `Unsupported` where the digests aren't SHA-1, SHA-256 or SHA-384.
+    fn digest(&self, owner: &Name, algorithm: DigestAlgorithm) -> Result<Digest, AlgorithmError>
+        ensures { Gives never octets_of result
+            (ok_or (digest_by algorithm (canonical_octets owner.now ++ key_octets (says self.now))) Unsupported) };
+}
+
+impl<'a> DnskeyExt for Dnskey<'a> {
+    ghost says = { key_view };
+
+    fn digest(&self, owner: &Name, algorithm: DigestAlgorithm) -> Result<Digest, AlgorithmError> {
+        key_digest(self, owner, algorithm)
+    }
+}
