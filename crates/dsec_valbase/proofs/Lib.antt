@@ -6,3 +6,4 @@ pub mod KeyedLemmas
 pub mod KeyDigestLemmas
 pub mod IslandSteps
 pub mod KeySearchSteps
+pub mod AnchorLemmas

@@ -60,14 +60,14 @@ pub anchors_ds_link : (accepts : Accepts) (a : Record) (s : RecordSet) (sig key 
 anchors_ds_link accepts a s sig key t is signed anchors there = record {
   of_kind = refl;
   key_set = record {
-    of_class = is.of_class;
-    of_type = is.of_type;
+    of_class = is.stands.of_class;
+    of_type = is.stands.of_type;
     its_own = is.its_own;
     signed = record { public_key = signed.public_key; reads = signed.reads; signature = signed.signature; reads_signature = signed.reads_signature; signed = signed.signed };
   };
   ds_data = a.rdata;
   by_way_of = refl;
-  anchored = record { anchor = a; listed = there; of_class = is.anchor_class; of_type = is.anchor_type; stands_at = is.same_owner; says = refl };
+  anchored = record { anchor = a; listed = there; of_class = is.stands.anchor_class; of_type = is.stands.anchor_type; stands_at = is.stands.same_owner; says = refl };
   speaks = record {
     ds_record = is.speaks.ds_record;
     public_key = is.speaks.public_key;
@@ -82,11 +82,13 @@ pub anchor_of_ds_link : (accepts : Accepts) (a : Record) (s : RecordSet) (sig ke
 anchor_of_ds_link accepts a s sig key t link =
     let one : a ≡ link.anchored.anchor = the_one a link.anchored.anchor link.anchored.listed in
     let via : a.rdata ≡ link.ds_data = same_Some _ _ link.by_way_of in record {
-      anchor_class = ap (λ (r : Record). r.class) one ∙ link.anchored.of_class;
-      anchor_type = ap (λ (r : Record). r.rtype) one ∙ link.anchored.of_type;
-      of_class = link.key_set.of_class;
-      of_type = link.key_set.of_type;
-      same_owner = ap (λ (r : Record). place r.owner) one ∙ link.anchored.stands_at;
+      stands = record {
+        anchor_class = ap (λ (r : Record). r.class) one ∙ link.anchored.of_class;
+        anchor_type = ap (λ (r : Record). r.rtype) one ∙ link.anchored.of_type;
+        of_class = link.key_set.of_class;
+        of_type = link.key_set.of_type;
+        same_owner = ap (λ (r : Record). place r.owner) one ∙ link.anchored.stands_at;
+      };
       its_own = link.key_set.its_own;
       speaks = record {
         ds_record = link.speaks.ds_record;

@@ -6,3 +6,5 @@ pub mod Links
 pub mod Shown
 pub mod KeyDigests
 pub mod KeySearches
+pub mod Anchors
+pub mod Sizes

@@ -49,13 +49,17 @@ pub record Speaks (ds_data : List ℕ) (owner : Labels) (key : List ℕ) : Type 
   pub reads_key : key_of key ≡ Some public_key
   pub matches : Matches ds_record owner public_key
 
--- the record is a DS record of class IN at the owner of the key set, and speaks of a key of the set (RFC 4035 5)
-pub record AnchorsByDs (anchor : Record) (records : RecordSet) (key : List ℕ) : Type 0 where
+-- the record is a DS record of class IN at the owner of a key set of class IN
+pub record IsDsOver (anchor : Record) (records : RecordSet) : Type 0 where
   pub anchor_class : anchor.class ≡ IN
   pub anchor_type : anchor.rtype ≡ DS
   pub of_class : records.class ≡ IN
   pub of_type : records.rtype ≡ DNSKEY
   pub same_owner : place anchor.owner ≡ place records.owner
+
+-- the record is a DS record of class IN at the owner of the key set, and speaks of this key of the set (RFC 4035 5)
+pub record AnchorsByDs (anchor : Record) (records : RecordSet) (key : List ℕ) : Type 0 where
+  pub stands : IsDsOver anchor records
   pub its_own : Contains records.datas key
   pub speaks : Speaks anchor.rdata records.owner key
 

@@ -1,18 +1,21 @@
 //! What a key is used for by those that vouch for it (RFC 4034 5.1.4).
 
-ghost use Rattle.std.specs.Prelude.{◌++◌};
+ghost use Rattle.std.specs.Prelude.{◌≡◌, ◌++◌};
 ghost use Rattle.std.specs.Option.{ok_or};
 ghost use Rattle.dsec_crypto.specs.Digest.{octets_of};
 ghost use Rattle.dsec_crypto.specs.declared.error.AlgorithmError.TheVariants.{Unsupported};
 ghost use Rattle.dsec_spec.specs.Digests.{digest_by};
+ghost use Rattle.dsec_spec.specs.KeySizes.{key_size};
 ghost use Rattle.dsec_spec.specs.Names.{canonical_octets};
 ghost use Rattle.dsec_spec.specs.Reading.{Gives};
 ghost use Rattle.dsec_spec.specs.Records as records;
 ghost use Rattle.dsec_spec.specs.Records.{key_octets};
 ghost use Rattle.dsec_wire.specs.Views.{key_view};
 ghost use Rattle.dsec_valbase.specs.KeyDigests.{never};
+ghost use Rattle.dsec_valbase.specs.Sizes.{size_answer};
 
 use crate::key_digest::key_digest;
+use crate::key_size::bits_of;
 use dsec_crypto::{AlgorithmError, Digest};
 use dsec_name::Name;
 use dsec_number::DigestAlgorithm;
@@ -28,6 +31,12 @@ pub trait DnskeyExt {
     fn digest(&self, owner: &Name, algorithm: DigestAlgorithm) -> Result<Digest, AlgorithmError>
         ensures { Gives never octets_of result
             (ok_or (digest_by algorithm (canonical_octets owner.now ++ key_octets (says self.now))) Unsupported) };
+
+    /// How many bits the key has: of RSA's keys the modulus, of ECDSA's one of the two numbers, of EdDSA's all its octets
+    /// (RFC 3110 2, RFC 6605 4, RFC 8080 3). `InvalidData` where the octets aren't an RSA key, and `Unsupported` where
+    /// the algorithm is none of these.
+    fn key_size(&self) -> Result<usize, AlgorithmError>
+        ensures { result ≡ size_answer (key_size (says self.now)) };
 }
 
 impl<'a> DnskeyExt for Dnskey<'a> {
@@ -35,5 +44,9 @@ impl<'a> DnskeyExt for Dnskey<'a> {
 
     fn digest(&self, owner: &Name, algorithm: DigestAlgorithm) -> Result<Digest, AlgorithmError> {
         key_digest(self, owner, algorithm)
+    }
+
+    fn key_size(&self) -> Result<usize, AlgorithmError> {
+        bits_of(self)
     }
 }

@@ -2,14 +2,17 @@
 #![tactic(auto)]
 
 mod admit;
+mod admit_ds;
 mod anchors;
 mod bytes;
 mod canonical;
 mod check;
 mod dnskey_ext;
 mod ds_ext;
+mod island;
 mod key_digest;
 mod key_search;
+mod key_size;
 mod link;
 mod record_set;
 mod rrsig_ext;
@@ -19,7 +22,8 @@ mod supported;
 mod verified;
 
 pub use admit::{admit_anchor_key, admit_set};
-pub use anchors::TrustAnchors;
+pub use admit_ds::admit_anchor_ds;
+pub use anchors::{AnchorRecords, TrustAnchor, TrustAnchors};
 pub use bytes::signed_bytes;
 pub use check::{is_signed, matches, may_sign};
 pub use dnskey_ext::DnskeyExt;
