@@ -4,5 +4,6 @@ pub mod TokenLemmas
 pub mod LineLemmas
 pub mod SpanLemmas
 pub mod TokenText
+pub mod TokenReading
 pub mod LineText
 pub mod SpanText

@@ -7,7 +7,7 @@ use Rattle.dsec_text.specs.Tokens.IsMadeOf.{end, more, bad}
 use Rattle.dsec_text.specs.Lines.{BeginsWith, ends_line, depth_after, onto, going_on, lines_at_end, lines_from, lines_of}
 use Rattle.dsec_text.specs.declared.token.Kind.{Kind}
 use Rattle.dsec_text.specs.declared.token.Kind.TheVariants.{Blank, Comment, LineEnd, Open, Close, Plain, Quoted, Bad}
-use Rattle.dsec_text.proofs.TokenText.{text_made, made_is}
+use Rattle.dsec_text.proofs.TokenReading.{text_made, made_is}
 
 abbrev Lines : Type 0
 Lines = List (Option (List ℕ))

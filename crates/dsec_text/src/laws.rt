@@ -8,7 +8,7 @@ ghost use Rattle.dsec_text.specs.Words.{octets_of, words_of};
 ghost use Rattle.dsec_text.specs.declared.line.Span.{Span};
 
 /// A text is made of its tokens, and of no others.
-#[tactic(auto, using(crate::proofs::TokenText::text_made, crate::proofs::TokenText::made_is))]
+#[tactic(auto, using(crate::proofs::TokenReading::text_made, crate::proofs::TokenReading::made_is))]
 pub fn law_of_tokens()
     ensures { (text : List ℕ) (tokens : List Token) → (tokens_of text ≡ tokens) ↔ IsMadeOf tokens text }
 {}
