@@ -1,0 +1,5 @@
+pub mod JoinedWords
+pub mod ItemWords
+pub mod DataWords
+pub mod NextEntry
+pub mod Ipv6Text

@@ -1,0 +1,9 @@
+pub mod Addresses
+pub mod Words
+pub mod Forms
+pub mod Data
+pub mod Setting
+pub mod Records
+pub mod Lines
+pub mod Entries
+pub mod Places

@@ -1,0 +1,21 @@
+//! Zone text, read entry by entry (RFC 1035 5.1).
+#![tactic(auto)]
+
+mod address;
+mod control;
+mod data;
+mod entry;
+mod error;
+mod form;
+mod front;
+mod item;
+mod line;
+mod place;
+mod setting;
+mod step;
+mod word;
+mod zonefile;
+
+pub use entry::Entry;
+pub use error::{InplaceError, ZonefileError};
+pub use zonefile::Zonefile;

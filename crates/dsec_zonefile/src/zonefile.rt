@@ -1,0 +1,88 @@
+//! Zone text, read entry by entry.
+
+ghost use Rattle.std.specs.Prelude.{◌≡◌, ◌++◌, [], None, Some, OnErr, OnOk};
+ghost use Rattle.dsec_zonefile.specs.Entries.{Answers};
+ghost use Rattle.dsec_zonefile.specs.Setting.{at_first};
+
+use crate::entry::Entry;
+use crate::error::{InplaceError, ZonefileError};
+use crate::place::{Place, find};
+use crate::setting::Setting;
+use dsec_name::NoMemory;
+use dsec_number::Class;
+use std::alloc::Global;
+use std::marker::Model;
+
+/// Zone text that is read entry by entry (RFC 1035 5.1). Text may be given in pieces, also between entries; each call reads
+/// what is there as if the text ended with it, so a piece ends where a line does.
+#[derive(Drop)]
+pub struct Zonefile {
+    text: Vec<u8>,
+    place: Place,
+    refused: Option<usize>,
+}
+
+impl Model for Zonefile {
+    ghost use Rattle.std.specs.Prelude.{◌≤◌, drop, vec_len};
+    ghost use Rattle.dsec_zonefile.specs.Entries as entries;
+    ghost use Rattle.dsec_zonefile.specs.Places.{IsWithin};
+
+    ghost Value = { entries.Reader };
+
+    ghost view = { λ it. record { text = drop it.place.at it.text.items; passed = it.place.lines; setting = it.place.setting; refused = it.refused } };
+
+    ghost invariant = { λ it. IsWithin it.text.items it.place };
+}
+
+impl Zonefile {
+    /// No text, no class, and the root for the origin.
+    pub fn new(alloc: Global) -> Self
+        ensures { result ≡ record { text = []; passed = 0; setting = at_first; refused = None } }
+    {
+        Zonefile {
+            text: Vec::new(alloc),
+            place: Place {
+                at: 0,
+                lines: 0,
+                setting: Setting::new(alloc),
+            },
+            refused: None,
+        }
+    }
+
+    /// Sets the class of records that give none, as long as no record before them has one.
+    pub fn set_default_class(&mut self, class: Class)
+        ensures { self.new ≡ record self.old { setting = record self.old.setting { class = Some class } } }
+    {
+        self.place.setting.class = Some(class);
+    }
+
+    /// Adds more text after what is there.
+    pub fn extend_from_slice(&mut self, more: &[u8]) -> Result<(), NoMemory>
+        ensures ok { OnOk result (self.new ≡ record self.old { text = self.old.text ++ more.now }) }
+        ensures err { OnErr result (self.new ≡ self.old) }
+    {
+        self.text.extend_from_slice(more)?;
+        Ok(())
+    }
+
+    /// The next entry; none where no entry is left. A refusal is answered again at each later call.
+    pub fn next_entry(&mut self) -> Result<Option<Entry>, ZonefileError>
+        ensures { Answers self.old result self.new }
+    {
+        if let Some(line) = self.refused {
+            return Err(ZonefileError::Inplace(InplaceError { line }));
+        }
+        match find(*self.text.allocator(), &self.text, &self.place) {
+            Ok((entry, place)) => {
+                self.place = place;
+                Ok(entry)
+            }
+            Err(ZonefileError::Inplace(error)) => {
+                self.refused = Some(error.line);
+                Err(ZonefileError::Inplace(error))
+            }
+            Err(ZonefileError::NoMemory) => Err(ZonefileError::NoMemory),
+        }
+    }
+}
