@@ -3,3 +3,4 @@ pub mod ItemWords
 pub mod DataWords
 pub mod NextEntry
 pub mod Ipv6Text
+pub mod AllEntries

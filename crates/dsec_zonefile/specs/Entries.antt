@@ -73,9 +73,9 @@ pub data IsNext : Reader → Next → Type 0 where
 
 -- the entries of what is left, in order, and the line that is refused behind them, if one is
 pub data HasEntries : Reader → List Entry → Option ℕ → Type 0 where
-  none : (reader last : Reader) → IsNext reader (ended last) → HasEntries reader [] None
-  bad : (reader : Reader) (line : ℕ) → IsNext reader (refused line) → HasEntries reader [] (Some line)
-  more : (reader next : Reader) (it : Entry) (entries : List Entry) (end : Option ℕ) → IsNext reader (found it next)
+  no_more : (reader last : Reader) → IsNext reader (ended last) → HasEntries reader [] None
+  stops : (reader : Reader) (line : ℕ) → IsNext reader (refused line) → HasEntries reader [] (Some line)
+  goes_on : (reader next : Reader) (it : Entry) (entries : List Entry) (end : Option ℕ) → IsNext reader (found it next)
       → HasEntries next entries end → HasEntries reader (it ∷ entries) end
 
 -- A call answers with what comes next. Behind a refusal nothing but that is kept, and after want of memory all is as before.

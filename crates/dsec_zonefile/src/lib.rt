@@ -13,6 +13,10 @@ mod line;
 mod place;
 mod setting;
 mod step;
+#[cfg(test)]
+mod tests;
+#[cfg(test)]
+mod vectors;
 mod word;
 mod zonefile;
 
