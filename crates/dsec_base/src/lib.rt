@@ -32,4 +32,5 @@ pub use dsec_wire::{
     Nsec3param, Opt, Question, Questions, Record, Records, Rrsig, Sections, ShortMessage, Soa,
     read_name,
 };
+pub use dsec_zonefile::{Entry, InplaceError, Zonefile, ZonefileError};
 pub use laws::law_of_causes;
