@@ -18,6 +18,8 @@ mod tests;
 #[cfg(test)]
 mod vectors;
 mod word;
+#[cfg(test)]
+mod written;
 mod zonefile;
 
 pub use entry::Entry;

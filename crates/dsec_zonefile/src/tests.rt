@@ -5,6 +5,7 @@ use crate::vectors::{
     GENERIC_2, GENERIC_3, KEYS_1, KEYS_2, KEYS_3, LINES_1, LINES_2, NAMES_1, NAMES_2, OWNERS_1,
     OWNERS_2, TEXTS_1, TEXTS_2, TTLS_AND_CLASSES_1, TTLS_AND_CLASSES_2,
 };
+use crate::written::{FRONTS_1, FRONTS_2, KEYS, STANDARDS, ZONES};
 use crate::{Entry, InplaceError, Zonefile, ZonefileError};
 use dsec_name::Name;
 use dsec_number::Class;
@@ -193,6 +194,31 @@ fn reads_lines_1(rt: HostRuntime) -> Result<(), Fail> {
 #[test]
 fn reads_lines_2(rt: HostRuntime) -> Result<(), Fail> {
     assert_texts(&rt, rt.alloc(), Some(Class::IN), &LINES_2)
+}
+
+#[test]
+fn reads_the_standards_examples(rt: HostRuntime) -> Result<(), Fail> {
+    assert_texts(&rt, rt.alloc(), Some(Class::IN), &STANDARDS)
+}
+
+#[test]
+fn reads_zones_of_tools(rt: HostRuntime) -> Result<(), Fail> {
+    assert_texts(&rt, rt.alloc(), Some(Class::IN), &ZONES)
+}
+
+#[test]
+fn reads_keys_of_tools(rt: HostRuntime) -> Result<(), Fail> {
+    assert_texts(&rt, rt.alloc(), Some(Class::IN), &KEYS)
+}
+
+#[test]
+fn reads_fronts_1(rt: HostRuntime) -> Result<(), Fail> {
+    assert_texts(&rt, rt.alloc(), Some(Class::IN), &FRONTS_1)
+}
+
+#[test]
+fn reads_fronts_2(rt: HostRuntime) -> Result<(), Fail> {
+    assert_texts(&rt, rt.alloc(), Some(Class::IN), &FRONTS_2)
 }
 
 #[test]
