@@ -1,6 +1,6 @@
 -- Ordinary replies are secure.
-use Rattle.std.proofs.Common.{◌≡◌, ℕ, zero, suc, ◌+◌, ◌<◌, ◌==◌, ◌||◌, Bool, true, false, cond, List, [], ◌∷◌, ◌++◌, length, take, map, Option, Some, None, Result, Ok, refl, sym, ap, ◌∙◌, subst, arith, inl, inr, append-nil}
-use Rattle.std.specs.Prelude.{Contains, filter, find, filter_map, position, nat_lt, unwrap_or}
+use Rattle.std.proofs.Common.{◌≡◌, ℕ, zero, suc, ◌+◌, ◌<◌, ◌==◌, ◌&&◌, ◌||◌, Bool, true, false, cond, List, [], ◌∷◌, ◌++◌, length, take, map, Option, Some, None, Result, Ok, refl, sym, ap, ◌∙◌, subst, arith, inl, inr, append-nil}
+use Rattle.std.specs.Prelude.{Contains, filter, find, filter_map, flat_map, position, nat_lt, unwrap_or}
 use Rattle.std.specs.List.{list_any}
 use Rattle.std.specs.Option.{option_map}
 use Rattle.std.specs.Str.{bytes_eq}
@@ -10,7 +10,8 @@ use Rattle.std.proofs.lemmas.Slice.Eq.{bytes_eq-Decides}
 use Rattle.dsec_spec.specs.Reading.{◌>>=◌}
 use Rattle.dsec_spec.specs.Names.{Place, place, same_place, is_strictly_below, IsAtOrBelow, IsStrictlyBelow}
 use Rattle.dsec_spec.specs.Numbers.{IN, DNSKEY, CNAME, ANY}
-use Rattle.dsec_spec.specs.Records.{Record, Key, Rrsig, rrsig_of, beside}
+use Rattle.dsec_spec.specs.Records.{Record, Key, key_of, Rrsig, rrsig_of, beside}
+use Rattle.dsec_spec.specs.KeySearch.{KeySearch, found_at, not_found}
 use Rattle.dsec_spec.specs.Messages.{Question, answers_of, authorities_of}
 use Rattle.dsec_spec.specs.Signed.{Signed, signs}
 use Rattle.dsec_spec.specs.Groups.{Group, groups_of, set_in, firsts}
@@ -29,21 +30,16 @@ use Rattle.dsec_wire.specs.MessageSections.{sections_of}
 use Rattle.dsec_base.specs.declared.cause.Cause.{Cause}
 use Rattle.dsec_base.specs.declared.cause.Cause.TheVariants.{NotBuilt}
 use Rattle.dsec_judge.specs.declared.error.Error.{Error}
-use Rattle.dsec_judge.specs.Findings.{World, keys_of, tried_over, is_key_set_at, key_set_in, is_anchor_in, anchors_in, by_key, anchored_link, key_set_by, key_set_of, key_set_at, set_link, finding_by, finding_under, target_of, finding_from, island_of, finding}
+use Rattle.dsec_judge.specs.Admission.{Admitted, admission, admitted, admitted_by, cause_at, ds_in, first_cause, matching, matching_at, own_key, spoken_of}
+use Rattle.dsec_judge.specs.Findings.{World, keys_of, is_key_set_at, key_set_in, anchor_signs, anchored_link, key_set_by, key_set_of, key_set_at, set_link, finding_by, finding_under, target_of, finding_from, island_of, finding}
 use Rattle.dsec_judge.specs.declared.key_set.KeySet.TheVariants.{Held as held}
 use Rattle.dsec_judge.specs.declared.finding.Finding.{Finding}
 use Rattle.dsec_judge.specs.declared.finding.Finding.TheVariants.{Shown as shown}
 use Rattle.dsec_judge.specs.Verdicts.{is_secure, is_bogus, Verdict, bogus_cause, is_bare_alias, is_expanded, answered_by, answered, no_error_in, is_no_error, is_answered_at_name, judgement, verdict_on_questions, verdict_by_causes, verdict_on_groups, verdict_on_sections, verdict, asked_for}
 use Rattle.dsec_judge.specs.PlainAnswers.{IsSignedOnce, HasPlainKeys, IsPlainAnswer}
-
-filter_step : {A B : Type 0} (f : A → B) (x : A) (ys : List B) (zs : List A) → ys ≡ map f zs → (b : Bool) → cond b (f x ∷ ys) ys ≡ map f (cond b (x ∷ zs) zs)
-filter_step f x ys zs e true = ap (λ us. f x ∷ us) e
-filter_step f x ys zs e false = e
-
--- what a filter leaves of a mapped list
-pub filter_of_map : {A B : Type 0} (test : B → Bool) (f : A → B) (xs : List A) → filter test (map f xs) ≡ map f (filter (λ x. test (f x)) xs)
-filter_of_map test f [] = refl
-filter_of_map test f (x ∷ xs) = filter_step f x (filter test (map f xs)) (filter (λ y. test (f y)) xs) (filter_of_map test f xs) (test (f x))
+use Rattle.dsec_judge.proofs.AskingSteps.{StandsAt, from_no_position, from_position}
+use Rattle.dsec_judge.proofs.AnchorSteps.{admits, filter_of_map}
+use Rattle.dsec_judge.proofs.FindingLaws.{tried_over}
 
 -- one candidate that is good comes out
 tried_one : {P : Type 0} (is_good : P → Bool) (room : ℕ) (p : P) → 0 < room → is_good p ≡ true → tried is_good room (p ∷ []) ≡ good p
@@ -68,12 +64,12 @@ found_once w group zone keys s some =
     ∙ tried_one (pair_signs w.accepts (set_in group) zone w.moment) w.room (s.signature, s.public_key) some
     (signs_told w group zone s.signature s.rrsig s.public_key s.reads s.signed)
 
-only_one : {A : Type 0} (test : A → Bool) (x y : A) → filter test (x ∷ []) ≡ y ∷ [] → x ≡ y
-only_one test x y e = by (test x) e
+one_passes : {A : Type 0} (test : A → Bool) (x y : A) → filter test (x ∷ []) ≡ y ∷ [] → (test x ≡ true) × (x ≡ y)
+one_passes test x y e = by (test x) refl e
   where
-    by : (b : Bool) → cond b (x ∷ []) [] ≡ y ∷ [] → x ≡ y
-    by true f = cc
-    by false f = absurd cc
+    by : (b : Bool) → test x ≡ b → cond b (x ∷ []) [] ≡ y ∷ [] → (test x ≡ true) × (x ≡ y)
+    by true t f = (t, cc)
+    by false t f = absurd cc
 
 passes_at : {A : Type 0} (test : A → Bool) (xs : List A) (x : A) → Contains xs x → test x ≡ true → list_any test xs ≡ true
 passes_at test [] x h t = absurd (Rattle.dsec_spec.proofs.Members.not_in_none x h)
@@ -82,36 +78,65 @@ passes_at test (y ∷ ys) x h t = elim (Rattle.dsec_spec.proofs.Members.in_more 
   | inr later ↦ Rattle.std.proofs.lemmas.Bool.or_right (test y) (list_any test ys) (passes_at test ys x later t)
 ]
 
-anchor_is_in : (keys : Group) (anchor : Record) → place keys.owner ≡ place anchor.owner → anchor.class ≡ IN → anchor.rtype ≡ DNSKEY → Contains (set_in keys).datas anchor.rdata → is_anchor_in keys anchor ≡ true
-anchor_is_in keys anchor at of_class of_type its_own =
+position_there : {A : Type 0} (test : A → Bool) (xs : List A) → list_any test xs ≡ true → (k : ℕ) × (position test xs ≡ Some k) × StandsAt test xs k
+position_there test xs some = by (position test xs) refl
+  where
+    by : (o : Option ℕ) → position test xs ≡ o → (k : ℕ) × (position test xs ≡ Some k) × StandsAt test xs k
+    by None e = absurd (true≢false (sym some ∙ from_no_position test xs e))
+    by (Some k) e = (k, e, from_position test xs k e)
+
+-- a DNSKEY record of class IN whose data are in the set at its owner admits its key
+anchor_admits : (keys : Group) (anchor : Record) (key : Key) → place keys.owner ≡ place anchor.owner → anchor.class ≡ IN → anchor.rtype ≡ DNSKEY → Contains (set_in keys).datas anchor.rdata → key_of anchor.rdata ≡ Some key
+    → admitted keys anchor ≡ Some (record { anchor = anchor; rdata = anchor.rdata; key = key })
+anchor_admits keys anchor key at of_class of_type its_own reads =
     let there = from_map (λ (r : Record). r.rdata) keys.records anchor.rdata its_own in
-    and_from _ _ (and_from _ _ (and_from _ _ ((same_place_decides (place anchor.owner) (place keys.owner)).1 (sym at)) (eq-eqb anchor.class IN of_class)) (eq-eqb anchor.rtype DNSKEY of_type))
-    (passes_at (λ (r : Record). bytes_eq r.rdata anchor.rdata) keys.records there.0 there.1 ((bytes_eq-Decides there.0.rdata anchor.rdata).1 there.2))
+    let p = position_there test keys.records (passes_at test keys.records there.0 there.1 ((bytes_eq-Decides there.0.rdata anchor.rdata).1 there.2)) in
+    let same : p.2.one.rdata ≡ anchor.rdata = (bytes_eq-Decides p.2.one.rdata anchor.rdata).0 p.2.passes in
+    let picked : admission keys anchor ≡ found_at p.0 =
+    cond-true (same_place (place anchor.owner) (place keys.owner) && (anchor.class == IN)) by_type not_found (and_from _ _ ((same_place_decides (place anchor.owner) (place keys.owner)).1 (sym at)) (eq-eqb anchor.class IN of_class))
+    ∙ (cond-true (anchor.rtype == DNSKEY) (own_key (position test keys.records)) (spoken_of keys (ds_in anchor)) (eq-eqb anchor.rtype DNSKEY of_type)
+    ∙ ap own_key p.1) in
+    ap (admitted_by keys anchor) picked
+    ∙ (admits keys anchor p.2.one key p.0 p.2.there (ap key_of same ∙ reads)
+    ∙ ap (λ (x : List ℕ). Some (record { anchor = anchor; rdata = x; key = key })) same)
+  where
+    test : Record → Bool
+    test r = bytes_eq r.rdata anchor.rdata
+
+    by_type : KeySearch
+    by_type = cond (anchor.rtype == DNSKEY) (own_key (position test keys.records)) (spoken_of keys (ds_in anchor))
+
+-- the key of the only anchor
+abbrev plain_key : (w : World) (keys : Group) → HasPlainKeys w keys → Admitted
+plain_key w keys h = record { anchor = h.anchor; rdata = h.anchor.rdata; key = h.anchor_key }
 
 -- the key set of the only anchor is held
 pub keys_held : (w : World) (keys : Group) (h : HasPlainKeys w keys) → 0 < w.room
-    → key_set_at w (place h.anchor.owner) ≡ held (anchored_link keys (anchors_in w.anchors keys) (h.signed.signature, h.signed.public_key))
+    → key_set_at w (place h.anchor.owner) ≡ held (anchored_link keys (h.signed.signature, plain_key w keys h))
 keys_held w keys h some =
     let top : Place = place h.anchor.owner in
-    let own : List (List ℕ) = anchors_in w.anchors keys in
+    let a : Admitted = plain_key w keys h in
+    let s : Record = h.signed.signature in
+    let why : Cause = first_cause (filter_map (cause_at keys) w.anchors) in
     let found : (w.replies top >>= key_set_in top) ≡ Some keys = ap (λ (o : Option (List ℕ)). o >>= key_set_in top) h.replied ∙ h.found in
     let authorities = from_bind (authorities_of h.reply) _ keys h.found in
     let answers = from_bind (answers_of h.reply) _ keys authorities.2 in
     let placed = and_parts _ _ (and_parts _ _ (from_find (is_key_set_at top) (groups_of answers.0.0) keys answers.2).0).0 in
     let at : place keys.owner ≡ top = (same_place_decides (place keys.owner) top).0 placed.0 in
-    let is_own : is_anchor_in keys h.anchor ≡ true = anchor_is_in keys h.anchor at h.of_class h.of_type h.its_own in
-    let kept : filter (is_anchor_in keys) w.anchors ≡ h.anchor ∷ [] =
-    ap (filter (is_anchor_in keys)) h.only ∙ cond-true (is_anchor_in keys h.anchor) (h.anchor ∷ []) [] is_own in
-    let own_keys : keys_of own ≡ h.anchor_key ∷ [] =
-    ap (λ (records : List Record). keys_of (map (λ (a : Record). a.rdata) records)) kept ∙ ap (λ (o : Option Key). Rattle.std.specs.List.cons_option o []) h.reads in
-    let candidates : by_key (keys_of own) keys.signatures ≡ pairs keys.signatures (h.anchor_key ∷ []) =
-    ap (λ (ks : List Key). by_key ks keys.signatures) own_keys
-    ∙ (ap (λ (ss : List Record). by_key (h.anchor_key ∷ []) ss) h.signed.one
-    ∙ sym (ap (λ (ss : List Record). pairs ss (h.anchor_key ∷ [])) h.signed.one)) in
+    let its : admitted keys h.anchor ≡ Some a = anchor_admits keys h.anchor h.anchor_key at h.of_class h.of_type h.its_own h.reads in
+    let alone = one_passes (λ (k : Key). pair_matches top (s, k)) h.anchor_key h.signed.public_key h.signed.alone in
+    let one_pair : matching keys (Some a) ≡ (s, a) ∷ [] =
+    ap (λ (ss : List Record). map (λ (x : Record). (x, a)) (filter (λ (x : Record). pair_matches (place keys.owner) (x, h.anchor_key)) ss)) h.signed.one
+    ∙ ap (λ (b : Bool). map (λ (x : Record). (x, a)) (cond b (s ∷ []) [])) (ap (λ (z : Place). pair_matches z (s, h.anchor_key)) at ∙ alone.0) in
+    let candidates : flat_map (matching_at keys) w.anchors ≡ (s, a) ∷ [] =
+    ap (flat_map (matching_at keys)) h.only ∙ (append-nil (matching_at keys h.anchor) ∙ (ap (matching keys) its ∙ one_pair)) in
+    let counts : anchor_signs w.accepts keys w.moment (s, a) ≡ true =
+    ap (λ (z : Place). pair_signs w.accepts (set_in keys) z w.moment (s, h.anchor_key)) at
+    ∙ (ap (λ (k : Key). pair_signs w.accepts (set_in keys) top w.moment (s, k)) alone.1
+    ∙ signs_told w keys top s h.signed.rrsig h.signed.public_key h.signed.reads h.signed.signed) in
     ap (key_set_of w) found
-    ∙ (ap (λ (z : Place). key_set_by keys own (tried_over w keys z (by_key (keys_of own) keys.signatures))) at
-    ∙ (ap (λ (cs : List (Record × Key)). key_set_by keys own (tried_over w keys top cs)) candidates
-    ∙ ap (key_set_by keys own) (found_once w keys top (h.anchor_key ∷ []) h.signed some)))
+    ∙ (ap (λ (cs : List (Record × Admitted)). key_set_by keys why (tried (anchor_signs w.accepts keys w.moment) w.room cs)) candidates
+    ∙ ap (key_set_by keys why) (tried_one (anchor_signs w.accepts keys w.moment) w.room (s, a) some counts))
 
 -- the zone that is to have signed a group with one signature, of the anchor's zone
 target_is_top : (anchors : List Record) (group : Group) (top : Place) (signature : Record) (sig : Rrsig) → island_of anchors group ≡ Some top → group.signatures ≡ signature ∷ [] → rrsig_of signature.rdata ≡ Some sig → place sig.signer ≡ top
@@ -132,10 +157,10 @@ target_is_top anchors group top signature sig island one reads signer =
 
 -- a plain answer's group is shown
 pub plain_finding : (w : World) (message : List ℕ) (a : IsPlainAnswer w message) → 0 < w.room
-    → finding w a.group ≡ shown (anchored_link a.keys (anchors_in w.anchors a.keys) (a.has_keys.signed.signature, a.has_keys.signed.public_key) ∷ []) (set_link a.group (set_in a.keys).datas (a.signed.signature, a.signed.public_key))
+    → finding w a.group ≡ shown (anchored_link a.keys (a.has_keys.signed.signature, plain_key w a.keys a.has_keys) ∷ []) (set_link a.group (set_in a.keys).datas (a.signed.signature, a.signed.public_key))
 plain_finding w message a some =
     let top : Place = place a.has_keys.anchor.owner in
-    let link : Rattle.dsec_spec.specs.Chain.Link = anchored_link a.keys (anchors_in w.anchors a.keys) (a.has_keys.signed.signature, a.has_keys.signed.public_key) in
+    let link : Rattle.dsec_spec.specs.Chain.Link = anchored_link a.keys (a.has_keys.signed.signature, plain_key w a.keys a.has_keys) in
     let records : (length a.group.records == 0) ≡ false = ne_eqb (length a.group.records) 0 (λ e. let l = a.has_records in omega (arith, e, l)) in
     let target = target_is_top w.anchors a.group top a.signed.signature a.signed.rrsig a.below a.signed.one a.signed.reads a.signed.signed.signer in
     cond-false (length a.group.records == 0) _ (finding_from w a.group (island_of w.anchors a.group)) records
@@ -175,7 +200,7 @@ not_less m n e = false_from_ne_true (nat_lt m n) (λ t. let l = ltb-true m n t i
 abbrev plain_why : (w : World) (message : List ℕ) → IsPlainAnswer w message → Why
 plain_why w message a = record {
   group = 0;
-  links = anchored_link a.keys (anchors_in w.anchors a.keys) (a.has_keys.signed.signature, a.has_keys.signed.public_key) ∷ set_link a.group (set_in a.keys).datas (a.signed.signature, a.signed.public_key) ∷ [];
+  links = anchored_link a.keys (a.has_keys.signed.signature, plain_key w a.keys a.has_keys) ∷ set_link a.group (set_in a.keys).datas (a.signed.signature, a.signed.public_key) ∷ [];
 }
 
 plain_judgement : (w : World) (message : List ℕ) (a : IsPlainAnswer w message) → 0 < w.room → judgement w message a.question (a.group ∷ []) ≡ is_secure (plain_why w message a)

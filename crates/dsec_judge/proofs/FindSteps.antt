@@ -23,7 +23,7 @@ use Rattle.dsec_judge.specs.Findings.{World, finding, finding_from, finding_unde
 use Rattle.dsec_judge.specs.Asking.{AreAsked, AreOf, IsAsked, bare, with_island, with_replies}
 use Rattle.dsec_judge.specs.Verdicts.{island_asked}
 use Rattle.dsec_judge.specs.Found.{OfKeys}
-use Rattle.dsec_judge.proofs.FindingLaws.{from_key_set}
+use Rattle.dsec_judge.proofs.FindingLaws.{from_key_set, rests_on_keys}
 
 pub at_index : {A : Type 0} (P : A → Type 0) (xs : List A) (k : ℕ) (x : A) → AllByRecursion P xs → slice_get xs k ≡ Some x → P x
 at_index P [] k x h e = absurd cc
@@ -38,7 +38,7 @@ on_ok (Err e) h = tt
 of_keys_at : (accepts : Accepts) (anchors : List Record) (room t : ℕ) (top : Place) (reply : Option (List ℕ)) (keys : KeySet) → keys ≡ key_set_from (bare accepts anchors room t) top reply → OfKeys keys
 of_keys_at accepts anchors room t top reply (Unheld cause) e = tt
 of_keys_at accepts anchors room t top reply (Held link) e =
-    (from_key_set (with_replies accepts anchors room t (λ _. reply)) top link (by (reply >>= key_set_in top) ∙ sym e)).is_link.key_set.of_type
+    rests_on_keys (with_replies accepts anchors room t (λ _. reply)) anchors link (from_key_set (with_replies accepts anchors room t (λ _. reply)) top link (by (reply >>= key_set_in top) ∙ sym e)).is_link
   where
     by : (o : Option Group) → key_set_of (with_replies accepts anchors room t (λ _. reply)) o ≡ key_set_of (bare accepts anchors room t) o
     by None = refl

@@ -1,7 +1,7 @@
 -- What a finding rests on: a chain from an anchor that shows the group's set.
-use Rattle.std.proofs.Common.{◌≡◌, ℕ, zero, suc, ◌==◌, Bool, true, false, cond, List, [], ◌∷◌, ◌++◌, length, take, Option, Some, None, refl, sym, ap, ◌∙◌, subst, inl, inr}
-use Rattle.std.specs.Prelude.{Contains, filter, filter_map, find, unwrap_or, ◌≢◌, IsTrue}
-use Rattle.std.specs.List.{list_any, cons_option}
+use Rattle.std.proofs.Common.{◌≡◌, ℕ, zero, suc, ◌==◌, Bool, true, false, cond, List, [], ◌∷◌, ◌++◌, length, take, Option, Some, None, refl, sym, ap, ◌∙◌, subst, inl, inr, ◌⊎◌}
+use Rattle.std.specs.Prelude.{Contains, filter, filter_map, flat_map, find, unwrap_or, ◌≢◌, IsTrue}
+use Rattle.std.specs.List.{cons_option}
 use Rattle.std.specs.Str.{bytes_eq}
 use Rattle.std.proofs.lemmas.Bool.{false≢true, true≢false, and_parts, and_from, eq-eqb, eqb-true, eqb-false, cond-true, cond-false, cases_Bool}
 use Rattle.std.proofs.lemmas.Slice.Eq.{bytes_eq-Decides}
@@ -16,18 +16,20 @@ use Rattle.dsec_spec.specs.Messages.{answers_of, authorities_of}
 use Rattle.dsec_spec.specs.Trying.{Tried, good, nothing, all_bad, too_many_bad, tried, first_or, none_good, pairs, of_signature, pair_signs, pair_matches}
 use Rattle.dsec_spec.specs.Islands.{island}
 use Rattle.dsec_spec.specs.Chain as chain
-use Rattle.dsec_spec.specs.Chain.{IsSigned, IsKeySet, IsAnchor, IsAnchorKeyLink, IsSetLink, Holds}
+use Rattle.dsec_spec.specs.Chain.{IsSigned, IsKeySet, IsAnchor, IsAnchorKeyLink, IsAnchorDsLink, IsSetLink, Holds}
 use Rattle.dsec_spec.proofs.ReadingLemmas.{from_bind}
 use Rattle.dsec_spec.proofs.CanonicalNames.{same_place_decides}
-use Rattle.dsec_spec.proofs.Members.{first_in, later_in, in_more, not_in_none, from_no_find, from_find, from_take, from_filter, from_map, in_map, from_pairs, some_passes}
+use Rattle.dsec_spec.proofs.Members.{first_in, later_in, in_more, not_in_none, from_no_find, from_find, from_take, from_filter, from_pairs}
 use Rattle.dsec_spec.proofs.SignedTests.{signs_decides}
 use Rattle.dsec_spec.proofs.IslandLemmas.{island_is}
 use Rattle.dsec_spec.proofs.NamesBelow.{strictly_below_trans}
 use Rattle.dsec_base.specs.declared.cause.Cause.{Cause}
-use Rattle.dsec_judge.specs.Findings.{World, says_key, keys_of, data_of, tried_over, is_key_set_at, key_set_in, is_anchor_in, anchors_in, by_key, anchored_link, key_set_by, key_set_under, key_set_of, key_set_at, set_link, finding_by, finding_under, target_of, finding_from, island_of, finding}
+use Rattle.dsec_judge.specs.Admission.{Admitted, matching_at, cause_at, first_cause}
+use Rattle.dsec_judge.specs.Findings.{World, says_key, keys_of, data_of, is_key_set_at, key_set_in, anchor_signs, anchored_link, key_set_by, key_set_under, key_set_of, key_set_at, set_link, finding_by, finding_under, target_of, finding_from, island_of, finding}
 use Rattle.dsec_judge.specs.declared.key_set.KeySet.{KeySet}
 use Rattle.dsec_judge.specs.declared.key_set.KeySet.TheVariants.{Held as held, Unheld as unheld}
 use Rattle.dsec_judge.specs.declared.finding.Finding.TheVariants.{Shown as shown, Insecure as insecure, Bogus as bogus}
+use Rattle.dsec_judge.proofs.AdmissionLaws.{IsOfAnchors, from_tried_pairs}
 
 -- what comes out as good was tried, and is good
 pub from_tried : {P : Type 0} (is_good : P → Bool) (room : ℕ) (candidates : List P) (p : P) → tried is_good room candidates ≡ good p → (is_good p ≡ true) × Contains candidates p
@@ -62,6 +64,10 @@ from_signs accepts set zone t p e = by (rrsig_of p.0.rdata) refl e
     by : (o : Option Rrsig) → rrsig_of p.0.rdata ≡ o → of_signature (λ sig. signs accepts set zone t sig p.1) o ≡ true → Counts accepts set zone t p
     by None s f = absurd (false≢true f)
     by (Some sig) s f = record { signature = sig; reads_signature = s; signed = (signs_decides accepts set zone t sig p.1).0 f }
+
+-- signature records and keys tried over a group's set in their order, of those that match
+abbrev pub tried_over : World → Group → Place → List (Record × Key) → Tried (Record × Key)
+tried_over w group zone candidates = tried (pair_signs w.accepts (set_in group) zone w.moment) w.room (filter (pair_matches zone) candidates)
 
 -- what was tried over a group and is good is among the candidates, and counts
 pub from_tried_over : (w : World) (group : Group) (zone : Place) (candidates : List (Record × Key)) (p : Record × Key) → tried_over w group zone candidates ≡ good p
@@ -122,81 +128,74 @@ from_keys datas key h =
         let is : data_of datas key ≡ first = ap (λ (o : Option (List ℕ)). unwrap_or o []) e in
         record { there = subst (Contains datas) (sym is) found.1; reads = ap key_of is ∙ from_says key (key_of first) found.0 }
 
--- a group's data are those of its records
-data_in_set : (group : Group) (rdata : List ℕ) → list_any (λ (r : Record). bytes_eq r.rdata rdata) group.records ≡ true → Contains (set_in group).datas rdata
-data_in_set group rdata e =
-    let found = some_passes (λ (r : Record). bytes_eq r.rdata rdata) group.records e in
-    let same : found.0.rdata ≡ rdata = (bytes_eq-Decides found.0.rdata rdata).0 found.2 in
-    let there : Contains (set_in group).datas found.0.rdata = in_map (λ (r : Record). r.rdata) group.records found.0 found.1 in
-    subst (λ (x : List ℕ). Contains (set_in group).datas x) same there
+-- a key set that is held rests on the anchors: on the key of one, or on the DS record of one
+abbrev pub RestsOn : World → List Record → chain.Link → Type 0
+RestsOn w anchors link = IsAnchorKeyLink w.accepts anchors link w.moment ⊎ IsAnchorDsLink w.accepts anchors link w.moment
 
--- data of an anchor in a set
-pub record IsAnchorData (anchors : List Record) (group : Group) (rdata : List ℕ) : Type 0 where
-  pub anchor : Record
-  pub listed : Contains anchors anchor
-  pub is_in : is_anchor_in group anchor ≡ true
-  pub says : anchor.rdata ≡ rdata
+pub rests_on_keys : (w : World) (anchors : List Record) (link : chain.Link) → RestsOn w anchors link → link.records.rtype ≡ DNSKEY
+rests_on_keys w anchors link rests_on = elim rests_on [
+  | inl first ↦ first.key_set.of_type
+  | inr first ↦ first.key_set.of_type
+]
 
-from_anchors_in : (anchors : List Record) (group : Group) (rdata : List ℕ) → Contains (anchors_in anchors group) rdata → IsAnchorData anchors group rdata
-from_anchors_in anchors group rdata h =
-    let anchor = from_map (λ (a : Record). a.rdata) (filter (is_anchor_in group) anchors) rdata h in
-    let listed = from_filter (is_anchor_in group) anchors anchor.0 anchor.1 in
-    record { anchor = anchor.0; listed = listed.1; is_in = listed.0; says = anchor.2 }
-
--- a pair by key is of one of the keys and one of the signatures
-pub from_by_key : (keys : List Key) (signatures : List Record) (p : Record × Key) → Contains (by_key keys signatures) p → Contains keys p.1 × Contains signatures p.0
-from_by_key keys signatures p h =
-    let turned = from_map (λ (q : Key × Record). (q.1, q.0)) (pairs keys signatures) p h in
-    let both = from_pairs keys signatures turned.0 turned.1 in
-    (subst (λ (q : Record × Key). Contains keys q.1) turned.2 both.0, subst (λ (q : Record × Key). Contains signatures q.0) turned.2 both.1)
-
--- a key set that is held rests on the anchors
 pub record HoldsKeys (w : World) (top : Place) (link : chain.Link) : Type 0 where
-  pub is_link : IsAnchorKeyLink w.accepts w.anchors link w.moment
+  pub is_link : RestsOn w w.anchors link
   pub stands_at : place link.records.owner ≡ top
 
-from_group : (w : World) (top : Place) (group : Group) (link : chain.Link) → is_key_set_at top group ≡ true
-    → key_set_under w group (anchors_in w.anchors group) ≡ held link → HoldsKeys w top link
-from_group w top group link at e = by (tried_over w group (place group.owner) (by_key (keys_of own) group.signatures)) refl e
+-- the link of a key that an anchor admits and that has signed its set
+rests : (w : World) (group : Group) (p : Record × Admitted) → group.class ≡ IN → group.rtype ≡ DNSKEY → IsOfAnchors w.anchors group p.1
+    → Counts w.accepts (set_in group) (place group.owner) w.moment (p.0, p.1.key) → RestsOn w w.anchors (anchored_link group p)
+rests w group p classed typed its c = elim its.is_admitted.by_type [
+  | inl own ↦ inl (record {
+    of_kind = ap (λ (n : ℕ). cond (n == DS) chain.anchor_ds chain.anchor_key) own.0;
+    key_set = key_set;
+    by_way_of = ap (λ (x : List ℕ). Some x) own.1;
+    anchored = anchor DNSKEY p.1.rdata own.0 own.1;
+  })
+  | inr spoken ↦ inr (record {
+    of_kind = ap (λ (n : ℕ). cond (n == DS) chain.anchor_ds chain.anchor_key) spoken.0;
+    key_set = key_set;
+    ds_data = p.1.anchor.rdata;
+    by_way_of = refl;
+    anchored = anchor DS p.1.anchor.rdata spoken.0 refl;
+    speaks = record { ds_record = spoken.1.0; public_key = p.1.key; reads_ds = spoken.1.1; reads_key = its.is_admitted.reads; matches = spoken.1.2 };
+  })
+]
   where
-    own : List (List ℕ)
-    own = anchors_in w.anchors group
+    key_set : IsKeySet w.accepts (anchored_link group p) w.moment
+    key_set = record {
+      of_class = classed;
+      of_type = typed;
+      its_own = its.is_admitted.its_own;
+      signed = record { public_key = p.1.key; reads = its.is_admitted.reads; signature = c.signature; reads_signature = c.reads_signature; signed = c.signed };
+    }
 
-    with : (p : Record × Key) → tried_over w group (place group.owner) (by_key (keys_of own) group.signatures) ≡ good p → HoldsKeys w top (anchored_link group own p)
+    anchor : (rtype : ℕ) (rdata : List ℕ) → p.1.anchor.rtype ≡ rtype → p.1.anchor.rdata ≡ rdata → IsAnchor w.anchors rtype (place group.owner) rdata
+    anchor rtype rdata its_type says = record { anchor = p.1.anchor; listed = its.listed; of_class = its.is_admitted.of_class; of_type = its_type; stands_at = its.is_admitted.stands_at; says = says }
+
+from_group : (w : World) (top : Place) (group : Group) (link : chain.Link) → is_key_set_at top group ≡ true
+    → key_set_under w group w.anchors ≡ held link → HoldsKeys w top link
+from_group w top group link at e = by (tried (anchor_signs w.accepts group w.moment) w.room pairs_tried) refl e
+  where
+    pairs_tried : List (Record × Admitted)
+    pairs_tried = flat_map (matching_at group) w.anchors
+
+    why : Cause
+    why = first_cause (filter_map (cause_at group) w.anchors)
+
+    with : (p : Record × Admitted) → tried (anchor_signs w.accepts group w.moment) w.room pairs_tried ≡ good p → HoldsKeys w top (anchored_link group p)
     with p f =
-        let found = from_tried_over w group (place group.owner) (by_key (keys_of own) group.signatures) p f in
-        let said = from_keys own p.1 (from_by_key (keys_of own) group.signatures p found.0).0 in
-        let pair = from_anchors_in w.anchors group (data_of own p.1) said.there in
-        let its_own = and_parts _ _ pair.is_in in
-        let typed = and_parts _ _ its_own.0 in
-        let classed = and_parts _ _ typed.0 in
+        let found = from_tried (anchor_signs w.accepts group w.moment) w.room pairs_tried p f in
         let placed = and_parts _ _ at in
         let front = and_parts _ _ placed.0 in
-        let c = found.1 in
         record {
-          is_link = record {
-            of_kind = refl;
-            key_set = record {
-              of_class = eqb-true group.class IN front.1;
-              of_type = eqb-true group.rtype DNSKEY placed.1;
-              its_own = subst (λ (x : List ℕ). Contains (set_in group).datas x) pair.says (data_in_set group pair.anchor.rdata its_own.1);
-              signed = record { public_key = p.1; reads = said.reads; signature = c.signature; reads_signature = c.reads_signature; signed = c.signed };
-            };
-            by_way_of = refl;
-            anchored = record {
-              anchor = pair.anchor;
-              listed = pair.listed;
-              of_class = eqb-true pair.anchor.class IN classed.1;
-              of_type = eqb-true pair.anchor.rtype DNSKEY typed.1;
-              stands_at = (same_place_decides (place pair.anchor.owner) (place group.owner)).0 classed.0;
-              says = pair.says;
-            };
-          };
+          is_link = rests w group p (eqb-true group.class IN front.1) (eqb-true group.rtype DNSKEY placed.1) (from_tried_pairs w.anchors group p found.1)
+              (from_signs w.accepts (set_in group) (place group.owner) w.moment (p.0, p.1.key) found.0);
           stands_at = (same_place_decides (place group.owner) top).0 front.0;
         }
 
-    by : (o : Tried (Record × Key)) → tried_over w group (place group.owner) (by_key (keys_of own) group.signatures) ≡ o → key_set_by group own o ≡ held link → HoldsKeys w top link
-    by (good p) f g = let same : anchored_link group own p ≡ link = cc in subst (HoldsKeys w top) same (with p f)
+    by : (o : Tried (Record × Admitted)) → tried (anchor_signs w.accepts group w.moment) w.room pairs_tried ≡ o → key_set_by group why o ≡ held link → HoldsKeys w top link
+    by (good p) f g = let same : anchored_link group p ≡ link = cc in subst (HoldsKeys w top) same (with p f)
     by nothing f g = absurd cc
     by all_bad f g = absurd cc
     by too_many_bad f g = absurd cc
@@ -259,7 +258,7 @@ from_finding w group links last e = by_records (length group.records == 0) refl 
     by_records false f g = by_island (eqb-false (length group.records) 0 f) (island_of w.anchors group) refl g
 
 -- so the links of a finding hold by any anchors that its key set rests on
-pub holds_by : (w : World) (anchors : List Record) (group : Group) (links : List chain.Link) (last : chain.Link) (s : IsShown w group links last) → IsAnchorKeyLink w.accepts anchors s.keys w.moment
+pub holds_by : (w : World) (anchors : List Record) (group : Group) (links : List chain.Link) (last : chain.Link) (s : IsShown w group links last) → RestsOn w anchors s.keys
     → Holds w.accepts anchors (links ++ last ∷ []) (set_in group) w.moment
 holds_by w anchors group links last s first =
     let zone : place s.keys.records.owner ≡ s.top = s.holds_keys.stands_at in
@@ -281,7 +280,7 @@ holds_by w anchors group links last s first =
       zone = place s.keys.records.owner;
       keys = s.keys.records.datas;
       are = ap (λ (ls : List chain.Link). ls ++ last ∷ []) s.links_are ∙ ap (λ (l : chain.Link). s.keys ∷ l ∷ []) s.last_is;
-      leads = (inl first, (refl, refl));
+      leads = (first, (refl, refl));
       shows = subst (λ (z : Place). IsSetLink w.accepts z datas (set_link group datas s.pair) w.moment) (sym zone) shows;
       same = refl;
     }

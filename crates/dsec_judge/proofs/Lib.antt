@@ -1,3 +1,4 @@
+pub mod AdmissionLaws
 pub mod FindingLaws
 pub mod Soundness
 pub mod Completeness

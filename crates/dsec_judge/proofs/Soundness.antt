@@ -1,8 +1,7 @@
 -- A verdict Secure is sound.
-use Rattle.std.proofs.Common.{◌≡◌, ℕ, suc, ◌+◌, Bool, true, false, cond, List, [], ◌∷◌, ◌++◌, length, Option, Some, None, Ok, refl, sym, ap, ◌∙◌, subst, arith}
+use Rattle.std.proofs.Common.{◌≡◌, ℕ, Bool, true, false, cond, List, [], ◌∷◌, ◌++◌, length, Option, Some, None, Ok, refl, sym, ap, ◌∙◌, subst}
 use Rattle.std.specs.Prelude.{filter_map, position, slice_get, nat_lt}
 use Rattle.std.specs.List.{list_any, position_or_len}
-use Rattle.std.proofs.Math.Bool.{not}
 use Rattle.std.proofs.lemmas.Bool.{false≢true, and_parts, eqb-true, not-true}
 use Rattle.std.proofs.lemmas.Option.{same_Some}
 use Rattle.dsec_spec.specs.Names.{place}
@@ -26,6 +25,7 @@ use Rattle.dsec_judge.specs.Findings.{World, keys_of, finding, set_link}
 use Rattle.dsec_judge.specs.declared.finding.Finding.{Finding}
 use Rattle.dsec_judge.specs.declared.finding.Finding.TheVariants.{Shown as shown, Insecure as insecure, Bogus as bogus, Indeterminate as indeterminate}
 use Rattle.dsec_judge.specs.Verdicts.{is_secure, is_bogus, Verdict, bogus_cause, asked_for, is_bare_alias, is_expanded, answered_by, answered_at, answered, no_error_in, is_answered_at_name, judgement, verdict_on_questions, verdict_by_causes, verdict_on_groups, verdict_on_sections, verdict}
+use Rattle.dsec_judge.proofs.AdmissionLaws.{after_those_failing}
 use Rattle.dsec_judge.proofs.FindingLaws.{IsShown, from_finding, shown_holds}
 
 -- the sections that were read are those of the message
@@ -55,14 +55,6 @@ from_sections message sections e =
     }
 
 -- what stands at the position of a test passes it
-after_those_failing : {A : Type 0} (test : A → Bool) (xs : List A) (x : A) → slice_get xs (position_or_len test xs) ≡ Some x → test x ≡ true
-after_those_failing test [] x e = absurd cc
-after_those_failing test (y ∷ ys) x e = by (after_those_failing test ys x) (test y) refl e
-  where
-    by : (slice_get ys (position_or_len test ys) ≡ Some x → test x ≡ true) → (b : Bool) → test y ≡ b → slice_get (y ∷ ys) (cond (not b) (1 + position_or_len test ys) 0) ≡ Some x → test x ≡ true
-    by others true t f = let same : y ≡ x = same_Some y x f in subst (λ z. test z ≡ true) same t
-    by others false t f = let one : 1 + position_or_len test ys ≡ suc (position_or_len test ys) = omega arith in others (ap (slice_get (y ∷ ys)) (sym one) ∙ f)
-
 pub from_position : {A : Type 0} (test : A → Bool) (xs : List A) (k : ℕ) (x : A) → position test xs ≡ Some k → slice_get xs k ≡ Some x → test x ≡ true
 from_position test xs k x e f = by (nat_lt (position_or_len test xs) (length xs)) e
   where

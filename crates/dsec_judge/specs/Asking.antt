@@ -1,15 +1,12 @@
 -- Key sets that are asked for, each once in a message.
-use Rattle.std.specs.Prelude.{◌≡◌, ℕ, ◌==◌, ◌&&◌, Bool, true, List, [], ◌∷◌, ◌++◌, map, find, Option, Some, None, IfSome, if◌then◌else◌, slice_get}
+use Rattle.std.specs.Prelude.{◌≡◌, ℕ, ◌==◌, ◌&&◌, List, [], ◌∷◌, ◌++◌, map, find, Option, Some, None, IfSome, if◌then◌else◌}
 use Rattle.std.specs.List.{list_any, AllByRecursion}
 use Rattle.dsec_spec.specs.Numbers.{DNSKEY}
 use Rattle.dsec_spec.specs.Outside.{Table, reply_of}
 use Rattle.dsec_spec.specs.Names.{Place, place, same_place}
-use Rattle.dsec_spec.specs.Records.{Record, Key, key_of}
+use Rattle.dsec_spec.specs.Records.{Record}
 use Rattle.dsec_spec.specs.Accepts.{Accepts}
-use Rattle.dsec_spec.specs.Groups.{Group}
-use Rattle.dsec_base.specs.declared.cause.Cause.{Cause}
-use Rattle.dsec_base.specs.declared.cause.Cause.TheVariants.{NoSignature, BadSignature, TooManyBadSignaturesForDnskey}
-use Rattle.dsec_judge.specs.Findings.{World, is_anchor_in, key_set_at, key_set_from, says_key}
+use Rattle.dsec_judge.specs.Findings.{World, key_set_at, key_set_from}
 use Rattle.dsec_judge.specs.declared.asking.Asked.{Asked}
 
 -- a world with these replies
@@ -19,19 +16,6 @@ with_replies accepts anchors room t replies = record { accepts = accepts; anchor
 -- a world in which no question has a reply
 abbrev pub bare : Accepts → List Record → ℕ → ℕ → World
 bare accepts anchors room t = with_replies accepts anchors room t (λ _. None)
-
--- why a key set isn't held, where of so many pairs so many more may be tried
-abbrev pub left_cause : ℕ → ℕ → Cause
-left_cause room more = if more == room then NoSignature else if more == 0 then TooManyBadSignaturesForDnskey else BadSignature
-
--- the anchor at the index is in the set, and says the key
-abbrev pub IsKeyOf : Group → List Record → ℕ → Key → Type 0
-IsKeyOf group anchors index key =
-    (anchor : Record) × (slice_get anchors index ≡ Some anchor) × (is_anchor_in group anchor ≡ true) × (key_of anchor.rdata ≡ Some key)
-
--- whether an anchor is in the set, and says the key
-abbrev pub is_saying : Group → Key → Record → Bool
-is_saying group key anchor = is_anchor_in group anchor && says_key key (key_of anchor.rdata)
 
 -- the reply of a table to the question for the DNSKEY set at a place
 abbrev pub key_reply : Table → Place → Option (List ℕ)

@@ -1,21 +1,22 @@
 -- What is found of a group of records: whether a chain from an anchor shows its set (RFC 4033 5, RFC 4035 4.3, 5).
-use Rattle.std.specs.Prelude.{ℕ, ◌==◌, ◌&&◌, List, [], ◌∷◌, length, map, filter, find, filter_map, unwrap_or, Bool, false, Option, Some, None, if◌then◌else◌}
-use Rattle.std.specs.List.{list_any}
+use Rattle.std.specs.Prelude.{ℕ, ◌==◌, ◌&&◌, List, [], ◌∷◌, length, find, filter_map, flat_map, unwrap_or, Bool, false, Option, Some, None, if◌then◌else◌}
 use Rattle.std.specs.Str.{bytes_eq}
 use Rattle.dsec_spec.specs.Reading.{◌>>=◌}
 use Rattle.dsec_spec.specs.Names.{Place, place, same_place}
-use Rattle.dsec_spec.specs.Numbers.{IN, DNSKEY}
+use Rattle.dsec_spec.specs.Numbers.{IN, DS, DNSKEY}
 use Rattle.dsec_spec.specs.Records.{Record, Key, key_of}
 use Rattle.dsec_spec.specs.Messages.{answers_of, authorities_of}
 use Rattle.dsec_spec.specs.Accepts.{Accepts}
 use Rattle.dsec_spec.specs.Groups.{Group, groups_of, set_in}
-use Rattle.dsec_spec.specs.Trying.{Tried, good, nothing, all_bad, too_many_bad, tried, pairs, pair_matches, pair_signs, checked}
+use Rattle.dsec_spec.specs.Trying.{Tried, good, nothing, all_bad, too_many_bad, tried, pair_signs, checked}
 use Rattle.dsec_spec.specs.Islands.{looked_for_at, island, signers, target}
 use Rattle.dsec_spec.specs.Chain as chain
+use Rattle.dsec_judge.specs.Admission.{Admitted, matching_at, cause_at, first_cause}
 use Rattle.dsec_judge.specs.declared.key_set.KeySet.{KeySet}
 use Rattle.dsec_judge.specs.declared.key_set.KeySet.TheVariants.{Held as held, Unheld as unheld}
 use Rattle.dsec_judge.specs.declared.finding.Finding.{Finding}
 use Rattle.dsec_judge.specs.declared.finding.Finding.TheVariants.{Shown as shown, Insecure as insecure, Bogus as bogus, Indeterminate as indeterminate}
+use Rattle.dsec_base.specs.declared.cause.Cause.{Cause}
 use Rattle.dsec_base.specs.declared.cause.Cause.TheVariants.{RrsigWithoutRrset, NoTrustAnchor, NoSignature, BadSignature, TooManyBadSignatures, TooManyBadSignaturesForDnskey, NoDnskeyForAnchor, NotBuilt}
 
 -- What judging goes by: the signatures that are accepted, the anchors, how many matching pairs of a signature and a key are tried of a set,
@@ -41,10 +42,6 @@ keys_of datas = filter_map key_of datas
 abbrev pub data_of : List (List ℕ) → Key → List ℕ
 data_of datas key = unwrap_or (find (λ rdata. says_key key (key_of rdata)) datas) []
 
--- signature records and keys tried over a group's set in their order, of those that match
-abbrev pub tried_over : World → Group → Place → List (Record × Key) → Tried (Record × Key)
-tried_over w group zone candidates = tried (pair_signs w.accepts (set_in group) zone w.moment) w.room (filter (pair_matches zone) candidates)
-
 -- whether a group is the DNSKEY set of class IN at a place
 abbrev pub is_key_set_at : Place → Group → Bool
 is_key_set_at top group = same_place (place group.owner) top && (group.class == IN) && (group.rtype == DNSKEY)
@@ -56,40 +53,39 @@ key_set_in top reply = do
   answers ← answers_of reply
   find (is_key_set_at top) (groups_of answers.0)
 
--- whether an anchor is a DNSKEY record of class IN that is in the key set at its owner (RFC 4035 5)
-abbrev pub is_anchor_in : Group → Record → Bool
-is_anchor_in group anchor =
-    same_place (place anchor.owner) (place group.owner) && (anchor.class == IN) && (anchor.rtype == DNSKEY)
-    && list_any (λ r. bytes_eq r.rdata anchor.rdata) group.records
+-- what a link is that rests on an anchor: by its DS record, or by its key
+abbrev pub anchor_kind : Record → chain.LinkKind
+anchor_kind anchor = if anchor.rtype == DS then chain.anchor_ds else chain.anchor_key
 
--- the data of the anchors that are in a key set
-abbrev pub anchors_in : List Record → Group → List (List ℕ)
-anchors_in anchors group = map (λ a. a.rdata) (filter (is_anchor_in group) anchors)
+-- the link of a key set that a key has signed which an anchor admits (RFC 4035 5)
+abbrev pub link_by : Group → Record → Record → List ℕ → chain.Link
+link_by group signature anchor key =
+    record { kind = anchor_kind anchor; records = set_in group; via = Some anchor.rdata; signing_key = key; rrsig = signature.rdata }
 
--- signature records with keys: by key, then by signature
-abbrev pub by_key : List Key → List Record → List (Record × Key)
-by_key keys signatures = map (λ p. (p.1, p.0)) (pairs keys signatures)
+abbrev pub anchored_link : Group → Record × Admitted → chain.Link
+anchored_link group p = link_by group p.0 p.1.anchor p.1.rdata
 
--- the link of a key set that the key of one of these anchors has signed (RFC 4035 5)
-abbrev pub anchored_link : Group → List (List ℕ) → Record × Key → chain.Link
-anchored_link group own p =
-    record { kind = chain.anchor_key; records = set_in group; via = Some (data_of own p.1); signing_key = data_of own p.1; rrsig = p.0.rdata }
+-- whether a signature counts as that of the key that an anchor admits
+abbrev pub anchor_signs : Accepts → Group → ℕ → Record × Admitted → Bool
+anchor_signs accepts group t p = pair_signs accepts (set_in group) (place group.owner) t (p.0, p.1.key)
 
--- the key set, by what trying the keys of these anchors came to
-abbrev pub key_set_by : Group → List (List ℕ) → Tried (Record × Key) → KeySet
-key_set_by group own (good p) = held (anchored_link group own p)
-key_set_by group own nothing = unheld NoSignature
-key_set_by group own all_bad = unheld BadSignature
-key_set_by group own too_many_bad = unheld TooManyBadSignaturesForDnskey
+-- the key set, by what trying the keys that anchors admit came to, and by the first cause where none is good
+abbrev pub key_set_by : Group → Cause → Tried (Record × Admitted) → KeySet
+key_set_by group cause (good p) = held (anchored_link group p)
+key_set_by group cause nothing = unheld cause
+key_set_by group cause all_bad = unheld cause
+key_set_by group cause too_many_bad = unheld TooManyBadSignaturesForDnskey
 
--- the key set, by the anchors that are in it
-abbrev pub key_set_under : World → Group → List (List ℕ) → KeySet
-key_set_under w group own = key_set_by group own (tried_over w group (place group.owner) (by_key (keys_of own) group.signatures))
+-- the key set, by anchors: their pairs are tried by anchor, then by signature
+abbrev pub key_set_under : World → Group → List Record → KeySet
+key_set_under w group anchors =
+    key_set_by group (first_cause (filter_map (cause_at group) anchors))
+    (tried (anchor_signs w.accepts group w.moment) w.room (flat_map (matching_at group) anchors))
 
 -- the key set that was found, if one was
 abbrev pub key_set_of : World → Option Group → KeySet
 key_set_of w None = unheld NoDnskeyForAnchor
-key_set_of w (Some group) = key_set_under w group (anchors_in w.anchors group)
+key_set_of w (Some group) = key_set_under w group w.anchors
 
 -- the key set at an anchor's place, by the reply to its question (RFC 4035 5)
 abbrev pub key_set_from : World → Place → Option (List ℕ) → KeySet

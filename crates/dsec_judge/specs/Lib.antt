@@ -1,9 +1,10 @@
+pub mod Admission
 pub mod Findings
 pub mod Verdicts
 pub mod PlainAnswers
 pub mod Judged
 pub mod Targets
-pub mod Admission
+pub mod AnchorTrials
 pub mod Asking
 pub mod Found
 pub mod Anchored

@@ -5,7 +5,8 @@ ghost use Rattle.std.specs.List.{list_any};
 ghost use Rattle.std.specs.Option.{option_map};
 ghost use Rattle.dsec_spec.specs.Answering.{is_at_question as is_at};
 ghost use Rattle.dsec_spec.specs.Names.{Place};
-ghost use Rattle.dsec_judge.specs.Anchored.{is_anchor_of};
+ghost use Rattle.dsec_valbase.specs.Links.{kind_view};
+ghost use Rattle.dsec_judge.specs.Anchored.{anchor_type as type_of_anchor, is_anchor_of, is_via};
 ghost use Rattle.dsec_judge.specs.Asking.{with_replies};
 ghost use Rattle.dsec_judge.specs.Findings.{finding};
 ghost use Rattle.dsec_judge.specs.Judged.{reason, told_by, told_of};
@@ -22,7 +23,7 @@ use dsec_crypto::Verifier;
 use dsec_group::{Group, ValidationState};
 use dsec_name::NoMemory;
 use dsec_number::{Class, Rtype, Timestamp};
-use dsec_valbase::{Link, Links, Shown};
+use dsec_valbase::{Link, LinkKind, Links, Shown};
 use dsec_wire::{Question, Record};
 use std::alloc::Global;
 
@@ -181,6 +182,26 @@ fn rests_on(link: &Link, anchor: &Record) -> bool
 {
     is_same(anchor.owner(), link.records().owner())
         && anchor.class() == Class::IN
-        && anchor.rtype() == Rtype::DNSKEY
-        && anchor.rdata().octets().as_slice() == link.signing_key().as_slice()
+        && anchor.rtype() == anchor_type(link.kind())
+        && came_by(link, anchor)
+}
+
+/// The type of the anchors that a link of this kind can rest on.
+fn anchor_type(kind: LinkKind) -> Rtype
+    ensures { result ≡ type_of_anchor (kind_view kind) }
+{
+    match kind {
+        LinkKind::AnchorDs => Rtype::DS,
+        LinkKind::AnchorKey | LinkKind::Ds | LinkKind::Key | LinkKind::Set => Rtype::DNSKEY,
+    }
+}
+
+/// Whether a link came by the data of an anchor.
+fn came_by(link: &Link, anchor: &Record) -> bool
+    ensures { result ≡ is_via anchor.now.rdata link.now.via }
+{
+    match link.via() {
+        Some(via) => anchor.rdata().octets().as_slice() == via.as_slice(),
+        None => false,
+    }
 }

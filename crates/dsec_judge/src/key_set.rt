@@ -1,33 +1,33 @@
 //! The key set at an anchor's place (RFC 4035 5).
 
-ghost use Rattle.std.specs.Prelude.{◌≡◌, ◌<◌, IfOk, Some, find, length, slice_get};
+ghost use Rattle.std.specs.Prelude.{◌≡◌, ◌<◌, IfOk, IfSome, Some, find, length, slice_get};
 ghost use Rattle.std.specs.Option.{option_map};
 ghost use Rattle.dsec_spec.specs.Groups.{groups_of};
 ghost use Rattle.dsec_spec.specs.Names.{place};
-ghost use Rattle.dsec_spec.specs.Numbers.{RRSIG};
+ghost use Rattle.dsec_spec.specs.Numbers.{DNSKEY, RRSIG};
 ghost use Rattle.dsec_spec.specs.Records as records;
-ghost use Rattle.dsec_wire.specs.Views.{key_view};
-ghost use Rattle.dsec_judge.specs.Asking.{IsKeyOf, bare, is_saying, left_cause};
-ghost use Rattle.dsec_judge.specs.Findings.{anchored_link, anchors_in, data_of, is_key_set_at as key_set_at_place, key_set_from, key_set_of, key_set_under};
+ghost use Rattle.dsec_valbase.specs.Links.{kind_view};
+ghost use Rattle.dsec_judge.specs.AnchorTrials.{left_cause};
+ghost use Rattle.dsec_judge.specs.Asking.{bare};
+ghost use Rattle.dsec_judge.specs.Findings.{anchor_kind, is_key_set_at as key_set_at_place, key_set_from, key_set_of, key_set_under, link_by};
 ghost use Rattle.dsec_judge.specs.declared.key_set.KeySet.TheVariants.{Held};
 
-use crate::admit::{is_anchor_in, try_anchors};
-use crate::keys::says;
+use crate::admit::{AnchorTries, try_anchors};
 use crate::target::is_same;
 use dsec_base::Cause;
 use dsec_crypto::Verifier;
-use dsec_group::{Group, Steps, Tries, groups, set_of};
+use dsec_group::{Group, Steps, groups, set_of};
 use dsec_name::{Name, NoMemory, Octets};
 use dsec_number::{Class, Rtype, Timestamp};
 use dsec_valbase::{Link, LinkKind};
-use dsec_wire::{Dnskey, Message, MessageError, Record, Records, ShortMessage};
+use dsec_wire::{Message, MessageError, Record, Records, ShortMessage};
 use std::alloc::Global;
 use std::sync::ledger::Ledger;
 
 /// The DNSKEY set of an anchor's zone.
 #[derive(Drop)]
 pub enum KeySet {
-    /// A key that is an anchor has signed the set: its link.
+    /// A key that an anchor admits has signed the set: its link.
     Held(Link),
     /// It has no such signature, and why.
     Unheld(Cause),
@@ -78,7 +78,8 @@ fn key_set_among<V: Verifier, L: Ledger>(
 
 /// The first group that is the DNSKEY set of class IN at a place.
 fn group_at<'a>(groups: &'a [Group], top: &Name) -> Option<&'a Group>
-    ensures { option_map (λ group. group.now) result ≡ find (key_set_at_place (place top.now)) groups.now }
+    ensures first { option_map (λ group. group.now) result ≡ find (key_set_at_place (place top.now)) groups.now }
+    ensures typed { IfSome result (λ group. group.now.rtype ≡ DNSKEY) }
 {
     groups.iter().find(|group| is_key_set_at(top, group))
 }
@@ -90,7 +91,7 @@ fn is_key_set_at(top: &Name, group: &Group) -> bool
     is_same(group.owner(), top) && group.class() == Class::IN && group.rtype() == Rtype::DNSKEY
 }
 
-/// A key set, by the anchors that are in it.
+/// A key set, by the anchors that admit one of its keys.
 fn admitted<V: Verifier, L: Ledger>(
     alloc: Global,
     anchors: &[Record],
@@ -99,71 +100,70 @@ fn admitted<V: Verifier, L: Ledger>(
     group: &Group,
     steps: &mut Steps<L>,
 ) -> Result<KeySet, NoMemory>
-    requires { 0 < room }
-    ensures { IfOk result (λ keys. keys ≡ key_set_under (bare V.accepts anchors.now room t) group.now (anchors_in anchors.now group.now)) }
+    requires some { 0 < room }
+    requires typed { group.now.rtype ≡ DNSKEY }
+    ensures { IfOk result (λ keys. keys ≡ key_set_under (bare V.accepts anchors.now room t) group.now anchors.now) }
 {
     match try_anchors::<V, L>(alloc, anchors, group, room, t, steps)? {
-        Tries::Good(signature, anchor) => held(alloc, anchors, group, signature, anchor),
-        Tries::Left(left) => Ok(KeySet::Unheld(cause_of(left, room))),
+        AnchorTries::Good(signature, anchor, key) => {
+            held(alloc, anchors, group, signature, anchor, key)
+        }
+        AnchorTries::Left(left, cause) => Ok(KeySet::Unheld(cause_of(left, cause))),
     }
 }
 
-/// A key set that the anchor at the index has signed by the signature at the other.
+/// A key set that has the signature at an index of the key at another, which the anchor at a third admits.
 fn held(
     alloc: Global,
     anchors: &[Record],
     group: &Group,
     signature: usize,
     anchor: usize,
+    key: usize,
 ) -> Result<KeySet, NoMemory>
     requires signature { signature < length group.now.signatures }
     requires anchor { anchor < length anchors.now }
-    ensures { IfOk result (λ keys. (one : records.Record) → (key : records.Key) → slice_get group.now.signatures signature ≡ Some one
-        → IsKeyOf group.now anchors.now anchor key → keys ≡ Held (anchored_link group.now (anchors_in anchors.now group.now) (one, key))) }
+    requires key { key < length group.now.records }
+    ensures { IfOk result (λ keys. (one two three : records.Record) → slice_get group.now.signatures signature ≡ Some one → slice_get anchors.now anchor ≡ Some two
+        → slice_get group.now.records key ≡ Some three → keys ≡ Held (link_by group.now one two three.rdata)) }
 {
-    match anchors[anchor].rdata().dnskey() {
-        Some(key) => {
-            let link = link_by(alloc, anchors, group, &group.sig_set()[signature], &key)?;
-            Ok(KeySet::Held(link))
-        }
-        None => Ok(KeySet::Unheld(Cause::NoSignature)),
-    }
+    let link = anchored(
+        alloc,
+        group,
+        &group.sig_set()[signature],
+        &anchors[anchor],
+        &group.rr_set()[key],
+    )?;
+    Ok(KeySet::Held(link))
 }
 
-/// The link of a key set that an anchor's key has signed.
-fn link_by(
+/// The link of a key set that has a signature of a key that an anchor admits.
+fn anchored(
     alloc: Global,
-    anchors: &[Record],
     group: &Group,
     signature: &Record,
-    key: &Dnskey<'_>,
+    anchor: &Record,
+    key: &Record,
 ) -> Result<Link, NoMemory>
     requires { signature.now.rtype ≡ RRSIG }
-    ensures { IfOk result (λ link. link ≡ anchored_link group.now (anchors_in anchors.now group.now) (signature.now, key_view key.now)) }
+    ensures { IfOk result (λ link. link ≡ link_by group.now signature.now anchor.now key.now.rdata) }
 {
-    let via = first_data(alloc, anchors, group, key)?;
-    let signing_key = via.clone()?;
+    let via = copy_of(anchor)?;
+    let signing_key = copy_of(key)?;
     let set = set_of(alloc, group)?;
     let rrsig = signature.rdata().clone()?;
-    Ok(Link::new(LinkKind::AnchorKey, set, Some(via), signing_key, rrsig))
+    Ok(Link::new(kind_of(anchor), set, Some(via), signing_key, rrsig))
 }
 
-/// The data of the first anchor in the set that says a key; none where there is no such anchor.
-fn first_data(
-    alloc: Global,
-    anchors: &[Record],
-    group: &Group,
-    key: &Dnskey<'_>,
-) -> Result<Octets, NoMemory>
-    ensures { IfOk result (λ octets. octets ≡ data_of (anchors_in anchors.now group.now) (key_view key.now)) }
+/// What a link is that rests on an anchor.
+fn kind_of(anchor: &Record) -> LinkKind
+    ensures { kind_view result ≡ anchor_kind anchor.now }
 {
-    for index in 0..anchors.len() {
-        let anchor = &anchors[index];
-        if is_anchor_saying(group, anchor, key) {
-            return copy_of(anchor);
-        }
+    if anchor.rtype() == Rtype::DS {
+        LinkKind::AnchorDs
+    } else {
+        LinkKind::AnchorKey
     }
-    Ok(Octets::new(Vec::new(alloc)))
 }
 
 /// A copy of a record's data.
@@ -173,25 +173,15 @@ fn copy_of(one: &Record) -> Result<Octets, NoMemory>
     Ok(one.rdata().octets().clone()?)
 }
 
-/// Whether an anchor is in the set, and says the key.
-fn is_anchor_saying(group: &Group, anchor: &Record, key: &Dnskey<'_>) -> bool
-    ensures { result ≡ is_saying group.now (key_view key.now) anchor.now }
+/// Why a key set isn't held, where so many more pairs may be tried.
+fn cause_of(left: u16, cause: Option<Cause>) -> Cause
+    ensures { result ≡ left_cause left cause }
 {
-    if !is_anchor_in(group, anchor) {
-        return false;
+    if left == 0 {
+        return Cause::TooManyBadSignaturesForDnskey;
     }
-    says(anchor.rdata(), key)
-}
-
-/// Why a key set isn't held, where of `room` pairs so many more may be tried.
-fn cause_of(left: u16, room: u16) -> Cause
-    ensures { result ≡ left_cause room left }
-{
-    if left == room {
-        Cause::NoSignature
-    } else if left == 0 {
-        Cause::TooManyBadSignaturesForDnskey
-    } else {
-        Cause::BadSignature
+    match cause {
+        Some(cause) => cause,
+        None => Cause::NoSignature,
     }
 }

@@ -33,7 +33,7 @@ pub(crate) fn first_saying<'a>(datas: &'a [Data], key: &Dnskey<'_>) -> Option<&'
 }
 
 /// Whether data say a key.
-pub(crate) fn says(one: &Data, key: &Dnskey<'_>) -> bool
+fn says(one: &Data, key: &Dnskey<'_>) -> bool
     ensures { result ≡ says_key (key_view key.now) (dnskey_in one.now) }
 {
     match one.dnskey() {

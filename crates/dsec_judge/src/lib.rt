@@ -1,6 +1,7 @@
 //! Judging a message from its trust anchors: whether its answer is secure, and why (RFC 4033 5, RFC 4035 5).
 #![tactic(auto)]
 
+mod admission;
 mod admit;
 mod answer;
 mod asking;
