@@ -36,4 +36,6 @@ pub use shown::Shown;
 pub use supported::{supported_algorithm, supported_digest};
 
 #[cfg(test)]
+mod key_tests;
+#[cfg(test)]
 mod tests;

@@ -4,6 +4,7 @@ ghost use Rattle.std.specs.Prelude.{◌≡◌, IfOk};
 ghost use Rattle.dsec_spec.specs.Numbers.{RRSIG};
 
 use crate::admit::{admit_anchor_key, admit_set};
+use crate::admit_ds::admit_anchor_ds;
 use crate::bytes::signed_bytes;
 use crate::check::{is_signed, matches, may_sign};
 use crate::link::{Link, LinkKind, Links};
@@ -262,6 +263,32 @@ fn last_link(alloc: Global, key: &[u8]) -> Result<Option<Link>, Fail> {
     let rrsig = rrsig_data(alloc, Rtype::A, 2, ADDRESS_SIGNATURE)?;
     let t = Timestamp::from_int(500);
     Ok(admit_set::<TableVerifier>(alloc, &zone, &key, &set, &rrsig, t)?)
+}
+
+// The DS data of the key under SHA-256.
+const DS: &[u8] = b"\x05\x10\x0d\x02\x2c\x64\x03\xbd\x20\x95\x61\x40\xd2\x02\xec\x36\
+    \x65\x55\xa5\xa9\x34\xd0\x5a\x03\x23\x3d\x69\xab\x38\x0a\x7e\xea\x4e\xee\x35\x25";
+
+fn first_ds_link(alloc: Global, anchor: &[u8]) -> Result<Option<Link>, Fail> {
+    let anchor = record_of(alloc, "example.", Rtype::DS, anchor)?;
+    let keys = set_of(alloc, "Example.", Rtype::DNSKEY, KEY)?;
+    let key = data_of(alloc, Rtype::DNSKEY, KEY)?;
+    let rrsig = rrsig_data(alloc, Rtype::DNSKEY, 1, KEY_SIGNATURE)?;
+    let t = Timestamp::from_int(500);
+    Ok(admit_anchor_ds::<TableVerifier>(alloc, &anchor, &keys, &key, &rrsig, t)?)
+}
+
+#[test]
+fn ds_links(rt: HostRuntime) -> Result<(), Fail> {
+    let alloc = rt.alloc();
+    assert!(rt; first_ds_link(alloc, b"\x05\x10\x0d\x02\x2c")?.is_none());
+    match first_ds_link(alloc, DS)? {
+        Some(link) => {
+            assert!(rt; link.kind() == LinkKind::AnchorDs && link.signing_key().as_slice() == KEY);
+            Ok(())
+        }
+        None => Err(Fail::new("no first link")),
+    }
 }
 
 fn links_of(alloc: Global, link: Link) -> Result<Links, Fail> {
