@@ -7,7 +7,7 @@ use Rattle.std.proofs.lemmas.Bool.{cases_Bool, not-true, true≢false, ltb-false
 use Rattle.std.proofs.lemmas.List.{append-nil}
 use Rattle.std.proofs.lemmas.List.Elements.{All-nil, All-cons, All-head, All-tail}
 use Rattle.std.proofs.lemmas.Option.{same_Some}
-use Rattle.dsec_spec.specs.Layouts.{Field, lowered_name, kept_name, octets, string, bitmap, rest, layouts, layout_of}
+use Rattle.dsec_spec.specs.Layouts.{Field, Layout, lowered_name, kept_name, octets, string, bitmap, rest, layouts, layout_of}
 use Rattle.dsec_spec.specs.RecordData.{Part, lowered, kept, plain, part_octets, Block, IsBlock, block_octets, IsBitmap, IsString, Fits, AllFit, IsData, IsReadable, octets_in, name_in, blocks_in, part_in, parts_in, parts_of}
 use Rattle.dsec_spec.proofs.ReadingLemmas.{from_bind, unrefused, read_as}
 use Rattle.dsec_spec.proofs.WireNameLemmas.{octets_in-append, from_octets_in, name_in-wire_octets, from_name_in}
@@ -160,7 +160,7 @@ from_parts_in (field ∷ fields) x parts e =
     ((front.0, after.0), front.1 ∙ ap (λ (z : List ℕ). part_octets part.0.0 ++ z) after.1)
 
 -- what a test says of each row of a table and of what stands for the rest, it says of what is found
-table_passes : (found : List ℕ × List Field → Bool) (test : List Field → Bool) (table : List (List ℕ × List Field)) (default : List Field) → list_all (λ row. test row.1) table ≡ true → test default ≡ true → test (unwrap_or (option_map (λ row. row.1) (find found table)) default) ≡ true
+table_passes : (found : List ℕ × Layout → Bool) (test : Layout → Bool) (table : List (List ℕ × Layout)) (default : Layout) → list_all (λ row. test row.1) table ≡ true → test default ≡ true → test (unwrap_or (option_map (λ row. row.1) (find found table)) default) ≡ true
 table_passes found test [] default rows last = last
 table_passes found test (row ∷ table) default rows last =
     let tests = and_parts (test row.1) (list_all (λ row. test row.1) table) rows in
@@ -170,8 +170,9 @@ table_passes found test (row ∷ table) default rows last =
     ]
 
 -- a test that each layout passes, that of opaque data too, is passed by every type's layout
-pub layout_passes : (test : List Field → Bool) → list_all (λ row. test row.1) layouts ≡ true → test (rest ∷ []) ≡ true → (rtype : ℕ) → test (layout_of rtype) ≡ true
-layout_passes test rows last rtype = table_passes (λ row. list_any (nat_eq rtype) row.0) test layouts (rest ∷ []) rows last
+pub layout_passes : (test : List Field → Bool) → list_all (λ row. test row.1.fields) layouts ≡ true → test (rest ∷ []) ≡ true → (rtype : ℕ) → test (layout_of rtype) ≡ true
+layout_passes test rows last rtype =
+    table_passes (λ row. list_any (nat_eq rtype) row.0) (λ (row : Layout). test row.fields) layouts (record { fields = rest ∷ []; form = None }) rows last
 
 -- in every type's layout only the last field may take all that is left
 pub layout_ends_well : (rtype : ℕ) → ends_well (layout_of rtype) ≡ true

@@ -5,6 +5,10 @@ use Rattle.std.specs.Prelude.{ℕ}
 abbrev pub IN : ℕ
 IN = 1
 
+-- an IPv4 address (RFC 1035 3.4.1)
+abbrev pub A : ℕ
+A = 1
+
 -- a name server (RFC 1035 3.3.11)
 abbrev pub NS : ℕ
 NS = 2
@@ -49,6 +53,10 @@ MINFO = 14
 abbrev pub MX : ℕ
 MX = 15
 
+-- texts (RFC 1035 3.3.14)
+abbrev pub TXT : ℕ
+TXT = 16
+
 -- a responsible person (RFC 1183 2.2)
 abbrev pub RP : ℕ
 RP = 17
@@ -64,6 +72,10 @@ RT = 21
 -- a mapping of X.400 names (RFC 2163 4)
 abbrev pub PX : ℕ
 PX = 26
+
+-- an IPv6 address (RFC 3596 2.1)
+abbrev pub AAAA : ℕ
+AAAA = 28
 
 -- the place of a service (RFC 2782)
 abbrev pub SRV : ℕ

@@ -35,6 +35,7 @@ pub use ds::Ds;
 pub use edns::{EdnsOption, Opt};
 pub use error::{MessageError, ShortMessage};
 pub use header::Header;
+pub use layout::{Form, Item, Tail, written_form};
 pub use lists::{Questions, Records};
 pub use message::Message;
 pub use names::read_name;
