@@ -2,10 +2,11 @@
 use Rattle.std.specs.Prelude.{ℕ, ◌==◌, ◌&&◌, nat_le, List, [], ◌∷◌, length, Bool, Option, Some, None, if◌then◌else◌}
 use Rattle.std.specs.Option.{is_some}
 use Rattle.dsec_spec.specs.Reading.{◌>>=◌}
+use Rattle.dsec_spec.specs.Layouts.{form_of}
 use Rattle.dsec_spec.specs.Names.{Labels}
 use Rattle.dsec_spec.specs.RecordData.{parts_of}
 use Rattle.dsec_text.specs.Words.{Word, is_generic_mark}
-use Rattle.dsec_zonefile.specs.Forms.{form_of, formed_in}
+use Rattle.dsec_zonefile.specs.Forms.{formed_in}
 use Rattle.dsec_zonefile.specs.Words.{hex_of, number_in}
 
 -- the generic form, after its mark: a length, and so many octets in hex, which may be split (RFC 3597 5)

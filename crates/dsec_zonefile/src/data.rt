@@ -6,13 +6,12 @@ ghost use Rattle.dsec_text.specs.Words.{words_of};
 ghost use Rattle.dsec_zonefile.specs.Data.{data_in, generic_in, own_form_in, written_in};
 ghost use Rattle.dsec_word.specs.Words.{wants_memory};
 
-use crate::form::form_for;
 use crate::item::{hex_words, read_formed};
 use crate::word::read_number;
 use dsec_name::{Name, Octets};
 use dsec_number::Rtype;
 use dsec_text::first_word;
-use dsec_wire::Data;
+use dsec_wire::{Data, written_form};
 use dsec_word::ReadError;
 use std::alloc::Global;
 
@@ -71,7 +70,7 @@ fn read_own_form(
 ) -> Result<Octets, ReadError>
     ensures { Reads wants_memory (λ octets. octets) result (own_form_in origin.now rtype (words_of line.now)) }
 {
-    match form_for(rtype) {
+    match written_form(rtype) {
         Some(form) => read_formed(alloc, origin, form, line),
         None => Err(ReadError::Bad),
     }

@@ -1,18 +1,20 @@
 //! The octets that words write in a form.
 
-ghost use Rattle.std.specs.Prelude.{ℕ, List, []};
+ghost use Rattle.std.specs.Prelude.{ℕ, List, [], map};
+ghost use Rattle.dsec_spec.specs.Layouts as layouts;
 ghost use Rattle.dsec_spec.specs.Reading.{Reads};
 ghost use Rattle.dsec_text.specs.Words as text;
 ghost use Rattle.dsec_text.specs.Words.{word_view, words_of};
-ghost use Rattle.dsec_zonefile.specs.Forms.{form_view, formed_in, item_in, items_in, tail_in};
+ghost use Rattle.dsec_wire.specs.Fields.{form_view, item_view, tail_view};
+ghost use Rattle.dsec_zonefile.specs.Forms.{formed_in, item_in, items_in, tail_in};
 ghost use Rattle.dsec_word.specs.Words.{wants_memory};
 ghost use Rattle.dsec_zonefile.specs.Words.{added, base64_of, hex_of};
 
 use crate::address::{ipv4, ipv6};
-use crate::form::{Form, Item, Tail};
 use crate::word::{join, read_name, read_number, strings};
 use dsec_name::{Name, Octets};
 use dsec_text::{Word, first_word};
+use dsec_wire::{Form, Item, Tail};
 use dsec_word::{ReadError, read_base64, read_hex};
 use std::alloc::Global;
 
@@ -25,7 +27,7 @@ fn push_item(
     out: &mut Vec<u8>,
 ) -> Result<(), ReadError>
     ensures { Reads wants_memory (λ _. out.new.items) result
-        (added out.old.items (item_in origin.now item (word_view word.now))) }
+        (added out.old.items (item_in origin.now (item_view item) (word_view word.now))) }
 {
     match item {
         Item::Name => {
@@ -44,7 +46,7 @@ fn push_item(
 /// Adds a number of 8 bits.
 fn push_octet(word: &Word<'_>, out: &mut Vec<u8>) -> Result<(), ReadError>
     ensures { Reads wants_memory (λ _. out.new.items) result
-        (added out.old.items (item_in [] Item.Octet (word_view word.now))) }
+        (added out.old.items (item_in [] layouts.octet (word_view word.now))) }
 {
     let Some(number) = read_number(word, 255) else {
         return Err(ReadError::Bad);
@@ -56,7 +58,7 @@ fn push_octet(word: &Word<'_>, out: &mut Vec<u8>) -> Result<(), ReadError>
 /// Adds a number of 16 bits.
 fn push_short(word: &Word<'_>, out: &mut Vec<u8>) -> Result<(), ReadError>
     ensures { Reads wants_memory (λ _. out.new.items) result
-        (added out.old.items (item_in [] Item.Short (word_view word.now))) }
+        (added out.old.items (item_in [] layouts.short (word_view word.now))) }
 {
     let Some(number) = read_number(word, 65535) else {
         return Err(ReadError::Bad);
@@ -68,7 +70,7 @@ fn push_short(word: &Word<'_>, out: &mut Vec<u8>) -> Result<(), ReadError>
 /// Adds a number of 32 bits.
 fn push_long(word: &Word<'_>, out: &mut Vec<u8>) -> Result<(), ReadError>
     ensures { Reads wants_memory (λ _. out.new.items) result
-        (added out.old.items (item_in [] Item.Long (word_view word.now))) }
+        (added out.old.items (item_in [] layouts.long (word_view word.now))) }
 {
     let Some(number) = read_number(word, 4_294_967_295) else {
         return Err(ReadError::Bad);
@@ -80,7 +82,7 @@ fn push_long(word: &Word<'_>, out: &mut Vec<u8>) -> Result<(), ReadError>
 /// Adds an IPv4 address.
 fn push_ipv4(word: &Word<'_>, out: &mut Vec<u8>) -> Result<(), ReadError>
     ensures { Reads wants_memory (λ _. out.new.items) result
-        (added out.old.items (item_in [] Item.Ipv4 (word_view word.now))) }
+        (added out.old.items (item_in [] layouts.ipv4 (word_view word.now))) }
 {
     let Some(text) = word.plain() else {
         return Err(ReadError::Bad);
@@ -95,7 +97,7 @@ fn push_ipv4(word: &Word<'_>, out: &mut Vec<u8>) -> Result<(), ReadError>
 /// Adds an IPv6 address.
 fn push_ipv6(word: &Word<'_>, out: &mut Vec<u8>) -> Result<(), ReadError>
     ensures { Reads wants_memory (λ _. out.new.items) result
-        (added out.old.items (item_in [] Item.Ipv6 (word_view word.now))) }
+        (added out.old.items (item_in [] layouts.ipv6 (word_view word.now))) }
 {
     let Some(text) = word.plain() else {
         return Err(ReadError::Bad);
@@ -115,7 +117,7 @@ fn read_items<'a>(
     line: &'a [u8],
 ) -> Result<(Vec<u8>, &'a [u8]), ReadError>
     ensures { Reads {Y = List ℕ × List text.Word} wants_memory (λ read. (read.0.items, words_of read.1.now)) result
-        (items_in origin.now items.now (words_of line.now)) }
+        (items_in origin.now (map item_view items.now) (words_of line.now)) }
 {
     let mut out = Vec::new(alloc);
     let mut rest = line;
@@ -131,7 +133,7 @@ fn read_items<'a>(
 
 /// What the words of a line write as a form's tail.
 fn read_tail(alloc: Global, tail: Tail, line: &[u8]) -> Result<Octets, ReadError>
-    ensures { Reads wants_memory (λ octets. octets) result (tail_in tail (words_of line.now)) }
+    ensures { Reads wants_memory (λ octets. octets) result (tail_in (tail_view tail) (words_of line.now)) }
 {
     let Some(_) = first_word(line) else {
         return match tail {

@@ -6,7 +6,6 @@ mod control;
 mod data;
 mod entry;
 mod error;
-mod form;
 mod front;
 mod item;
 mod line;
