@@ -6,4 +6,5 @@ pub mod SpanLemmas
 pub mod TokenText
 pub mod TokenReading
 pub mod LineText
+pub mod ReadLemmas
 pub mod SpanText

@@ -102,11 +102,24 @@ line_ended text rest after size depth token p e =
     let others : drop (size + token.1) text ≡ after = ap (drop (size + token.1)) p.is ∙ drop_at front after (size + token.1) (sym p.front_size) in
     rw (line, others) (sym p.lines ∙ (ap (put p.front) (choose_end (ends_line depth token.0) _ _ e) ∙ put_line p.front p.octets (lines_of after)))
 
+-- a token that may not stand there doesn't end the line
+no_end : (depth : ℕ) (kind : Kind) → None ≡ depth_after depth kind → ends_line depth kind ≡ false
+no_end zero LineEnd e = absurd cc
+no_end (suc depth) kind e = refl
+no_end zero Blank e = refl
+no_end zero Comment e = refl
+no_end zero Open e = refl
+no_end zero Close e = refl
+no_end zero Plain e = refl
+no_end zero Quoted e = refl
+no_end zero Bad e = refl
+
 -- a token may not stand there
-pub line_refused : (text rest after : List ℕ) (size depth : ℕ) (token : Kind × ℕ) → Passes text rest after size depth token → ends_line depth token.0 ≡ false → None ≡ depth_after depth token.0
+pub line_refused : (text rest after : List ℕ) (size depth : ℕ) (token : Kind × ℕ) → Passes text rest after size depth token → None ≡ depth_after depth token.0
     → lines_of text ≡ None ∷ []
-line_refused text rest after size depth token p e f =
-    sym p.lines ∙ (ap (put p.front) (choose_on (ends_line depth token.0) _ _ e ∙ ap (going_on p.octets (λ next. lines_from next (tokens_of after))) (sym f)) ∙ put_bad p.front)
+line_refused text rest after size depth token p f =
+    sym p.lines
+    ∙ (ap (put p.front) (choose_on (ends_line depth token.0) _ _ (no_end depth token.0 f) ∙ ap (going_on p.octets (λ next. lines_from next (tokens_of after))) (sym f)) ∙ put_bad p.front)
 
 next_depth : (depth next : ℕ) (kind : Kind) → Some next ≡ depth_after depth kind → next ≤ depth + 1
 next_depth depth next Open e = let same : next ≡ suc depth = cc in omega (arith, same)

@@ -109,6 +109,9 @@ token_within (c ∷ text) some = (token_sized c text).within
 pub some_left : (n : ℕ) {b : Bool} → b ≡ false → b ≡ (n == 0) → 0 < n
 some_left n e f = grind (arith, nat_tests)
 
+pub none_left : (n : ℕ) {b : Bool} → b ≡ true → b ≡ (n == 0) → n ≤ 0
+none_left n e f = grind (arith, nat_tests)
+
 -- the words from a token on
 pub words_step : (rest octets after : List ℕ) (token : Kind × ℕ) → 0 < length rest → token ≡ token_at rest → octets ≡ take token.1 rest → after ≡ drop token.1 rest → words_of rest ≡ with_word (word_in token.0 octets) (words_of after)
 words_step rest octets after token some e f g =

@@ -2,3 +2,4 @@ pub mod Escapes
 pub mod Tokens
 pub mod Lines
 pub mod Words
+pub mod Finding

@@ -4,12 +4,13 @@
 mod escape;
 mod laws;
 mod line;
+mod pass;
 mod token;
 mod word;
 
 pub use laws::{law_of_first_lines, law_of_lines, law_of_tokens, law_of_words};
-pub use line::{BadLine, Span, begins_with_blank, first_line};
-pub use word::{Word, first_word};
+pub use line::{BadLine, Found, Line, LineError, Span, first_line};
+pub use word::Word;
 
 #[cfg(test)]
 mod tests;

@@ -1,11 +1,11 @@
 //! The words of a line (RFC 1035 5.1).
 
-ghost use Rattle.std.specs.Prelude.{◌≡◌, [], ◌∷◌, IfOk, MatchOption};
+ghost use Rattle.std.specs.Prelude.{◌≡◌, IfOk};
 ghost use Rattle.std.specs.Option.{option_map};
-ghost use Rattle.dsec_text.specs.Words.{inner as inner_of, is_generic_mark as is_mark, octets_of, plain_of, word_in as word_of, word_view, words_of};
+ghost use Rattle.dsec_text.specs.Words.{inner as inner_of, is_generic_mark as is_mark, octets_of, plain_of, word_in as word_of, word_view};
 
 use crate::escape::octet;
-use crate::token::{Kind, token};
+use crate::token::Kind;
 use dsec_name::{NoMemory, Octets};
 use std::alloc::Global;
 
@@ -51,24 +51,8 @@ impl<'a> Word<'a> {
     }
 }
 
-/// The first word of a line, and the line after it; none where there is no word.
-pub fn first_word(line: &[u8]) -> Option<(Word<'_>, &[u8])>
-    ensures { MatchOption result (words_of line.now ≡ []) (λ found. words_of line.now ≡ word_view found.0 ∷ words_of found.1.now) }
-{
-    let mut rest = line;
-    while !rest.is_empty() {
-        let (kind, size) = token(rest);
-        let (octets, after) = rest.split_at(size);
-        if let Some(word) = word_in(kind, octets) {
-            return Some((word, after));
-        }
-        rest = after;
-    }
-    None
-}
-
 /// The word that a token is, if it is one.
-fn word_in(kind: Kind, octets: &[u8]) -> Option<Word<'_>>
+pub fn word_in(kind: Kind, octets: &[u8]) -> Option<Word<'_>>
     ensures { option_map word_view result ≡ word_of kind octets.now }
 {
     match kind {
