@@ -1,71 +1,74 @@
 -- What comes next: it is found line by line, and it is one thing alone.
-use Rattle.std.proofs.Common.{◌≡◌, ℕ, ◌+◌, ◌<◌, ◌≤◌, List, length, arith, Option, Some, None, Result, Ok, Err, refl, sym, ap, ◌∙◌, subst}
+use Rattle.std.proofs.Common.{◌≡◌, ℕ, ◌+◌, ◌-◌, List, length, drop, arith, Option, Some, None, Result, Ok, Err, refl, sym, ap, ◌∙◌, subst}
 use Rattle.std.specs.Bool.{OnFalse}
-use Rattle.std.specs.Prelude.{IfSome}
-use Rattle.std.proofs.lemmas.List.{drop-drop}
+use Rattle.std.proofs.lemmas.List.{drop-drop, drop_all}
 use Rattle.std.proofs.lemmas.Option.{same_Some}
-use Rattle.dsec_zonefile.specs.Entries.{IsNext, Next, Reader, again, bad, behind, end, ended, entry, found, later, refused, step_of, wants_memory}
-use Rattle.dsec_zonefile.specs.Places.{Finds, IsWithin, place_behind, reader_at}
+use Rattle.dsec_text.specs.Lines.{line_ends}
+use Rattle.dsec_zonefile.specs.Entries.{IsNext, Next, Reader, again, at_end, bad, behind, end, ended, entry, found, later, refused, step_of, wants_memory}
+use Rattle.dsec_zonefile.specs.Places.{Finds, IsSized, IsWithin, led, place_behind, reader_at}
 use Rattle.dsec_zonefile.specs.Setting.{after, entry_of}
 use Rattle.dsec_zonefile.specs.declared.entry.Entry.{Entry}
 use Rattle.dsec_zonefile.specs.declared.error.InplaceError.{InplaceError}
 use Rattle.dsec_zonefile.specs.declared.error.ZonefileError.{ZonefileError}
 use Rattle.dsec_zonefile.specs.declared.error.ZonefileError.TheVariants as errors
 use Rattle.dsec_zonefile.specs.declared.place.Place.{Place}
+use Rattle.dsec_zonefile.specs.declared.place.Way.{Way}
+use Rattle.dsec_zonefile.specs.declared.step.Ahead.TheVariants as ahead
 use Rattle.dsec_zonefile.specs.declared.step.Step.{Step}
-
--- the reader behind a step is the one at the place behind it
-pub reader_behind : (text : List ℕ) (place : Place) (step : Step) → behind (reader_at text place) step ≡ reader_at text (place_behind place step)
-reader_behind text place step =
-    ap {B = Reader} (λ (rest : List ℕ). record { text = rest; passed = place.lines + step.lines; setting = after place.setting step.said; refused = None })
-    (drop-drop step.octets place.at text)
 
 abbrev Stepped : Type 0
 Stepped = Result (Option Step) ZonefileError
 
+-- what comes next from a place on comes next from the start
+abbrev pub Leads : List ℕ → Place → Place → Type 0
+Leads text start place = (next : Next) → IsNext (reader_at text place) next → IsNext (reader_at text start) next
+
 -- at first the place is the start
-pub at_start : (text : List ℕ) (start place : Place) → place ≡ start → IsWithin text start
-    → IsWithin text place × ((next : Next) → IsNext (reader_at text place) next → IsNext (reader_at text start) next)
-at_start text start place e within =
+pub at_start : (text : List ℕ) (start : Place) (way : Way) → led start way ≡ start → IsWithin text start → IsWithin text (led start way) × Leads text start (led start way)
+at_start text start way e within =
     (subst (IsWithin text) (sym e) within, λ next h. subst (λ (p : Place). IsNext (reader_at text p) next) e h)
 
 -- a line that was not read: it is refused, or memory is wanting
-pub finds_error : (error : ZonefileError) (text : List ℕ) (start place : Place) → OnFalse (wants_memory error) (step_of (reader_at text place) ≡ Err error)
-    → ((next : Next) → IsNext (reader_at text place) next → IsNext (reader_at text start) next) → Finds text start (Err error)
+pub finds_error : (error : ZonefileError) (text : List ℕ) (start place : Place) → OnFalse (wants_memory error) (step_of (reader_at text place) ≡ Err error) → Leads text start place
+    → Finds text start (Err error)
 finds_error (errors.Inplace error) text start place says on = on (refused error.line) (bad (reader_at text place) error refl says)
 finds_error errors.NoMemory text start place says on = tt
 
--- no line with a word
-pub finds_end : (text : List ℕ) (start place : Place) (read : Option Step) → step_of (reader_at text place) ≡ Ok read → read ≡ None
-    → ((next : Next) → IsNext (reader_at text place) next → IsNext (reader_at text start) next) → IsNext (reader_at text start) (ended (reader_at text place))
-finds_end text start place read says none on = on (ended (reader_at text place)) (end (reader_at text place) refl (says ∙ ap {B = Stepped} Ok none))
+-- the reader at the end of a text
+end_is : (text : List ℕ) (place : Place) (at lines : ℕ) → at ≡ length text → lines ≡ place.lines + line_ends (drop place.at text) → at_end (reader_at text place) ≡ reader_at text (record { at = at; lines = lines; setting = place.setting })
+end_is text place at lines e f =
+    λ i. record { text = sym (drop_all at text (omega (arith, e))) i; passed = sym f i; setting = place.setting; refused = None }
 
-behind_is : (text : List ℕ) (place next : Place) (step : Step) → next ≡ place_behind place step → behind (reader_at text place) step ≡ reader_at text next
-behind_is text place next step e = reader_behind text place step ∙ ap (reader_at text) (sym e)
+-- no line with a word
+pub finds_end : (text : List ℕ) (start place : Place) (at lines : ℕ) → step_of (reader_at text place) ≡ Ok None → at ≡ length text → lines ≡ place.lines + line_ends (drop place.at text) → Leads text start place
+    → IsNext (reader_at text start) (ended (reader_at text (record { at = at; lines = lines; setting = place.setting })))
+finds_end text start place at lines says e f on =
+    subst (λ (r : Reader). IsNext (reader_at text start) (ended r)) (end_is text place at lines e f) (on (ended (at_end (reader_at text place))) (end (reader_at text place) refl says))
+
+-- the reader behind a step is the one at the place behind it
+reader_behind : (text : List ℕ) (place : Place) (step : Step) → behind (reader_at text place) step ≡ reader_at text (place_behind place step)
+reader_behind text place step =
+    ap {B = Reader} (λ (rest : List ℕ). record { text = rest; passed = place.lines + step.lines; setting = after place.setting step.said; refused = None })
+    (drop-drop step.octets place.at text)
 
 -- a line that gives an entry
-pub finds_entry : (text : List ℕ) (start place next : Place) (step : Step) (read : Option Step) (given : Option Entry) (it : Entry)
-    → step_of (reader_at text place) ≡ Ok read → read ≡ Some step → next ≡ place_behind place step → given ≡ entry_of step.said → given ≡ Some it
-    → ((next : Next) → IsNext (reader_at text place) next → IsNext (reader_at text start) next) → IsNext (reader_at text start) (found it (reader_at text next))
-finds_entry text start place next step read given it says some e gives is on =
-    subst (λ (r : Reader). IsNext (reader_at text start) (found it r)) (behind_is text place next step e)
-    (on (found it (behind (reader_at text place) step)) (entry (reader_at text place) step it refl (says ∙ ap {B = Stepped} Ok some) (sym gives ∙ is)))
+pub finds_entry : (text : List ℕ) (start place next : Place) (step : Step) (given : Option Entry) (it : Entry)
+    → step_of (reader_at text place) ≡ Ok (Some step) → place_behind place step ≡ next → given ≡ entry_of step.said → given ≡ Some it → Leads text start place
+    → IsNext (reader_at text start) (found it (reader_at text next))
+finds_entry text start place next step given it says e gives is on =
+    subst (λ (r : Reader). IsNext (reader_at text start) (found it r)) (reader_behind text place step ∙ ap (reader_at text) e)
+    (on (found it (behind (reader_at text place) step)) (entry (reader_at text place) step it refl says (sym gives ∙ is)))
 
 -- a line that gives none
-pub goes_on : (text : List ℕ) (start place next : Place) (step : Step) (read : Option Step) (given : Option Entry)
-    → step_of (reader_at text place) ≡ Ok read → read ≡ Some step → next ≡ place_behind place step → given ≡ entry_of step.said → given ≡ None
-    → ((next : Next) → IsNext (reader_at text place) next → IsNext (reader_at text start) next) → (n : Next) → IsNext (reader_at text next) n → IsNext (reader_at text start) n
-goes_on text start place next step read given says some e gives none on n h =
-    on n (later (reader_at text place) step n refl (says ∙ ap {B = Stepped} Ok some) (sym gives ∙ none) (subst (λ (r : Reader). IsNext r n) (sym (behind_is text place next step e)) h))
+pub goes_on : (text : List ℕ) (start place next : Place) (step : Step) (given : Option Entry)
+    → step_of (reader_at text place) ≡ Ok (Some step) → place_behind place step ≡ next → given ≡ entry_of step.said → given ≡ None → Leads text start place → Leads text start next
+goes_on text start place next step given says e gives none on n h =
+    on n (later (reader_at text place) step n refl says (sym gives ∙ none) (subst (λ (r : Reader). IsNext r n) (sym (reader_behind text place step ∙ ap (reader_at text) e)) h))
 
 -- the place behind a line is within the text
-pub within_next : (text : List ℕ) (place next : Place) (step : Step) (read : Option Step) → read ≡ Some step
-    → IfSome read (λ step. (0 < step.octets) × (place.at + step.octets ≤ length text) × (step.lines ≤ step.octets))
-    → next ≡ place_behind place step → IsWithin text place → IsWithin text next
-within_next text place next step read some bounds e within =
-    let P : Option Step → Type 0 = λ read. IfSome read (λ step. (0 < step.octets) × (place.at + step.octets ≤ length text) × (step.lines ≤ step.octets)) in
-    let b = subst P some bounds in
-    subst (IsWithin text) (sym e) (b.1, omega (arith, b.2, within.1))
+pub within_next : (text : List ℕ) (place next : Place) (step : Step) → IsSized (length text - place.at) (ahead.Step step) → place_behind place step ≡ next → IsWithin text place → IsWithin text next
+within_next text place next step sized e within =
+    subst (IsWithin text) e (omega (arith, sized.1, within.0), omega (arith, sized.2, within.1))
 
 -- a refusal stays
 pub still_refused : (reader : Reader) (line : ℕ) → reader.refused ≡ Some line → IsNext reader (refused line) × (reader ≡ record reader { refused = Some line })

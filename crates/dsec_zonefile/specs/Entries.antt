@@ -1,5 +1,6 @@
 -- The entries of zone text, line by line (RFC 1035 5.1).
-use Rattle.std.specs.Prelude.{◌≡◌, ℕ, ◌+◌, List, [], ◌∷◌, drop, slice_range, Bool, true, false, Option, Some, None, Result, Ok, Err}
+use Rattle.std.specs.Prelude.{◌≡◌, ℕ, ◌+◌, List, [], ◌∷◌, drop, Bool, true, false, Option, Some, None, Result, Ok, Err}
+use Rattle.dsec_text.specs.Finding.{line_at}
 use Rattle.dsec_text.specs.Lines.{first_line_of, line_ends}
 use Rattle.dsec_text.specs.declared.line.BadLine.{BadLine}
 use Rattle.dsec_text.specs.declared.line.Span.{Span}
@@ -39,7 +40,7 @@ abbrev pub first_told : Reader → Result (Option Span) BadLine → Result (Opti
 first_told reader (Err bad) = refused_behind (reader.passed + bad.before)
 first_told reader (Ok None) = Ok None
 first_told reader (Ok (Some span)) =
-    told reader.passed span (slice_range reader.text span.start span.end) (said_in reader.setting (slice_range reader.text span.start span.end))
+    told reader.passed span (line_at reader.text span) (said_in reader.setting (line_at reader.text span))
 
 -- what the first line with a word says under the setting, if there is one, or its refusal
 abbrev pub step_of : Reader → Result (Option Step) ZonefileError
@@ -54,6 +55,10 @@ behind reader step = record {
   refused = None;
 }
 
+-- at the end: nothing is left, and what was left was passed
+abbrev pub at_end : Reader → Reader
+at_end reader = record reader { text = []; passed = reader.passed + line_ends reader.text }
+
 -- what comes next: an entry, and the reader behind it; the end, and the reader there; or the refusal of the line with this number
 pub data Next : Type 0 where
   found : Entry → Reader → Next
@@ -61,11 +66,12 @@ pub data Next : Type 0 where
   refused : ℕ → Next
 
 -- This comes next. A refusal stays. Else it is the entry of the first line that gives one, where each line is read under the
--- setting that those before it leave; the end, where no line with a word is left; or the refusal of a line before these.
+-- setting that those before it leave; the end, behind the last line, where no line with a word is left; or the refusal of a
+-- line before these.
 pub data IsNext : Reader → Next → Type 0 where
   again : (reader : Reader) (line : ℕ) → reader.refused ≡ Some line → IsNext reader (refused line)
   bad : (reader : Reader) (error : InplaceError) → reader.refused ≡ None → step_of reader ≡ Err (errors.Inplace error) → IsNext reader (refused error.line)
-  end : (reader : Reader) → reader.refused ≡ None → step_of reader ≡ Ok None → IsNext reader (ended reader)
+  end : (reader : Reader) → reader.refused ≡ None → step_of reader ≡ Ok None → IsNext reader (ended (at_end reader))
   entry : (reader : Reader) (step : Step) (it : Entry) → reader.refused ≡ None → step_of reader ≡ Ok (Some step) → entry_of step.said ≡ Some it
       → IsNext reader (found it (behind reader step))
   later : (reader : Reader) (step : Step) (next : Next) → reader.refused ≡ None → step_of reader ≡ Ok (Some step) → entry_of step.said ≡ None

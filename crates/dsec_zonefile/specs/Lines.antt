@@ -4,7 +4,7 @@ use Rattle.std.proofs.Math.Bool.{not}
 use Rattle.std.specs.Option.{option_map}
 use Rattle.std.specs.Str.{bytes_eq}
 use Rattle.dsec_spec.specs.Reading.{◌>>=◌}
-use Rattle.dsec_text.specs.Escapes.{is_blank}
+use Rattle.dsec_text.specs.Lines.{begins_with_blank}
 use Rattle.dsec_text.specs.Words.{Word, octets_of, plain_of, words_of}
 use Rattle.dsec_zonefile.specs.Records.{record_in}
 use Rattle.dsec_zonefile.specs.Words.{name_in, only, ttl_in}
@@ -55,11 +55,6 @@ said_by setting blank [] = None
 said_by setting blank (word ∷ words) =
     if not blank && begins_with_dollar (plain_of word) then control_in setting word.written words
     else option_map (λ it. said.Entry (entries.Record it)) (record_in setting blank (word ∷ words))
-
--- whether a line begins with a blank
-abbrev pub begins_with_blank : List ℕ → Bool
-begins_with_blank [] = false
-begins_with_blank (octet ∷ line) = is_blank octet
 
 -- what a line says
 abbrev pub said_in : Setting → List ℕ → Option Said

@@ -4,7 +4,7 @@ ghost use Rattle.std.specs.Prelude.{ℕ, List, [], map};
 ghost use Rattle.dsec_spec.specs.Layouts as layouts;
 ghost use Rattle.dsec_spec.specs.Reading.{Reads};
 ghost use Rattle.dsec_text.specs.Words as text;
-ghost use Rattle.dsec_text.specs.Words.{word_view, words_of};
+ghost use Rattle.dsec_text.specs.Words.{word_view};
 ghost use Rattle.dsec_wire.specs.Fields.{form_view, item_view, tail_view};
 ghost use Rattle.dsec_zonefile.specs.Forms.{formed_in, item_in, items_in, tail_in};
 ghost use Rattle.dsec_word.specs.Words.{wants_memory};
@@ -13,7 +13,7 @@ ghost use Rattle.dsec_zonefile.specs.Words.{added, base64_of, hex_of};
 use crate::address::{ipv4, ipv6};
 use crate::word::{join, read_name, read_number, strings};
 use dsec_name::{Name, Octets};
-use dsec_text::{Word, first_word};
+use dsec_text::Word;
 use dsec_wire::{Form, Item, Tail};
 use dsec_word::{ReadError, read_base64, read_hex};
 use std::alloc::Global;
@@ -109,72 +109,71 @@ fn push_ipv6(word: &Word<'_>, out: &mut Vec<u8>) -> Result<(), ReadError>
     Ok(())
 }
 
-/// What the first words of a line write as items, and the line after them.
-fn read_items<'a>(
+/// What the first words write as items, and the words after them.
+fn read_items<'a, 'b>(
     alloc: Global,
     origin: &Name,
     items: &[Item],
-    line: &'a [u8],
-) -> Result<(Vec<u8>, &'a [u8]), ReadError>
-    ensures { Reads {Y = List ℕ × List text.Word} wants_memory (λ read. (read.0.items, words_of read.1.now)) result
-        (items_in origin.now (map item_view items.now) (words_of line.now)) }
+    words: &'a [Word<'b>],
+) -> Result<(Vec<u8>, &'a [Word<'b>]), ReadError>
+    ensures { Reads {Y = List ℕ × List text.Word} wants_memory (λ read. (read.0.items, map word_view read.1.now)) result
+        (items_in origin.now (map item_view items.now) (map word_view words.now)) }
 {
-    let mut out = Vec::new(alloc);
-    let mut rest = line;
-    for item in items {
-        let Some((word, after)) = first_word(rest) else {
-            return Err(ReadError::Bad);
-        };
-        push_item(alloc, origin, *item, &word, &mut out)?;
-        rest = after;
+    if words.len() < items.len() {
+        return Err(ReadError::Bad);
     }
+    let mut out = Vec::new(alloc);
+    for index in 0..items.len() {
+        push_item(alloc, origin, items[index], &words[index], &mut out)?;
+    }
+    let (_, rest) = words.split_at(items.len());
     Ok((out, rest))
 }
 
-/// What the words of a line write as a form's tail.
-fn read_tail(alloc: Global, tail: Tail, line: &[u8]) -> Result<Octets, ReadError>
-    ensures { Reads wants_memory (λ octets. octets) result (tail_in (tail_view tail) (words_of line.now)) }
+/// What words write as a form's tail.
+fn read_tail(alloc: Global, tail: Tail, words: &[Word<'_>]) -> Result<Octets, ReadError>
+    ensures { Reads wants_memory (λ octets. octets) result (tail_in (tail_view tail) (map word_view words.now)) }
 {
-    let Some(_) = first_word(line) else {
+    if words.is_empty() {
         return match tail {
             Tail::Nothing => Ok(Octets::new(Vec::new(alloc))),
             Tail::Strings | Tail::Hex | Tail::Base64 => Err(ReadError::Bad),
         };
-    };
+    }
     match tail {
         Tail::Nothing => Err(ReadError::Bad),
-        Tail::Strings => Ok(Octets::new(strings(alloc, line)?)),
-        Tail::Hex => hex_words(alloc, line),
-        Tail::Base64 => base64_words(alloc, line),
+        Tail::Strings => Ok(Octets::new(strings(alloc, words)?)),
+        Tail::Hex => hex_words(alloc, words),
+        Tail::Base64 => base64_words(alloc, words),
     }
 }
 
-/// The octets that the words of a line write in hex.
-pub fn hex_words(alloc: Global, line: &[u8]) -> Result<Octets, ReadError>
-    ensures { Reads wants_memory (λ octets. octets) result (hex_of (words_of line.now)) }
+/// The octets that words write in hex.
+pub fn hex_words(alloc: Global, words: &[Word<'_>]) -> Result<Octets, ReadError>
+    ensures { Reads wants_memory (λ octets. octets) result (hex_of (map word_view words.now)) }
 {
-    let digits = join(alloc, line)?;
+    let digits = join(alloc, words)?;
     read_hex(alloc, &digits)
 }
 
-/// The octets that the words of a line write in base64.
-fn base64_words(alloc: Global, line: &[u8]) -> Result<Octets, ReadError>
-    ensures { Reads wants_memory (λ octets. octets) result (base64_of (words_of line.now)) }
+/// The octets that words write in base64.
+fn base64_words(alloc: Global, words: &[Word<'_>]) -> Result<Octets, ReadError>
+    ensures { Reads wants_memory (λ octets. octets) result (base64_of (map word_view words.now)) }
 {
-    let digits = join(alloc, line)?;
+    let digits = join(alloc, words)?;
     read_base64(alloc, &digits)
 }
 
-/// The octets that the words of a line write in a form.
+/// The octets that words write in a form.
 pub fn read_formed(
     alloc: Global,
     origin: &Name,
     form: Form,
-    line: &[u8],
+    words: &[Word<'_>],
 ) -> Result<Octets, ReadError>
-    ensures { Reads wants_memory (λ octets. octets) result (formed_in origin.now (form_view form) (words_of line.now)) }
+    ensures { Reads wants_memory (λ octets. octets) result (formed_in origin.now (form_view form) (map word_view words.now)) }
 {
-    let (mut out, rest) = read_items(alloc, origin, form.items, line)?;
+    let (mut out, rest) = read_items(alloc, origin, form.items, words)?;
     let tail = read_tail(alloc, form.tail, rest)?;
     out.extend_from_slice(tail.as_slice())?;
     Ok(Octets::new(out))

@@ -1,7 +1,8 @@
 //! What the lines so far leave for those that follow (RFC 1035 5.1, RFC 2308 4).
 
 ghost use Rattle.std.specs.Prelude.{◌≡◌, IfOk, Some};
-ghost use Rattle.dsec_zonefile.specs.Setting.{after, as_before, at_first, class_for as class_by, entry_of, ttl_for as ttl_by};
+ghost use Rattle.dsec_zonefile.specs.Places.{before_in, setting_or, with_before};
+ghost use Rattle.dsec_zonefile.specs.Setting.{after, as_before, at_first, class_for as class_by, ttl_for as ttl_by};
 
 use crate::entry::Entry;
 use dsec_name::{Name, NoMemory};
@@ -65,23 +66,17 @@ impl Before {
     }
 }
 
-impl Setting {
-    /// The same setting once more.
-    pub fn duplicate(&self) -> Result<Setting, NoMemory>
-        ensures { IfOk result (λ copy. copy ≡ self.now) }
-    {
-        let before = match &self.before {
-            Some(before) => Some(before.duplicate()?),
-            None => None,
-        };
-        Ok(Setting {
-            origin: self.origin.clone()?,
-            ttl: self.ttl,
-            before,
-            class: self.class,
-        })
+/// An entry as the record before, if it is a record.
+pub fn before_of(entry: &Option<Entry>) -> Result<Option<Before>, NoMemory>
+    ensures { IfOk result (λ before. before ≡ before_in entry.now) }
+{
+    match entry {
+        Some(Entry::Record(record)) => Ok(Some(Before::of(record)?)),
+        Some(Entry::Include { .. }) | None => Ok(None),
     }
+}
 
+impl Setting {
     /// Before the first line.
     pub fn new(alloc: Global) -> Setting
         ensures { result ≡ at_first }
@@ -123,44 +118,56 @@ impl Setting {
         }
     }
 
-    /// The setting after a line, and the entry that it gives.
-    pub fn behind(self, said: Said) -> Result<(Setting, Option<Entry>), NoMemory>
-        ensures setting { IfOk result (λ left. left.0 ≡ after self said) }
-        ensures entry { IfOk result (λ left. left.1 ≡ entry_of said) }
+    /// The same setting with another origin.
+    pub fn with_origin(&self, origin: Name) -> Result<Setting, NoMemory>
+        ensures { IfOk result (λ setting. setting ≡ after self.now (Said.Origin origin)) }
     {
-        match said {
-            Said::Origin(origin) => Ok((self.with_origin(origin), None)),
-            Said::Ttl(ttl) => Ok((self.with_ttl(ttl), None)),
-            Said::Entry(entry) => {
-                let setting = self.behind_entry(&entry)?;
-                Ok((setting, Some(entry)))
-            }
+        Ok(Setting {
+            origin,
+            ttl: self.ttl,
+            before: self.duplicate_before()?,
+            class: self.class,
+        })
+    }
+
+    /// The same setting with another TTL of `$TTL`.
+    pub fn with_ttl(&self, ttl: Ttl) -> Result<Setting, NoMemory>
+        ensures { IfOk result (λ setting. setting ≡ after self.now (Said.Ttl ttl)) }
+    {
+        Ok(Setting {
+            origin: self.origin.clone()?,
+            ttl: Some(ttl),
+            before: self.duplicate_before()?,
+            class: self.class,
+        })
+    }
+
+    /// The record before once more.
+    fn duplicate_before(&self) -> Result<Option<Before>, NoMemory>
+        ensures { IfOk result (λ copy. copy ≡ self.now.before) }
+    {
+        match &self.before {
+            Some(before) => Ok(Some(before.duplicate()?)),
+            None => Ok(None),
         }
     }
 
-    /// With another origin.
-    fn with_origin(mut self, origin: Name) -> Setting
-        ensures { result ≡ record self { origin = origin } }
+    /// Becomes another setting, if there is one.
+    pub fn change(&mut self, changed: Option<Setting>)
+        ensures { self.new ≡ setting_or self.old changed }
     {
-        self.origin = origin;
-        self
+        let Some(setting) = changed else {
+            return;
+        };
+        *self = setting;
     }
 
-    /// With the TTL of `$TTL`.
-    fn with_ttl(mut self, ttl: Ttl) -> Setting
-        ensures { result ≡ record self { ttl = Some ttl } }
+    /// Puts another record before, if there is one.
+    pub fn put_before(&mut self, before: Option<Before>)
+        ensures { self.new ≡ with_before self.old before }
     {
-        self.ttl = Some(ttl);
-        self
-    }
-
-    /// The setting after an entry.
-    fn behind_entry(mut self, entry: &Entry) -> Result<Setting, NoMemory>
-        ensures { IfOk result (λ setting. setting ≡ after self (Said.Entry entry.now)) }
-    {
-        if let Entry::Record(it) = entry {
-            self.before = Some(Before::of(it)?);
+        if before.is_some() {
+            self.before = before;
         }
-        Ok(self)
     }
 }

@@ -1,14 +1,12 @@
 //! The first line of a text that says something.
 
-ghost use Rattle.std.specs.Prelude.{◌≡◌, ◌+◌, ◌<◌, ◌≤◌, ◌^◌, None, length, IfOk, IfSome};
-ghost use Rattle.dsec_spec.specs.Reading.{Gives};
-ghost use Rattle.dsec_text.specs.Lines.{line_ends as line_ends_of};
-ghost use Rattle.dsec_zonefile.specs.Entries.{step_of, wants_memory};
+ghost use Rattle.std.specs.Prelude.{◌≡◌, ◌+◌, ◌<◌, ◌^◌, None, length, IfOk};
+ghost use Rattle.dsec_zonefile.specs.Places.{IsSized, Steps};
 
 use crate::error::{InplaceError, ZonefileError};
 use crate::line::read_line;
 use crate::setting::{Said, Setting};
-use dsec_text::first_line;
+use dsec_text::{Found, LineError, first_line};
 use dsec_word::ReadError;
 use std::alloc::Global;
 
@@ -23,32 +21,42 @@ pub struct Step {
     pub lines: usize,
 }
 
-/// What the first line of a text with a word says under a setting, where so many line ends were passed before; none where
-/// there is no such line.
+/// What stands ahead in a text.
+#[derive(Drop)]
+pub enum Ahead {
+    /// A line that says something.
+    Step(Step),
+    /// The end of the text.
+    End {
+        /// How many line ends the text has.
+        lines: usize,
+    },
+}
+
+/// What the first line of a text with a word says under a setting, where so many line ends were passed before; or the end.
 pub fn read_step(
     alloc: Global,
     passed: usize,
     setting: &Setting,
     text: &[u8],
-) -> Result<Option<Step>, ZonefileError>
+) -> Result<Ahead, ZonefileError>
     requires { passed + length text.now < 2 ^ 63 }
-    ensures exact { Gives wants_memory (λ step. step) result
-        (step_of (record { text = text.now; passed = passed; setting = setting.now; refused = None })) }
-    ensures within { IfOk result (λ found. IfSome found (λ step. (0 < step.octets) × (step.octets ≤ length text.now) × (step.lines ≤ step.octets))) }
+    ensures exact { Steps (record { text = text.now; passed = passed; setting = setting.now; refused = None }) result }
+    ensures sized { IfOk result (λ ahead. IsSized (length text.now) ahead) }
 {
-    let span = match first_line(text) {
-        Ok(Some(span)) => span,
-        Ok(None) => return Ok(None),
-        Err(bad) => return Err(refused(passed + bad.before)),
+    let line = match first_line(alloc, text) {
+        Ok(Found::Line(line)) => line,
+        Ok(Found::End { line_ends }) => return Ok(Ahead::End { lines: line_ends }),
+        Err(LineError::Bad(bad)) => return Err(refused(passed + bad.before)),
+        Err(LineError::NoMemory) => return Err(ZonefileError::NoMemory),
     };
-    let line = &text[span.start..span.end];
-    match read_line(alloc, setting, line) {
-        Ok(said) => Ok(Some(Step {
+    match read_line(alloc, setting, &line) {
+        Ok(said) => Ok(Ahead::Step(Step {
             said,
-            octets: span.end,
-            lines: span.before + line_ends(line),
+            octets: line.span.end,
+            lines: line.span.before + line.line_ends,
         })),
-        Err(ReadError::Bad) => Err(refused(passed + span.before)),
+        Err(ReadError::Bad) => Err(refused(passed + line.span.before)),
         Err(ReadError::NoMemory) => Err(ZonefileError::NoMemory),
     }
 }
@@ -59,12 +67,4 @@ fn refused(lines: usize) -> ZonefileError
     ensures { result ≡ ZonefileError.Inplace (record { line = lines + 1 }) }
 {
     ZonefileError::Inplace(InplaceError { line: lines + 1 })
-}
-
-/// How many line ends octets have.
-fn line_ends(octets: &[u8]) -> usize
-    ensures count { result ≡ line_ends_of octets.now }
-    ensures within { result ≤ length octets.now }
-{
-    octets.iter().filter(|&&octet| octet == b'\n').count()
 }

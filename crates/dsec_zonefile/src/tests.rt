@@ -227,17 +227,30 @@ fn goes_on_where_text_is_added(rt: HostRuntime) -> Result<(), Fail> {
     let mut zonefile = Zonefile::new(alloc);
     assert_eq!(rt; shown(alloc, &mut zonefile)?.as_str(), "end");
     zonefile.extend_from_slice(b"$ORIGIN e.\n$TTL 7\n\na IN TXT ")?;
-    zonefile.extend_from_slice(b"x\n; more")?;
+    zonefile.extend_from_slice(b"x\n; more\n\n")?;
     assert_eq!(rt;
         shown(alloc, &mut zonefile)?.as_str(),
         "0161016500 1 16 7 [0178]\nend"
     );
     assert_eq!(rt; shown(alloc, &mut zonefile)?.as_str(), "end");
-    zonefile.extend_from_slice(b" of it\n TXT y\n TXT\nb TXT z\n")?;
+    zonefile.extend_from_slice(b"; of it\n TXT y\n TXT\nb TXT z\n")?;
     assert_eq!(rt;
         shown(alloc, &mut zonefile)?.as_str(),
-        "0161016500 1 16 7 [0179]\nline 7"
+        "0161016500 1 16 7 [0179]\nline 9"
     );
+    Ok(())
+}
+
+#[test]
+fn the_end_is_passed_once(rt: HostRuntime) -> Result<(), Fail> {
+    let alloc = rt.alloc();
+    let mut zonefile = Zonefile::new(alloc);
+    for _ in 0..100_000 {
+        zonefile.extend_from_slice(b"\n")?;
+        assert!(rt; matches!(zonefile.next_entry(), Ok(None)));
+    }
+    zonefile.extend_from_slice(b"a. IN FOO\n")?;
+    assert_eq!(rt; shown(alloc, &mut zonefile)?.as_str(), "line 100001");
     Ok(())
 }
 

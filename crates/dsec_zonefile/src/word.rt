@@ -1,16 +1,16 @@
 //! What single words of zone text say (RFC 1035 5.1).
 
-ghost use Rattle.std.specs.Prelude.{◌≡◌, ◌≤◌, IfSome};
+ghost use Rattle.std.specs.Prelude.{◌≡◌, ◌≤◌, map, IfSome};
 ghost use Rattle.std.specs.Option.{option_map};
 ghost use Rattle.dsec_spec.specs.Names.{Labels};
 ghost use Rattle.dsec_spec.specs.Reading.{Reads};
-ghost use Rattle.dsec_text.specs.Words.{plain_of, word_view, words_of};
+ghost use Rattle.dsec_text.specs.Words.{plain_of, word_view};
 ghost use Rattle.dsec_word.specs.Words.{wants_memory};
 ghost use Rattle.dsec_zonefile.specs.Words.{added, class_in, joined, name_in, number_in, only, rtype_in, string_in, ttl_in};
 
 use dsec_name::{Name, NameError};
 use dsec_number::{Class, Rtype, Ttl};
-use dsec_text::{Word, first_word};
+use dsec_text::Word;
 use dsec_word::{ReadError, number};
 use std::alloc::Global;
 
@@ -85,42 +85,45 @@ pub fn push_string(alloc: Global, word: &Word<'_>, out: &mut Vec<u8>) -> Result<
     Ok(())
 }
 
-/// The strings of all words of a line.
-pub fn strings(alloc: Global, line: &[u8]) -> Result<Vec<u8>, ReadError>
-    ensures { Reads wants_memory (λ octets. octets.items) result (joined string_in (words_of line.now)) }
+/// The strings of words.
+pub fn strings(alloc: Global, words: &[Word<'_>]) -> Result<Vec<u8>, ReadError>
+    ensures { Reads wants_memory (λ octets. octets.items) result (joined string_in (map word_view words.now)) }
 {
     let mut out = Vec::new(alloc);
-    let mut rest = line;
-    while let Some((word, after)) = first_word(rest) {
-        push_string(alloc, &word, &mut out)?;
-        rest = after;
+    for word in words {
+        push_string(alloc, word, &mut out)?;
     }
     Ok(out)
 }
 
-/// The octets of all words of a line, joined.
-pub fn join(alloc: Global, line: &[u8]) -> Result<Vec<u8>, ReadError>
-    ensures { Reads wants_memory (λ octets. octets.items) result (joined plain_of (words_of line.now)) }
+/// The octets of words, joined.
+pub fn join(alloc: Global, words: &[Word<'_>]) -> Result<Vec<u8>, ReadError>
+    ensures { Reads wants_memory (λ octets. octets.items) result (joined plain_of (map word_view words.now)) }
 {
     let mut out = Vec::new(alloc);
-    let mut rest = line;
-    while let Some((word, after)) = first_word(rest) {
-        let Some(octets) = word.plain() else {
-            return Err(ReadError::Bad);
-        };
-        out.extend_from_slice(octets)?;
-        rest = after;
+    for word in words {
+        push_plain(word, &mut out)?;
     }
     Ok(out)
 }
 
-/// The only word of a line.
-pub fn only_word(line: &[u8]) -> Option<Word<'_>>
-    ensures { option_map word_view result ≡ only (words_of line.now) }
+/// Adds the octets of a word without quotes and escapes.
+fn push_plain(word: &Word<'_>, out: &mut Vec<u8>) -> Result<(), ReadError>
+    ensures { Reads wants_memory (λ _. out.new.items) result (added out.old.items (plain_of (word_view word.now))) }
 {
-    let (word, rest) = first_word(line)?;
-    match first_word(rest) {
-        Some(_) => None,
-        None => Some(word),
+    let Some(octets) = word.plain() else {
+        return Err(ReadError::Bad);
+    };
+    out.extend_from_slice(octets)?;
+    Ok(())
+}
+
+/// The only word.
+pub fn only_word<'a, 'b>(words: &'a [Word<'b>]) -> Option<&'a Word<'b>>
+    ensures { option_map (λ word. word_view word.now) result ≡ only (map word_view words.now) }
+{
+    match words {
+        [word] => Some(word),
+        _ => None,
     }
 }

@@ -7,7 +7,7 @@ ghost use Rattle.dsec_zonefile.specs.Setting.{at_first};
 use crate::entry::Entry;
 use crate::error::{InplaceError, ZonefileError};
 use crate::place::{Place, find};
-use crate::setting::Setting;
+use crate::setting::{Setting, before_of};
 use dsec_name::NoMemory;
 use dsec_number::Class;
 use std::alloc::Global;
@@ -66,7 +66,8 @@ impl Zonefile {
         Ok(())
     }
 
-    /// The next entry; none where no entry is left. A refusal is answered again at each later call.
+    /// The next entry; none where no entry is left, and then the text that was left is passed. A refusal is answered again at
+    /// each later call.
     pub fn next_entry(&mut self) -> Result<Option<Entry>, ZonefileError>
         ensures { Answers self.old result self.new }
     {
@@ -74,8 +75,9 @@ impl Zonefile {
             return Err(ZonefileError::Inplace(InplaceError { line }));
         }
         match find(*self.text.allocator(), &self.text, &self.place) {
-            Ok((entry, place)) => {
-                self.place = place;
+            Ok((entry, way)) => {
+                let before = before_of(&entry)?;
+                self.place.go(way, before);
                 Ok(entry)
             }
             Err(ZonefileError::Inplace(error)) => {
