@@ -3,6 +3,7 @@
 #![tactic(auto)]
 
 mod answers;
+mod limit;
 mod memory;
 mod replies;
 mod sink;
@@ -14,6 +15,7 @@ mod upstream;
 mod whole;
 
 pub use answers::{FailingUpstream, FixedUpstream, TableUpstream};
+pub use limit::line_past;
 pub use memory::{FailingSink, FailingSource, OctetsSink, OctetsSource};
 pub use replies::Replies;
 pub use sink::Sink;
