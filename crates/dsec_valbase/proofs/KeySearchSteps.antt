@@ -8,7 +8,7 @@ use Rattle.dsec_spec.specs.DelegationSigner.{names, has_digest}
 use Rattle.dsec_spec.specs.KeySearch.{KeySearch, found_at, not_found, too_many, first_key, is_named, is_spoken_of, of_key}
 use Rattle.dsec_spec.proofs.KeySearchLemmas.{behind, search_end, search_past, search_tried, search_found, search_over}
 use Rattle.dsec_valbase.specs.KeySearches.{trial_of}
-use Rattle.dsec_valbase.proofs.IslandSteps.{drop_here}
+use Rattle.dsec_anchors.proofs.IslandSteps.{drop_here}
 use Rattle.dsec_valbase.specs.declared.key_search.Trial.TheVariants.{Match, Mismatch, Other, Excess}
 
 -- a key that isn't named isn't spoken of

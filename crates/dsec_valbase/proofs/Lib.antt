@@ -4,6 +4,4 @@ pub mod LinkLemmas
 pub mod SignedTests
 pub mod KeyedLemmas
 pub mod KeyDigestLemmas
-pub mod IslandSteps
 pub mod KeySearchSteps
-pub mod AnchorLemmas

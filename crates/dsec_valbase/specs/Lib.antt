@@ -6,5 +6,4 @@ pub mod Links
 pub mod Shown
 pub mod KeyDigests
 pub mod KeySearches
-pub mod Anchors
 pub mod Sizes

@@ -3,13 +3,11 @@
 
 mod admit;
 mod admit_ds;
-mod anchors;
 mod bytes;
 mod canonical;
 mod check;
 mod dnskey_ext;
 mod ds_ext;
-mod island;
 mod key_digest;
 mod key_search;
 mod key_size;
@@ -23,11 +21,11 @@ mod verified;
 
 pub use admit::{admit_anchor_key, admit_set};
 pub use admit_ds::admit_anchor_ds;
-pub use anchors::{AnchorRecords, TrustAnchor, TrustAnchors};
 pub use bytes::signed_bytes;
 pub use check::{is_signed, matches, may_sign};
 pub use dnskey_ext::DnskeyExt;
 pub use ds_ext::DsExt;
+pub use dsec_anchors::{AnchorError, AnchorRecords, TrustAnchor, TrustAnchors};
 pub use key_search::{KeySearch, first_key_for};
 pub use link::{Link, LinkKind, Links};
 pub use record_set::RecordSet;

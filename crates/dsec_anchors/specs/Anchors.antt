@@ -2,8 +2,8 @@
 use Rattle.std.specs.Prelude.{List, [], ◌∷◌, filter, Option, Some, None}
 use Rattle.dsec_spec.specs.Names.{Labels, Place, place, same_place}
 use Rattle.dsec_spec.specs.Records.{Record}
-use Rattle.dsec_valbase.specs.declared.anchors.TrustAnchor.{TrustAnchor}
-use Rattle.dsec_valbase.specs.declared.anchors.AnchorRecords.{AnchorRecords}
+use Rattle.dsec_anchors.specs.declared.anchors.TrustAnchor.{TrustAnchor}
+use Rattle.dsec_anchors.specs.declared.anchors.AnchorRecords.{AnchorRecords}
 
 -- the anchors of one owner, as the first of them writes it
 pub record OwnersAnchors : Type 0 where

@@ -3,9 +3,9 @@ use Rattle.std.specs.Prelude.{Option, Some}
 use Rattle.std.specs.Option.{option_map}
 use Rattle.dsec_spec.specs.Names.{Labels, place}
 use Rattle.dsec_spec.specs.Records.{Record}
-use Rattle.dsec_valbase.specs.Anchors.{OwnersAnchors, anchors_at, records_at}
-use Rattle.dsec_valbase.proofs.AnchorLemmas.{anchors_by_first, no_anchors}
-use Rattle.dsec_valbase.proofs.anchors.TrustAnchors.find.Goals as goal
+use Rattle.dsec_anchors.specs.Anchors.{OwnersAnchors, anchors_at, records_at}
+use Rattle.dsec_anchors.proofs.AnchorLemmas.{anchors_by_first, no_anchors}
+use Rattle.dsec_anchors.proofs.anchors.TrustAnchors.find.Goals as goal
 
 pub returns-in-None : goal.returns-in-None
 returns-in-None c =

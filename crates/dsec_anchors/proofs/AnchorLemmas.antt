@@ -15,8 +15,8 @@ use Rattle.dsec_spec.proofs.IslandLemmas.{island_is, looked_for_is}
 use Rattle.dsec_spec.proofs.Members.{first_in, from_filter, in_filter, not_in_none}
 use Rattle.dsec_spec.proofs.NamesBelow.{ancestors_comparable}
 use Rattle.dsec_spec.proofs.SignedTests.{below_decides}
-use Rattle.dsec_valbase.specs.Anchors.{OwnersAnchors, anchor_view, records_at, with_owner, anchors_at}
-use Rattle.dsec_valbase.specs.declared.anchors.TrustAnchor.{TrustAnchor}
+use Rattle.dsec_anchors.specs.Anchors.{OwnersAnchors, anchor_view, records_at, with_owner, anchors_at}
+use Rattle.dsec_anchors.specs.declared.anchors.TrustAnchor.{TrustAnchor}
 
 -- the first that passes is the first of those that pass
 abbrev first_of : List Record → Option Record

@@ -3,7 +3,7 @@ use Rattle.std.specs.Prelude.{filter}
 use Rattle.std.specs.Option.{option_map}
 use Rattle.dsec_spec.specs.Islands.{longest, looked_for_at}
 use Rattle.dsec_spec.specs.Names.{is_below, place}
-use Rattle.dsec_valbase.proofs.island.island_owner.Given as goal
+use Rattle.dsec_anchors.proofs.island.island_owner.Given as goal
 
 abbrev pub invariant-loop-index : goal.invariant-loop-index
 invariant-loop-index l =

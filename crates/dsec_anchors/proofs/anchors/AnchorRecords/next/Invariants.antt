@@ -1,6 +1,6 @@
 use Rattle.std.proofs.Common.{◌≡◌, length}
-use Rattle.dsec_valbase.specs.Anchors.{left_of}
-use Rattle.dsec_valbase.proofs.anchors.AnchorRecords.next.Given as goal
+use Rattle.dsec_anchors.specs.Anchors.{left_of}
+use Rattle.dsec_anchors.proofs.anchors.AnchorRecords.next.Given as goal
 
 abbrev pub invariant-loop-one : goal.invariant-loop-one
 invariant-loop-one l = left_of l.self ≡ left_of l.initial.self

@@ -2,8 +2,8 @@ use Rattle.std.proofs.Common.{◌-◌, arith, sym, ◌∙◌, ap, length, Some}
 use Rattle.dsec_spec.specs.Names.{Labels, Place, place, is_below}
 use Rattle.dsec_spec.specs.Islands.{longer, looked_for_at}
 use Rattle.std.specs.Option.{option_map}
-use Rattle.dsec_valbase.proofs.IslandSteps.{one_longer, one_skipped, none_yet}
-use Rattle.dsec_valbase.proofs.island.island_owner.Goals as goal
+use Rattle.dsec_anchors.proofs.IslandSteps.{one_longer, one_skipped, none_yet}
+use Rattle.dsec_anchors.proofs.island.island_owner.Goals as goal
 
 pub loop-index-init : goal.loop-index-init
 loop-index-init c = (none_yet c.args.anchors.now (looked_for_at (place c.args.name.now) c.args.rtype) (length c.args.anchors.now) (omega arith), omega arith)

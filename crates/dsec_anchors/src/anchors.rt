@@ -1,15 +1,21 @@
 //! Trust anchors (RFC 4033 2).
 
-ghost use Rattle.std.specs.Prelude.{◌≡◌, ◌++◌, ◌∷◌, [], find, OnOk, OnErr};
+ghost use Rattle.std.specs.Prelude.{◌≡◌, ◌++◌, ◌∷◌, ◌≤◌, [], find, None, Some, IfSome, IsErrOf, OnOk, OnErr};
 ghost use Rattle.std.specs.Option.{option_and_then, option_map};
 ghost use Rattle.dsec_spec.specs.Islands.{island};
 ghost use Rattle.dsec_spec.specs.Names.{place, same_place};
-ghost use Rattle.dsec_valbase.specs.Anchors.{anchor_view, anchors_at};
+ghost use Rattle.dsec_spec.specs.Numbers.{IN};
+ghost use Rattle.dsec_spec.specs.Outside.{Rose};
+ghost use Rattle.dsec_spec.specs.Reading.{Gives};
+ghost use Rattle.dsec_anchors.specs.Anchors.{anchor_view, anchors_at};
+ghost use Rattle.dsec_anchors.specs.Texts.{added, anchors_in, is_from_outside, wants_memory};
 
-use crate::check::same_name;
+use crate::error::AnchorError;
 use crate::island::island_owner;
+use crate::text::read_anchors;
 use dsec_name::{Name, NoMemory};
-use dsec_number::Rtype;
+use dsec_number::{Class, Rtype};
+use dsec_outside::{Source, Stop, read_all};
 use dsec_wire::Record;
 use std::alloc::Global;
 use std::marker::Model;
@@ -56,6 +62,41 @@ impl TrustAnchors {
         TrustAnchors { records }
     }
 
+    /// The anchors of a zone text: all its records, of every type and class, in order. Those that give no class, where none
+    /// before them has one, are of class IN. `$INCLUDE` entries are passed over.
+    pub fn from_u8(alloc: Global, text: &[u8]) -> Result<TrustAnchors, AnchorError>
+        ensures { Gives wants_memory (λ anchors. anchors) result (anchors_in (Some IN) text.now) }
+    {
+        anchors_of(alloc, Some(Class::IN), text)
+    }
+
+    /// Adds the anchors of a zone text, which are those that `from_u8` reads, behind the others: all of them, or none.
+    pub fn add_u8(&mut self, text: &[u8]) -> Result<(), AnchorError>
+        ensures added { Gives wants_memory (λ _. self.new) result (added self.old (anchors_in (Some IN) text.now)) }
+        ensures err { OnErr result (self.new ≡ self.old) }
+    {
+        let mut records = read_anchors(*self.records.allocator(), Some(Class::IN), text)?;
+        self.records.append(&mut records)?;
+        Ok(())
+    }
+
+    /// The anchors of a source that holds zone text, which is read whole. A record that gives no class, where none before it
+    /// has one, is outside the grammar.
+    pub fn from_reader<S: Source>(
+        alloc: Global,
+        source: &mut S,
+    ) -> Result<TrustAnchors, AnchorError>
+        ensures later { S.faults source.old ≤ S.faults source.new }
+        ensures read { IsErrOf result AnchorError.ReadError → Rose (S.faults source.old) (S.faults source.new) }
+        ensures text { IfSome (S.left source.old) (λ all. Gives is_from_outside (λ anchors. anchors) result (anchors_in None all)) }
+    {
+        match read_all(alloc, source) {
+            Ok(text) => anchors_of(alloc, None, &text),
+            Err(Stop::Read) => Err(AnchorError::ReadError),
+            Err(Stop::Memory) => Err(AnchorError::NoMemory),
+        }
+    }
+
     /// The anchors as a slice.
     pub fn as_slice(&self) -> &[Record]
         ensures { result.now ≡ self.now }
@@ -89,6 +130,20 @@ impl TrustAnchors {
     }
 }
 
+/// The anchors of a zone text with this default class.
+fn anchors_of(
+    alloc: Global,
+    default: Option<Class>,
+    text: &[u8],
+) -> Result<TrustAnchors, AnchorError>
+    ensures { Gives wants_memory (λ anchors. anchors) result (anchors_in default text.now) }
+{
+    match read_anchors(alloc, default, text) {
+        Ok(records) => Ok(TrustAnchors { records }),
+        Err(error) => Err(error),
+    }
+}
+
 /// The first record at an owner.
 fn first_at<'a>(all: &'a [Record], owner: &Name) -> Option<&'a Record>
     ensures { option_map (λ one. one.now) result ≡ find (λ one. same_place (place one.owner) (place owner.now)) all.now }
@@ -113,7 +168,7 @@ pub struct TrustAnchor<'a> {
 
 impl<'a> TrustAnchor<'a> {
     ghost use Rattle.std.specs.Prelude.{◌≡◌};
-    ghost use Rattle.dsec_valbase.specs.Anchors.{anchor_view, left_of};
+    ghost use Rattle.dsec_anchors.specs.Anchors.{anchor_view, left_of};
 
     /// The owner, as the first of the anchors writes it.
     pub fn owner(&self) -> &'a Name
@@ -142,7 +197,7 @@ pub struct AnchorRecords<'a> {
 
 impl<'a> AnchorRecords<'a> {
     ghost use Rattle.std.specs.Prelude.{◌≡◌, ◌↔◌, [], ◌∷◌, None, IfSome};
-    ghost use Rattle.dsec_valbase.specs.Anchors.{left_of};
+    ghost use Rattle.dsec_anchors.specs.Anchors.{left_of};
 
     /// Takes the next anchor.
     pub fn next(&mut self) -> Option<&'a Record>

@@ -3,9 +3,9 @@ use Rattle.std.specs.Option.{option_map}
 use Rattle.dsec_spec.specs.Islands.{island}
 use Rattle.dsec_spec.specs.Names.{place}
 use Rattle.dsec_spec.specs.Records.{Record}
-use Rattle.dsec_valbase.specs.Anchors.{OwnersAnchors}
-use Rattle.dsec_valbase.proofs.AnchorLemmas.{anchors_at_island, view_place}
-use Rattle.dsec_valbase.proofs.anchors.TrustAnchors.island.Goals as goal
+use Rattle.dsec_anchors.specs.Anchors.{OwnersAnchors}
+use Rattle.dsec_anchors.proofs.AnchorLemmas.{anchors_at_island, view_place}
+use Rattle.dsec_anchors.proofs.anchors.TrustAnchors.island.Goals as goal
 
 pub returns-clause-owner : goal.returns-clause-owner
 returns-clause-owner c =

@@ -10,7 +10,7 @@ use dsec_number::Rtype;
 use dsec_wire::Record;
 
 /// The owner of the longest anchor at or above where sets of the type are looked for.
-pub(crate) fn island_owner<'a>(anchors: &'a [Record], name: &Name, rtype: Rtype) -> Option<&'a Name>
+pub fn island_owner<'a>(anchors: &'a [Record], name: &Name, rtype: Rtype) -> Option<&'a Name>
     ensures { option_map (λ owner. place owner.now) result ≡ island anchors.now (place name.now) rtype }
 {
     let mut best = None;

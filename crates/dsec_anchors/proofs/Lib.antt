@@ -1,0 +1,3 @@
+pub mod IslandSteps
+pub mod AnchorLemmas
+pub mod TextLemmas

@@ -1,0 +1,4 @@
+pub mod Anchors
+pub mod Readings
+pub mod EachReading
+pub mod Texts

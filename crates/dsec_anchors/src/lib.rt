@@ -1,0 +1,14 @@
+//! Trust anchors (RFC 4033 2), also as zone text, and the islands of names.
+#![tactic(auto)]
+
+mod anchors;
+mod error;
+mod island;
+#[cfg(test)]
+mod tests;
+mod text;
+
+pub use anchors::{AnchorRecords, TrustAnchor, TrustAnchors};
+pub use error::AnchorError;
+pub use island::island_owner;
+pub use text::read_anchors;
