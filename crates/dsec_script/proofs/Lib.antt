@@ -1,4 +1,3 @@
 pub mod TextLemmas
-pub mod LineLemmas
 pub mod ScriptLemmas
 pub mod CallerLemmas

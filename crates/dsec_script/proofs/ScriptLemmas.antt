@@ -11,9 +11,8 @@ use Rattle.dsec_script.specs.declared.line.Line.{Line}
 use Rattle.dsec_script.specs.declared.line.Line.TheVariants as lines
 use Rattle.dsec_script.specs.declared.place.Place.{Place}
 use Rattle.dsec_script.specs.declared.place.Place.TheVariants as places
-use Rattle.dsec_script.specs.declared.place.State.{State}
 use Rattle.dsec_script.specs.declared.script.Script.{Script}
-use Rattle.dsec_script.specs.Place.{after, at_line, start, wants_memory}
+use Rattle.dsec_script.specs.Place.{after, at_line, wants_memory}
 use Rattle.dsec_script.specs.Script.{◌>>=◌, at_end, first_replies, nothing, plus, script_from, script_in, with_line}
 use Rattle.dsec_script.specs.Text.{lines_of}
 
@@ -30,65 +29,65 @@ first_by (Err e) = refl
 first_by (Ok script) = ap (λ replies. Ok (record { anchors = script.anchors; replies = replies; items = script.items })) (table-firsts script.replies)
 
 -- at first nothing was read
-pub at_first : (front : Script) (text : List ℕ) → front ≡ nothing → joined front (script_from 1 start (lines_of text)) ≡ script_in (lines_of text)
-at_first front text e = ap (λ (s : Script). joined s (script_from 1 start (lines_of text))) e ∙ first_by (script_from 1 start (lines_of text))
+pub at_first : (front : Script) (text : List ℕ) → front ≡ nothing → joined front (script_from 1 places.Start (lines_of text)) ≡ script_in (lines_of text)
+at_first front text e = ap (λ (s : Script). joined s (script_from 1 places.Start (lines_of text))) e ∙ first_by (script_from 1 places.Start (lines_of text))
 
 one_more : (front : Script) (place : Place) (said : Line) (read : Result Script ScriptError)
     → joined front (read >>= λ script. Ok (with_line place said script)) ≡ joined (plus front place said) read
 one_more front place said (Err e) = refl
 one_more front place lines.Passed (Ok script) = refl
 one_more front place (lines.Now seconds) (Ok script) = refl
-one_more front place (lines.Anchor anchor) (Ok script) =
-    ap (λ anchors. Ok (record { anchors = anchors; replies = fold with_entry front.replies script.replies; items = front.items ++ script.items })) (sym (append_assoc front.anchors (anchor ∷ []) script.anchors))
+one_more front place (lines.Anchors anchors) (Ok script) =
+    ap (λ all. Ok (record { anchors = all; replies = fold with_entry front.replies script.replies; items = front.items ++ script.items })) (sym (append_assoc front.anchors anchors script.anchors))
 one_more front place (lines.Reply name rtype kept) (Ok script) = refl
 one_more front place (lines.Message octets) (Ok script) =
     ap (λ items. Ok (record { anchors = front.anchors ++ script.anchors; replies = fold with_entry front.replies script.replies; items = items })) (sym (append_assoc front.items _ script.items))
 
 -- a line that says something
-pub goes_on : (front : Script) (n : ℕ) (state : State) (said : Line) (rest line following : List ℕ) (all : Result Script ScriptError)
-    → lines_of rest ≡ line ∷ lines_of following → at_line n state line ≡ Ok said
-    → joined front (script_from n state (lines_of rest)) ≡ all
-    → joined (plus front state.place said) (script_from (n + 1) (after state said) (lines_of following)) ≡ all
+pub goes_on : (front : Script) (n : ℕ) (place : Place) (said : Line) (rest line following : List ℕ) (all : Result Script ScriptError)
+    → lines_of rest ≡ line ∷ lines_of following → at_line n place line ≡ Ok said
+    → joined front (script_from n place (lines_of rest)) ≡ all
+    → joined (plus front place said) (script_from (n + 1) (after place said) (lines_of following)) ≡ all
 unfolding script_from
-goes_on front n state said rest line following all cut e inv =
-    sym (one_more front state.place said (script_from (n + 1) (after state said) (lines_of following)))
-    ∙ ap (λ r. joined front (r >>= λ s. script_from (n + 1) (after state s) (lines_of following) >>= λ script. Ok (with_line state.place s script))) (sym e)
-    ∙ ap (λ ls. joined front (script_from n state ls)) (sym cut)
+goes_on front n place said rest line following all cut e inv =
+    sym (one_more front place said (script_from (n + 1) (after place said) (lines_of following)))
+    ∙ ap (λ r. joined front (r >>= λ s. script_from (n + 1) (after place s) (lines_of following) >>= λ script. Ok (with_line place s script))) (sym e)
+    ∙ ap (λ ls. joined front (script_from n place ls)) (sym cut)
     ∙ inv
 
 -- a line that is refused
-pub stops : (front : Script) (n : ℕ) (state : State) (e : ScriptError) (rest line following : List ℕ) (all : Result Script ScriptError)
-    → lines_of rest ≡ line ∷ lines_of following → at_line n state line ≡ Err e
-    → joined front (script_from n state (lines_of rest)) ≡ all
+pub stops : (front : Script) (n : ℕ) (place : Place) (e : ScriptError) (rest line following : List ℕ) (all : Result Script ScriptError)
+    → lines_of rest ≡ line ∷ lines_of following → at_line n place line ≡ Err e
+    → joined front (script_from n place (lines_of rest)) ≡ all
     → all ≡ Err e
 unfolding script_from
-stops front n state e rest line following all cut h inv =
-    sym inv ∙ ap (λ ls. joined front (script_from n state ls)) cut
-    ∙ ap (λ r. joined front (r >>= λ s. script_from (n + 1) (after state s) (lines_of following) >>= λ script. Ok (with_line state.place s script))) h
+stops front n place e rest line following all cut h inv =
+    sym inv ∙ ap (λ ls. joined front (script_from n place ls)) cut
+    ∙ ap (λ r. joined front (r >>= λ s. script_from (n + 1) (after place s) (lines_of following) >>= λ script. Ok (with_line place s script))) h
 
 -- the end
-pub ends : (front : Script) (n : ℕ) (state : State) (rest : List ℕ) (all : Result Script ScriptError) → rest ≡ []
-    → joined front (script_from n state (lines_of rest)) ≡ all → all ≡ joined front (at_end n state.place)
+pub ends : (front : Script) (n : ℕ) (place : Place) (rest : List ℕ) (all : Result Script ScriptError) → rest ≡ []
+    → joined front (script_from n place (lines_of rest)) ≡ all → all ≡ joined front (at_end n place)
 unfolding script_from lines_of
-ends front n state rest all e inv = sym inv ∙ ap (λ (r : List ℕ). joined front (script_from n state (lines_of r))) e
+ends front n place rest all e inv = sym inv ∙ ap (λ (r : List ℕ). joined front (script_from n place (lines_of r))) e
 
 pub whole : (front : Script) → joined front (Ok nothing) ≡ Ok front
 whole front = λ i. Ok (record { anchors = append-nil front.anchors i; replies = front.replies; items = append-nil front.items i })
 
 -- a line that was not read: it is refused, or memory is wanting
-pub stops_reading : (front : Script) (n : ℕ) (state : State) (e : ScriptError) (rest line following : List ℕ) (all : Result Script ScriptError)
-    → lines_of rest ≡ line ∷ lines_of following → OnFalse (wants_memory e) (at_line n state line ≡ Err e)
-    → joined front (script_from n state (lines_of rest)) ≡ all
+pub stops_reading : (front : Script) (n : ℕ) (place : Place) (e : ScriptError) (rest line following : List ℕ) (all : Result Script ScriptError)
+    → lines_of rest ≡ line ∷ lines_of following → OnFalse (wants_memory e) (at_line n place line ≡ Err e)
+    → joined front (script_from n place (lines_of rest)) ≡ all
     → OnFalse (wants_memory e) (all ≡ Err e)
-stops_reading front n state errors.NoMemory rest line following all cut h inv = tt
-stops_reading front n state (errors.Refused refusal) rest line following all cut h inv = stops front n state (errors.Refused refusal) rest line following all cut h inv
+stops_reading front n place errors.NoMemory rest line following all cut h inv = tt
+stops_reading front n place (errors.Refused refusal) rest line following all cut h inv = stops front n place (errors.Refused refusal) rest line following all cut h inv
 
 -- the end without `now`
-pub ends_early : (front : Script) (n : ℕ) (state : State) (rest : List ℕ) (all : Result Script ScriptError) (e : ScriptError) → rest ≡ [] → state.place ≡ places.Start
+pub ends_early : (front : Script) (n : ℕ) (place : Place) (rest : List ℕ) (all : Result Script ScriptError) (e : ScriptError) → rest ≡ [] → place ≡ places.Start
     → e ≡ errors.Refused (record { line = n; word = words.End })
-    → joined front (script_from n state (lines_of rest)) ≡ all → OnFalse (wants_memory e) (all ≡ Err e)
-ends_early front n state rest all e none place is inv =
-    subst (λ (e : ScriptError). OnFalse (wants_memory e) (all ≡ Err e)) (sym is) (ends front n state rest all none inv ∙ ap (λ (p : Place). joined front (at_end n p)) place)
+    → joined front (script_from n place (lines_of rest)) ≡ all → OnFalse (wants_memory e) (all ≡ Err e)
+ends_early front n place rest all e none begins is inv =
+    subst (λ (e : ScriptError). OnFalse (wants_memory e) (all ≡ Err e)) (sym is) (ends front n place rest all none inv ∙ ap (λ (p : Place). joined front (at_end n p)) begins)
 
 -- the end after `now`
 pub ends_late : (front : Script) (n : ℕ) (place : Place) → ((seconds : ℕ) × (place ≡ places.Head seconds)) ⊎ ((seconds : ℕ) × (place ≡ places.Body seconds)) → joined front (at_end n place) ≡ Ok front
@@ -98,9 +97,9 @@ ends_late front n place seen = ⊎_elim
     seen
 
 -- a line that says something, by what is kept after it
-pub goes_on_with : (front added : Script) (n : ℕ) (state next : State) (said : Line) (rest line following : List ℕ) (all : Result Script ScriptError)
-    → lines_of rest ≡ line ∷ lines_of following → at_line n state line ≡ Ok said → added ≡ plus front state.place said → next ≡ after state said
-    → joined front (script_from n state (lines_of rest)) ≡ all
+pub goes_on_with : (front added : Script) (n : ℕ) (place next : Place) (said : Line) (rest line following : List ℕ) (all : Result Script ScriptError)
+    → lines_of rest ≡ line ∷ lines_of following → at_line n place line ≡ Ok said → added ≡ plus front place said → next ≡ after place said
+    → joined front (script_from n place (lines_of rest)) ≡ all
     → joined added (script_from (n + 1) next (lines_of following)) ≡ all
-goes_on_with front added n state next said rest line following all cut e is_added is_next inv =
-    (λ i. joined (is_added i) (script_from (n + 1) (is_next i) (lines_of following))) ∙ goes_on front n state said rest line following all cut e inv
+goes_on_with front added n place next said rest line following all cut e is_added is_next inv =
+    (λ i. joined (is_added i) (script_from (n + 1) (is_next i) (lines_of following))) ∙ goes_on front n place said rest line following all cut e inv

@@ -1,8 +1,8 @@
 -- What cuts of a text say of its lines and words.
-use Rattle.std.proofs.Common.{◌≡◌, ℕ, zero, suc, List, [], ◌∷◌, ◌++◌, ◌<◌, ◌≤◌, ◌+◌, ◌&&◌, length, take, drop, get_or, refl, sym, ap, ◌∙◌, append_assoc, append-nil, true, false, true≢false, Bool, arith, cond}
+use Rattle.std.proofs.Common.{◌≡◌, ℕ, zero, suc, List, [], ◌∷◌, ◌++◌, ◌<◌, ◌≤◌, ◌+◌, ◌&&◌, length, take, drop, get_or, refl, sym, ap, ◌∙◌, append_assoc, append-nil, true, false, true≢false, Bool, Some, None, arith, cond}
 use Rattle.std.proofs.Math.Bool.{not}
 use Rattle.std.proofs.lemmas.List.{at_drop_more, at_drop_all, take_more, take_all}
-use Rattle.dsec_script.specs.Text.{cut_of, ends_word, is_blank, is_line_end, is_return, lines_of, onto, without_return, words_of}
+use Rattle.dsec_script.specs.Text.{after_blanks, cut_of, cut_word, ends_word, first_word_of, is_blank, is_line_end, is_return, lines_of, onto, without_return, words_of}
 
 abbrev Cut : Type 0
 Cut = List ℕ × List ℕ
@@ -194,14 +194,23 @@ starts [] b bs h = absurd cc
 starts (x ∷ xs) b bs h = starts_by x xs b bs (is_blank x) (cut_of in_word xs) refl (starts xs b bs) h
 
 -- the first word, after the blanks
-pub word_found : (text front rest word after : List ℕ) → (front, rest) ≡ cut_of in_word text → 0 < length rest → (word, after) ≡ cut_of is_blank rest → words_of text ≡ word ∷ words_of after
-word_found text front [] word after cut l h = absurd (omega (arith, l))
-word_found text front (b ∷ bs) word after cut l h =
-    let e : (cut_of in_word text).1 ≡ b ∷ bs = ap (λ (c : Cut). c.1) (sym cut) in
-    words_front text ∙ ap words_of e ∙ first_word_cut b bs (starts text b bs e) ∙ ap words_from (sym h)
+pub word_found : (text rest word after : List ℕ) → rest ≡ after_blanks text → 0 < length rest → (word, after) ≡ cut_of is_blank rest → words_of text ≡ word ∷ words_of after
+word_found text [] word after cut l h = absurd (omega (arith, l))
+word_found text (b ∷ bs) word after cut l h =
+    words_front text ∙ ap words_of (sym cut) ∙ first_word_cut b bs (starts text b bs (sym cut)) ∙ ap words_from (sym h)
 
 -- no word
-pub no_word : (text front rest : List ℕ) → (front, rest) ≡ cut_of in_word text → length rest ≤ 0 → words_of text ≡ []
+pub no_word : (text rest : List ℕ) → rest ≡ after_blanks text → length rest ≤ 0 → words_of text ≡ []
 unfolding words_of
-no_word text front [] cut l = words_front text ∙ ap (λ (c : Cut). words_of c.1) (sym cut)
-no_word text front (b ∷ bs) cut l = absurd (omega (arith, l))
+no_word text [] cut l = words_front text ∙ ap words_of (sym cut)
+no_word text (b ∷ bs) cut l = absurd (omega (arith, l))
+
+-- the first word and what stands after it
+pub first_cut : (text rest word after : List ℕ) → rest ≡ after_blanks text → 0 < length rest → (word, after) ≡ cut_of is_blank rest → Some (word, after) ≡ first_word_of text
+first_cut text [] word after cut l h = absurd (omega (arith, l))
+first_cut text (b ∷ bs) word after cut l h = ap (λ (found : Cut). Some found) h ∙ ap cut_word cut
+
+-- none
+pub no_first : (text rest : List ℕ) → rest ≡ after_blanks text → length rest ≤ 0 → None ≡ first_word_of text
+no_first text [] cut l = ap cut_word cut
+no_first text (b ∷ bs) cut l = absurd (omega (arith, l))

@@ -1,16 +1,19 @@
 -- What a line says.
-use Rattle.std.specs.Prelude.{ℕ, ◌&&◌, nat_le, List, [], ◌∷◌, length, Bool, Option, Some, None, codes, if◌then◌else◌}
+use Rattle.std.specs.Prelude.{ℕ, List, [], ◌∷◌, Option, Some, None, codes, if◌then◌else◌}
 use Rattle.std.specs.Option.{option_map}
-use Rattle.std.specs.Str.{bytes_eq, str_eq_ignore_ascii_case}
+use Rattle.std.specs.Result.{result_ok}
+use Rattle.std.specs.Str.{bytes_eq}
 use Rattle.dsec_spec.specs.Reading.{◌>>=◌}
-use Rattle.dsec_spec.specs.Numbers.{DNSKEY, IN}
-use Rattle.dsec_spec.specs.Records.{Record, key_octets}
+use Rattle.dsec_spec.specs.Numbers.{IN}
+use Rattle.dsec_spec.specs.Records.{Record}
+use Rattle.dsec_anchors.specs.Texts.{anchors_in}
 use Rattle.dsec_word.specs.Numbers.{number_of}
-use Rattle.dsec_word.specs.Words.{base64_in, hex_in, name_in, rtype_in}
+use Rattle.dsec_word.specs.Words.{hex_in, name_in, rtype_in}
 use Rattle.dsec_script.specs.declared.line.Keyword.{Keyword}
 use Rattle.dsec_script.specs.declared.line.Keyword.TheVariants as keywords
 use Rattle.dsec_script.specs.declared.line.Line.{Line}
 use Rattle.dsec_script.specs.declared.line.Line.TheVariants as lines
+use Rattle.dsec_script.specs.Text.{after_blanks, words_of}
 
 -- what a line's first word makes of it
 abbrev pub keyword_of : List ℕ → Option Keyword
@@ -26,36 +29,9 @@ abbrev pub seconds_in : List (List ℕ) → Option ℕ
 seconds_in (word ∷ []) = number_of 18446744073709551615 word
 seconds_in _ = None
 
--- the data of a record, if they are no longer than data may be (RFC 1035 3.2.1)
-abbrev pub within_limit : List ℕ → Option (List ℕ)
-within_limit rdata = if nat_le (length rdata) 65535 then Some rdata else None
-
--- a key's data (RFC 4034 2.2): flags below 2^16, protocol and algorithm below 2^8, and the public key in base64
-abbrev pub key_data : List ℕ → List ℕ → List ℕ → List ℕ → Option (List ℕ)
-key_data flags protocol algorithm key = do
-  f ← number_of 65535 flags
-  p ← number_of 255 protocol
-  a ← number_of 255 algorithm
-  public_key ← base64_in key
-  within_limit (key_octets (record { flags = f; protocol = p; algorithm = a; public_key = public_key }))
-
--- a record, where a test passes
-abbrev pub record_if : Bool → Record → Option Record
-record_if passes found = if passes then Some found else None
-
--- an anchor's eight words: the owner, the TTL below 2^32, `IN` and `DNSKEY` in either case of letters, and the key
-abbrev pub anchor_of : List ℕ → List ℕ → List ℕ → List ℕ → List ℕ → List ℕ → List ℕ → List ℕ → Option Record
-anchor_of owner ttl class rtype flags protocol algorithm key = do
-  name ← name_in owner
-  seconds ← number_of 4294967295 ttl
-  rdata ← key_data flags protocol algorithm key
-  record_if (str_eq_ignore_ascii_case class (codes "IN") && str_eq_ignore_ascii_case rtype (codes "DNSKEY"))
-      (record { owner = name; class = IN; rtype = DNSKEY; ttl = seconds; rdata = rdata })
-
--- after `anchor`: the eight words
-abbrev pub anchor_in : List (List ℕ) → Option Record
-anchor_in (owner ∷ ttl ∷ class ∷ rtype ∷ flags ∷ protocol ∷ algorithm ∷ key ∷ []) = anchor_of owner ttl class rtype flags protocol algorithm key
-anchor_in _ = None
+-- after `anchor` and the blanks behind it: zone text by itself, with default class IN, of which all records are anchors
+abbrev pub zone_in : List ℕ → Option (List Record)
+zone_in rest = result_ok (anchors_in (Some IN) (after_blanks rest))
 
 -- octets in hex, as one word or none
 abbrev pub octets_in : List (List ℕ) → Option (List ℕ)
@@ -78,9 +54,9 @@ reply_in (name ∷ rtype ∷ words) = do
   Some (lines.Reply n t kept)
 reply_in _ = None
 
--- what the words after a keyword say, if they are within the grammar
-abbrev pub rest_of : Keyword → List (List ℕ) → Option Line
-rest_of keywords.Now words = option_map lines.Now (seconds_in words)
-rest_of keywords.Anchor words = option_map lines.Anchor (anchor_in words)
-rest_of keywords.Reply words = reply_in words
-rest_of keywords.Message words = option_map lines.Message (octets_in words)
+-- what stands after a keyword says, if it is within the grammar
+abbrev pub rest_of : Keyword → List ℕ → Option Line
+rest_of keywords.Now rest = option_map lines.Now (seconds_in (words_of rest))
+rest_of keywords.Anchor rest = option_map lines.Anchors (zone_in rest)
+rest_of keywords.Reply rest = reply_in (words_of rest)
+rest_of keywords.Message rest = option_map lines.Message (octets_in (words_of rest))

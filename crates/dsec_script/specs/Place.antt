@@ -10,9 +10,8 @@ use Rattle.dsec_script.specs.declared.line.Line.{Line}
 use Rattle.dsec_script.specs.declared.line.Line.TheVariants as lines
 use Rattle.dsec_script.specs.declared.place.Place.{Place}
 use Rattle.dsec_script.specs.declared.place.Place.TheVariants as places
-use Rattle.dsec_script.specs.declared.place.State.{State}
 use Rattle.dsec_script.specs.Line.{keyword_of, rest_of}
-use Rattle.dsec_script.specs.Text.{words_of}
+use Rattle.dsec_script.specs.Text.{first_word_of}
 
 -- want of memory, which may come at any time
 abbrev pub wants_memory : ScriptError → Bool
@@ -22,10 +21,6 @@ wants_memory (errors.Refused refusal) = false
 -- a line is refused, by a word
 abbrev pub refused : {A : Type 0} → ℕ → Word → Result A ScriptError
 refused n word = Err (errors.Refused (record { line = n; word = word }))
-
--- before the first line
-abbrev pub start : State
-start = record { place = places.Start; anchored = false }
 
 -- what may stand where: `now` anywhere; anchors and replies between the first `now` and a second or a message; messages after a `now`
 abbrev pub fits : Keyword → Place → Bool
@@ -47,34 +42,26 @@ word_for keywords.Anchor = words.Anchor
 word_for keywords.Reply = words.Reply
 word_for keywords.Message = words.Message
 
--- what the words after a keyword say; a second anchor is outside the grammar
-abbrev pub rest_at : Bool → Keyword → List (List ℕ) → Option Line
-rest_at false keyword rest = rest_of keyword rest
-rest_at true keywords.Now rest = rest_of keywords.Now rest
-rest_at true keywords.Anchor rest = None
-rest_at true keywords.Reply rest = rest_of keywords.Reply rest
-rest_at true keywords.Message rest = rest_of keywords.Message rest
-
 -- what was read, or the refusal of the line
 abbrev pub or_refused : ℕ → Word → Option Line → Result Line ScriptError
 or_refused n word None = refused n word
 or_refused n word (Some said) = Ok said
 
 -- a line with a keyword: first its place is judged, then the rest
-abbrev pub at_keyword : ℕ → State → Keyword → List (List ℕ) → Result Line ScriptError
-at_keyword n state keyword rest =
-    if fits keyword state.place then or_refused n (word_for keyword) (rest_at state.anchored keyword rest)
+abbrev pub at_keyword : ℕ → Place → Keyword → List ℕ → Result Line ScriptError
+at_keyword n place keyword rest =
+    if fits keyword place then or_refused n (word_for keyword) (rest_of keyword rest)
     else refused n words.Order
 
--- a line with a first word
-abbrev pub at_first : ℕ → State → Option Keyword → List (List ℕ) → Result Line ScriptError
-at_first n state None rest = refused n words.Other
-at_first n state (Some keyword) rest = at_keyword n state keyword rest
+-- a line by what its first word makes of it
+abbrev pub at_first : ℕ → Place → Option Keyword → List ℕ → Result Line ScriptError
+at_first n place None rest = refused n words.Other
+at_first n place (Some keyword) rest = at_keyword n place keyword rest
 
--- a line by its words; one without a word says nothing
-abbrev pub at_words : ℕ → State → List (List ℕ) → Result Line ScriptError
-at_words n state [] = Ok lines.Passed
-at_words n state (first ∷ rest) = at_first n state (keyword_of first) rest
+-- a line by its first word and what stands after it; one without a word says nothing
+abbrev pub at_word : ℕ → Place → Option (List ℕ × List ℕ) → Result Line ScriptError
+at_word n place None = Ok lines.Passed
+at_word n place (Some found) = at_first n place (keyword_of found.0) found.1
 
 -- whether a line's first octet is `#`
 abbrev pub is_comment : List ℕ → Bool
@@ -82,8 +69,8 @@ is_comment [] = false
 is_comment (octet ∷ line) = octet == 35
 
 -- what the line of this number says, or its refusal
-abbrev pub at_line : ℕ → State → List ℕ → Result Line ScriptError
-at_line n state line = if is_comment line then Ok lines.Passed else at_words n state (words_of line)
+abbrev pub at_line : ℕ → Place → List ℕ → Result Line ScriptError
+at_line n place line = if is_comment line then Ok lines.Passed else at_word n place (first_word_of line)
 
 -- after `now`: the first one opens the head, a later one the body
 abbrev pub after_now : Place → ℕ → Place
@@ -97,13 +84,13 @@ after_message places.Start = places.Start
 after_message (places.Head seconds) = places.Body seconds
 after_message (places.Body seconds) = places.Body seconds
 
--- how far a script has come after a line
-abbrev pub after : State → Line → State
-after state lines.Passed = state
-after state (lines.Now seconds) = record state { place = after_now state.place seconds }
-after state (lines.Anchor anchor) = record state { anchored = true }
-after state (lines.Reply name rtype kept) = state
-after state (lines.Message octets) = record state { place = after_message state.place }
+-- the place after a line
+abbrev pub after : Place → Line → Place
+after place lines.Passed = place
+after place (lines.Now seconds) = after_now place seconds
+after place (lines.Anchors anchors) = place
+after place (lines.Reply name rtype kept) = place
+after place (lines.Message octets) = after_message place
 
 -- the moment of a message at a place: that of the last `now`
 abbrev pub moment : Place → ℕ

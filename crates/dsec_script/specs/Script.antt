@@ -1,7 +1,8 @@
 -- What a script says, or the first line that is refused.
-use Rattle.std.specs.Prelude.{ℕ, ◌+◌, nat_lt, List, [], ◌∷◌, ◌++◌, length, take, count_by, Result, Ok, Err, if◌then◌else◌}
+use Rattle.std.specs.Prelude.{ℕ, ◌+◌, nat_lt, List, [], ◌∷◌, ◌++◌, length, Result, Ok, Err, if◌then◌else◌}
 use Rattle.dsec_spec.specs.Groups.{firsts}
 use Rattle.dsec_spec.specs.Outside.{same_question, with_entry}
+use Rattle.dsec_outside.specs.Limit.{line_past}
 use Rattle.dsec_outside.specs.declared.whole.TheConstants.{LIMIT}
 use Rattle.dsec_script.specs.declared.error.Word.TheVariants as words
 use Rattle.dsec_script.specs.declared.error.ScriptError.{ScriptError}
@@ -9,11 +10,10 @@ use Rattle.dsec_script.specs.declared.line.Line.{Line}
 use Rattle.dsec_script.specs.declared.line.Line.TheVariants as lines
 use Rattle.dsec_script.specs.declared.place.Place.{Place}
 use Rattle.dsec_script.specs.declared.place.Place.TheVariants as places
-use Rattle.dsec_script.specs.declared.place.State.{State}
 use Rattle.dsec_script.specs.declared.script.Parts.{Parts}
 use Rattle.dsec_script.specs.declared.script.Script.{Script}
-use Rattle.dsec_script.specs.Place.{after, at_line, moment, refused, start}
-use Rattle.dsec_script.specs.Text.{is_line_end, lines_of}
+use Rattle.dsec_script.specs.Place.{after, at_line, moment, refused}
+use Rattle.dsec_script.specs.Text.{lines_of}
 
 -- what comes of one answer goes on; a refusal stays
 infixl 10 ◌>>=◌
@@ -29,7 +29,7 @@ nothing = record { anchors = []; replies = []; items = [] }
 abbrev pub with_line : Place → Line → Script → Script
 with_line place lines.Passed script = script
 with_line place (lines.Now seconds) script = script
-with_line place (lines.Anchor anchor) script = record script { anchors = anchor ∷ script.anchors }
+with_line place (lines.Anchors anchors) script = record script { anchors = anchors ++ script.anchors }
 with_line place (lines.Reply name rtype kept) script = record script { replies = record { name = name; rtype = rtype; reply = kept } ∷ script.replies }
 with_line place (lines.Message octets) script = record script { items = record { seconds = moment place; octets = octets } ∷ script.items }
 
@@ -39,13 +39,13 @@ at_end n places.Start = refused n words.End
 at_end n (places.Head seconds) = Ok nothing
 at_end n (places.Body seconds) = Ok nothing
 
--- what the lines from this number on say
-unfoldable pub script_from : ℕ → State → List (List ℕ) → Result Script ScriptError
-script_from n state [] = at_end n state.place
-script_from n state (line ∷ lines) = do
-  said ← at_line n state line
-  script ← script_from (n + 1) (after state said) lines
-  Ok (with_line state.place said script)
+-- what the lines from this number and this place on say
+unfoldable pub script_from : ℕ → Place → List (List ℕ) → Result Script ScriptError
+script_from n place [] = at_end n place
+script_from n place (line ∷ lines) = do
+  said ← at_line n place line
+  script ← script_from (n + 1) (after place said) lines
+  Ok (with_line place said script)
 
 -- the first reply of a name and a type counts
 abbrev pub first_replies : Script → Script
@@ -54,12 +54,8 @@ first_replies script = record script { replies = firsts same_question script.rep
 -- what all lines say
 abbrev pub script_in : List (List ℕ) → Result Script ScriptError
 script_in lines = do
-  script ← script_from 1 start lines
+  script ← script_from 1 places.Start lines
   Ok (first_replies script)
-
--- the line of the first octet past the limit
-unfoldable pub line_past : List ℕ → ℕ
-line_past content = 1 + count_by is_line_end (take LIMIT content)
 
 -- what a script's octets say
 unfoldable pub script_of : List ℕ → Result Script ScriptError
@@ -73,6 +69,6 @@ parts_view parts = record { anchors = parts.anchors.items; replies = parts.repli
 abbrev pub plus : Script → Place → Line → Script
 plus script place lines.Passed = script
 plus script place (lines.Now seconds) = script
-plus script place (lines.Anchor anchor) = record script { anchors = script.anchors ++ anchor ∷ [] }
+plus script place (lines.Anchors anchors) = record script { anchors = script.anchors ++ anchors }
 plus script place (lines.Reply name rtype kept) = record script { replies = with_entry script.replies (record { name = name; rtype = rtype; reply = kept }) }
 plus script place (lines.Message octets) = record script { items = script.items ++ record { seconds = moment place; octets = octets } ∷ [] }

@@ -1,5 +1,5 @@
 -- A text's lines, and their words.
-use Rattle.std.specs.Prelude.{ℕ, ◌==◌, ◌&&◌, ◌||◌, List, [], ◌∷◌, Bool, true, false, if◌then◌else◌}
+use Rattle.std.specs.Prelude.{ℕ, ◌==◌, ◌&&◌, ◌||◌, List, [], ◌∷◌, Bool, true, false, Option, Some, None, if◌then◌else◌}
 use Rattle.std.proofs.Math.Bool.{not}
 use Rattle.dsec_script.specs.declared.text.Mark.{Mark}
 use Rattle.dsec_script.specs.declared.text.Mark.TheVariants as marks
@@ -57,6 +57,19 @@ is_mark marks.Word octet = not (is_blank octet)
 unfoldable pub cut_of : (ℕ → Bool) → List ℕ → List ℕ × List ℕ
 cut_of test [] = ([], [])
 cut_of test (octet ∷ text) = if test octet then ([], octet ∷ text) else (octet ∷ (cut_of test text).0, (cut_of test text).1)
+
+-- what stands from the first word on
+abbrev pub after_blanks : List ℕ → List ℕ
+after_blanks line = (cut_of (is_mark marks.Word) line).1
+
+-- the word that a text begins with, and what stands after it; none where it is empty
+abbrev pub cut_word : List ℕ → Option (List ℕ × List ℕ)
+cut_word [] = None
+cut_word (octet ∷ text) = Some (cut_of (is_mark marks.Blank) (octet ∷ text))
+
+-- the first word of a line, and what stands after it; none where it has no word
+abbrev pub first_word_of : List ℕ → Option (List ℕ × List ℕ)
+first_word_of line = cut_word (after_blanks line)
 
 -- a line without a CR at its end
 unfoldable pub without_return : List ℕ → List ℕ

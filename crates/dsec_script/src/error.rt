@@ -17,7 +17,7 @@ pub enum Word {
     Order,
     /// A `now` line is outside the grammar.
     Now,
-    /// An `anchor` line is outside the grammar, or is the second one.
+    /// An `anchor` line is outside the grammar.
     Anchor,
     /// A `reply` line is outside the grammar.
     Reply,

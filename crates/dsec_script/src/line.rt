@@ -1,19 +1,18 @@
 //! What a line says.
 
-ghost use Rattle.std.specs.Prelude.{◌≡◌, ◌<◌, ◌∷◌, [], length, IfOk, MatchOption, None};
-ghost use Rattle.dsec_spec.specs.Numbers.{DNSKEY};
+ghost use Rattle.std.specs.Prelude.{◌≡◌};
 ghost use Rattle.dsec_spec.specs.Reading.{Reads};
-ghost use Rattle.dsec_spec.specs.Records.{key_octets as key_octets_of};
-ghost use Rattle.dsec_script.specs.Line.{anchor_in, anchor_of, kept_in, key_data, keyword_of, octets_in, reply_in, rest_of, seconds_in};
+ghost use Rattle.dsec_script.specs.Line.{kept_in, keyword_of, octets_in, reply_in, rest_of, seconds_in, zone_in};
 ghost use Rattle.dsec_script.specs.Text.{words_of};
 ghost use Rattle.dsec_word.specs.Words.{wants_memory};
 
-use crate::text::first_word;
+use crate::text::{first_word, without_blanks};
+use dsec_anchors::{AnchorError, read_anchors};
 use dsec_name::{Name, Octets};
-use dsec_number::{Class, Rtype, Ttl};
-use dsec_wire::{Data, Record};
-use dsec_word::{ReadError, is_word, number, read_base64, read_hex, read_name, read_rtype};
-use std::alloc::{AllocError, Global};
+use dsec_number::{Class, Rtype};
+use dsec_wire::Records;
+use dsec_word::{ReadError, number, read_hex, read_name, read_rtype};
+use std::alloc::Global;
 
 /// The first word of a line.
 #[derive(Clone, Copy, Debug, PartialEq, Eq)]
@@ -35,8 +34,8 @@ pub enum Line {
     Passed,
     /// The moment of the messages that follow, in seconds since 1970.
     Now(u64),
-    /// A trust anchor.
-    Anchor(Record),
+    /// Trust anchors: the records of zone text.
+    Anchors(Records),
     /// What is replied to the question of a name and a type; none where it fails.
     Reply(Name, Rtype, Option<Octets>),
     /// A message to be validated.
@@ -62,17 +61,17 @@ pub fn read_keyword(word: &[u8]) -> Option<Keyword>
     None
 }
 
-/// What the line after a keyword says.
+/// What stands after a keyword says.
 pub fn read_rest(alloc: Global, keyword: Keyword, line: &[u8]) -> Result<Line, ReadError>
-    ensures { Reads wants_memory (λ said. said) result (rest_of keyword (words_of line.now)) }
+    ensures { Reads wants_memory (λ said. said) result (rest_of keyword line.now) }
 {
     match keyword {
         Keyword::Now => match seconds(line) {
             Some(seconds) => Ok(Line::Now(seconds)),
             None => Err(ReadError::Bad),
         },
-        Keyword::Anchor => match read_anchor(alloc, line) {
-            Ok(record) => Ok(Line::Anchor(record)),
+        Keyword::Anchor => match read_zone(alloc, line) {
+            Ok(records) => Ok(Line::Anchors(records)),
             Err(error) => Err(error),
         },
         Keyword::Reply => read_reply(alloc, line),
@@ -144,108 +143,13 @@ fn read_reply(alloc: Global, line: &[u8]) -> Result<Line, ReadError>
     Ok(Line::Reply(name, rtype, kept))
 }
 
-/// Four words of a line, and the line after them.
-#[derive(Clone, Copy)]
-struct Four<'a> {
-    first: &'a [u8],
-    second: &'a [u8],
-    third: &'a [u8],
-    fourth: &'a [u8],
-    rest: &'a [u8],
-}
-
-/// The first four words of a line; none where there are fewer.
-fn first_four(line: &[u8]) -> Option<Four<'_>>
-    ensures { MatchOption result (length (words_of line.now) < 4) (λ four. words_of line.now
-        ≡ four.first.now ∷ four.second.now ∷ four.third.now ∷ four.fourth.now ∷ words_of four.rest.now) }
+/// The records of the zone text after `anchor` and the blanks behind it.
+fn read_zone(alloc: Global, line: &[u8]) -> Result<Records, ReadError>
+    ensures { Reads wants_memory (λ records. records) result (zone_in line.now) }
 {
-    let (first, rest) = first_word(line)?;
-    let (second, rest) = first_word(rest)?;
-    let (third, rest) = first_word(rest)?;
-    let (fourth, rest) = first_word(rest)?;
-    Some(Four {
-        first,
-        second,
-        third,
-        fourth,
-        rest,
-    })
-}
-
-/// The line after `anchor`.
-fn read_anchor(alloc: Global, line: &[u8]) -> Result<Record, ReadError>
-    ensures { Reads wants_memory (λ it. it) result (anchor_in (words_of line.now)) }
-{
-    let Some(front) = first_four(line) else {
-        return Err(ReadError::Bad);
-    };
-    let Some(back) = first_four(front.rest) else {
-        return Err(ReadError::Bad);
-    };
-    if first_word(back.rest).is_some() {
-        return Err(ReadError::Bad);
+    match read_anchors(alloc, Some(Class::IN), without_blanks(line)) {
+        Ok(records) => Ok(Records::new(records)),
+        Err(AnchorError::NoMemory) => Err(ReadError::NoMemory),
+        Err(AnchorError::InplaceError(_) | AnchorError::ReadError) => Err(ReadError::Bad),
     }
-    read_key_record(alloc, &front, &back)
-}
-
-/// The record of an anchor's eight words.
-fn read_key_record(alloc: Global, front: &Four<'_>, back: &Four<'_>) -> Result<Record, ReadError>
-    ensures { Reads wants_memory (λ it. it) result (anchor_of front.now.first.now front.now.second.now front.now.third.now
-        front.now.fourth.now back.now.first.now back.now.second.now back.now.third.now back.now.fourth.now) }
-{
-    let owner = read_name(alloc, front.first)?;
-    let Some(ttl) = number(front.second, 4_294_967_295) else {
-        return Err(ReadError::Bad);
-    };
-    let rdata = read_key(alloc, back)?;
-    if !is_word(front.third, b"IN") || !is_word(front.fourth, b"DNSKEY") {
-        return Err(ReadError::Bad);
-    }
-    Ok(Record::new(owner, Class::IN, Ttl::from_secs(ttl as u32), rdata))
-}
-
-/// The data of four words: a key's flags, protocol, algorithm and public key.
-fn read_key(alloc: Global, words: &Four<'_>) -> Result<Data, ReadError>
-    ensures value { Reads wants_memory (λ rdata. rdata.octets) result
-        (key_data words.now.first.now words.now.second.now words.now.third.now words.now.fourth.now) }
-    ensures rtype { IfOk result (λ rdata. rdata.rtype ≡ DNSKEY) }
-{
-    let Some(flags) = number(words.first, 65535) else {
-        return Err(ReadError::Bad);
-    };
-    let Some(protocol) = number(words.second, 255) else {
-        return Err(ReadError::Bad);
-    };
-    let Some(algorithm) = number(words.third, 255) else {
-        return Err(ReadError::Bad);
-    };
-    let public_key = read_base64(alloc, words.fourth)?;
-    let octets = key_octets(
-        alloc,
-        flags as u16,
-        protocol as u8,
-        algorithm as u8,
-        public_key.as_slice(),
-    )?;
-    if octets.len() > 65535 {
-        return Err(ReadError::Bad);
-    }
-    Ok(Data::new(Rtype::DNSKEY, octets))
-}
-
-/// A key's data (RFC 4034 2.1).
-fn key_octets(
-    alloc: Global,
-    flags: u16,
-    protocol: u8,
-    algorithm: u8,
-    public_key: &[u8],
-) -> Result<Octets, AllocError>
-    ensures { IfOk result (λ octets. octets
-        ≡ key_octets_of (record { flags = flags; protocol = protocol; algorithm = algorithm; public_key = public_key.now })) }
-{
-    let mut octets = Vec::from_slice(alloc, &flags.to_be_bytes())?;
-    octets.extend_from_slice(&[protocol, algorithm])?;
-    octets.extend_from_slice(public_key)?;
-    Ok(Octets::new(octets))
 }

@@ -2,8 +2,7 @@
 
 ghost use Rattle.std.specs.Prelude.{◌≡◌};
 ghost use Rattle.dsec_spec.specs.Reading.{Gives};
-ghost use Rattle.dsec_script.specs.Place.{after as state_after, at_keyword, at_line, fits as fits_at, moment as moment_at, wants_memory, word_for};
-ghost use Rattle.dsec_script.specs.Text.{words_of};
+ghost use Rattle.dsec_script.specs.Place.{after as place_after, at_keyword, at_line, fits as fits_at, moment as moment_at, wants_memory, word_for};
 
 use crate::error::{Refused, ScriptError, Word};
 use crate::line::{Keyword, Line, read_keyword, read_rest};
@@ -20,15 +19,6 @@ pub enum Place {
     Head(u64),
     /// After a second `now` or a message; the moment is that of the last `now`.
     Body(u64),
-}
-
-/// How far a script has come.
-#[derive(Clone, Copy)]
-pub struct State {
-    /// The place of the next line.
-    pub place: Place,
-    /// Whether there was an anchor.
-    pub anchored: bool,
 }
 
 impl Place {
@@ -58,32 +48,20 @@ impl Place {
             Place::Head(seconds) | Place::Body(seconds) => seconds,
         }
     }
-}
 
-impl State {
-    /// How far it has come after a line.
-    pub fn after(self, said: &Line) -> State
-        ensures { result ≡ state_after self said.now }
+    /// The place after a line.
+    pub fn after(self, said: &Line) -> Place
+        ensures { result ≡ place_after self said.now }
     {
         match said {
-            Line::Passed | Line::Reply(_, _, _) => self,
-            Line::Now(seconds) => State {
-                place: match self.place {
-                    Place::Start => Place::Head(*seconds),
-                    Place::Head(_) | Place::Body(_) => Place::Body(*seconds),
-                },
-                anchored: self.anchored,
+            Line::Passed | Line::Anchors(_) | Line::Reply(_, _, _) => self,
+            Line::Now(seconds) => match self {
+                Place::Start => Place::Head(*seconds),
+                Place::Head(_) | Place::Body(_) => Place::Body(*seconds),
             },
-            Line::Anchor(_) => State {
-                place: self.place,
-                anchored: true,
-            },
-            Line::Message(_) => State {
-                place: match self.place {
-                    Place::Start => Place::Start,
-                    Place::Head(seconds) | Place::Body(seconds) => Place::Body(seconds),
-                },
-                anchored: self.anchored,
+            Line::Message(_) => match self {
+                Place::Start => Place::Start,
+                Place::Head(seconds) | Place::Body(seconds) => Place::Body(seconds),
             },
         }
     }
@@ -112,10 +90,10 @@ fn word(keyword: Keyword) -> Word
 pub fn read_line(
     alloc: Global,
     number: usize,
-    state: State,
+    place: Place,
     line: &[u8],
 ) -> Result<Line, ScriptError>
-    ensures { Gives wants_memory (λ said. said) result (at_line number state line.now) }
+    ensures { Gives wants_memory (λ said. said) result (at_line number place line.now) }
 {
     if line.starts_with(b"#") {
         return Ok(Line::Passed);
@@ -125,25 +103,22 @@ pub fn read_line(
     };
     match read_keyword(first) {
         None => Err(refused(number, Word::Other)),
-        Some(keyword) => read_words(alloc, number, state, keyword, rest),
+        Some(keyword) => read_at(alloc, number, place, keyword, rest),
     }
 }
 
 /// What a line with a keyword says at its place.
-fn read_words(
+fn read_at(
     alloc: Global,
     number: usize,
-    state: State,
+    place: Place,
     keyword: Keyword,
     rest: &[u8],
 ) -> Result<Line, ScriptError>
-    ensures { Gives wants_memory (λ said. said) result (at_keyword number state keyword (words_of rest.now)) }
+    ensures { Gives wants_memory (λ said. said) result (at_keyword number place keyword rest.now) }
 {
-    if !state.place.fits(keyword) {
+    if !place.fits(keyword) {
         return Err(refused(number, Word::Order));
-    }
-    if state.anchored && keyword == Keyword::Anchor {
-        return Err(refused(number, Word::Anchor));
     }
     match read_rest(alloc, keyword, rest) {
         Ok(said) => Ok(said),

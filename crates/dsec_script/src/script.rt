@@ -1,26 +1,26 @@
 //! Whole scripts.
 
-ghost use Rattle.std.specs.Prelude.{◌≡◌, ◌<◌, ◌≤◌, length, count_by, OnOk};
+ghost use Rattle.std.specs.Prelude.{◌≡◌, ◌≤◌, length, OnOk};
 ghost use Rattle.dsec_outside.specs.Replies.{kept_reply};
 ghost use Rattle.dsec_spec.specs.Reading.{Gives};
 ghost use Rattle.dsec_script.specs.Place.{wants_memory};
-ghost use Rattle.dsec_script.specs.Script.{line_past, nothing, parts_view, plus, script_in, script_of};
-ghost use Rattle.dsec_script.specs.Text.{is_line_end, lines_of};
+ghost use Rattle.dsec_script.specs.Script.{nothing, parts_view, plus, script_in, script_of};
+ghost use Rattle.dsec_script.specs.Text.{lines_of};
 
 use crate::error::{ScriptError, Word};
 use crate::items::{Item, Items};
 use crate::line::Line;
-use crate::place::{Place, State, read_line, refused};
+use crate::place::{Place, read_line, refused};
 use crate::text::first_line;
 use dsec_name::{NoMemory, Octets};
-use dsec_outside::{LIMIT, Replies};
+use dsec_outside::{LIMIT, Replies, line_past};
 use dsec_wire::{Record, Records};
 use std::alloc::Global;
 
 /// What a script says.
 #[derive(Drop)]
 pub struct Script {
-    /// The trust anchors, DNSKEY records; at most one.
+    /// The trust anchors, of any type and class, in order.
     pub anchors: Records,
     /// What is replied to questions.
     pub replies: Replies,
@@ -34,7 +34,7 @@ pub fn read_script(alloc: Global, octets: &[u8]) -> Result<Script, ScriptError>
     ensures { Gives wants_memory (λ script. script) result (script_of octets.now) }
 {
     if octets.len() > LIMIT {
-        return Err(refused(past(octets), Word::Size));
+        return Err(refused(line_past(octets), Word::Size));
     }
     match read_lines(alloc, octets) {
         Ok(parts) => Ok(Script {
@@ -72,7 +72,7 @@ impl Parts {
     {
         match said {
             Line::Passed | Line::Now(_) => {}
-            Line::Anchor(record) => self.anchors.push(record)?,
+            Line::Anchors(records) => self.anchors.append(&mut records.into_vec())?,
             Line::Reply(name, rtype, kept) => self.replies.add(name, rtype, vector(kept))?,
             Line::Message(octets) => self.items.push(Item {
                 seconds: place.moment(),
@@ -99,47 +99,20 @@ fn read_lines(alloc: Global, text: &[u8]) -> Result<Parts, ScriptError>
     ensures { Gives wants_memory parts_view result (script_in (lines_of text.now)) }
 {
     let mut parts = Parts::new(alloc);
-    let mut state = State {
-        place: Place::Start,
-        anchored: false,
-    };
+    let mut place = Place::Start;
     let mut number = 1;
     let mut rest = text;
     while !rest.is_empty() {
         let (line, after) = first_line(rest);
-        let said = read_line(alloc, number, state, line)?;
-        let next = state.after(&said);
-        parts.add(state.place, said)?;
-        state = next;
+        let said = read_line(alloc, number, place, line)?;
+        let next = place.after(&said);
+        parts.add(place, said)?;
+        place = next;
         number += 1;
         rest = after;
     }
-    match state.place {
+    match place {
         Place::Start => Err(refused(number, Word::End)),
         Place::Head(_) | Place::Body(_) => Ok(parts),
     }
-}
-
-/// The line of the first octet past the limit.
-#[tactic(auto, unfolding(crate::specs::Script::line_past))]
-fn past(octets: &[u8]) -> usize
-    requires { LIMIT < length octets.now }
-    ensures { result ≡ line_past octets.now }
-{
-    let (front, _) = octets.split_at(LIMIT);
-    1 + line_ends(front)
-}
-
-/// How many line ends there are.
-fn line_ends(octets: &[u8]) -> usize
-    ensures count { result ≡ count_by is_line_end octets.now }
-    ensures bound { result ≤ length octets.now }
-{
-    let mut count = 0;
-    for octet in octets {
-        if *octet == b'\n' {
-            count += 1;
-        }
-    }
-    count
 }

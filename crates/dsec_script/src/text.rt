@@ -1,7 +1,8 @@
 //! The lines of a text, and the words of a line.
 
 ghost use Rattle.std.specs.Prelude.{◌≡◌, ◌<◌, [], ◌∷◌, length, MatchOption};
-ghost use Rattle.dsec_script.specs.Text.{cut_of, is_blank as is_blank_octet, is_mark as is_mark_octet, lines_of, without_return as without_return_of, words_of};
+ghost use Rattle.std.specs.Option.{option_map};
+ghost use Rattle.dsec_script.specs.Text.{after_blanks, cut_of, first_word_of, is_blank as is_blank_octet, is_mark as is_mark_octet, lines_of, without_return as without_return_of, words_of};
 
 /// What ends a stretch of octets.
 #[derive(Clone, Copy)]
@@ -29,13 +30,22 @@ pub fn first_line(text: &[u8]) -> (&[u8], &[u8])
 
 /// The first word of a line, and the line after it; none where there is no word.
 pub fn first_word(line: &[u8]) -> Option<(&[u8], &[u8])>
-    ensures { MatchOption result (words_of line.now ≡ []) (λ found. words_of line.now ≡ found.0.now ∷ words_of found.1.now) }
+    ensures words { MatchOption result (words_of line.now ≡ []) (λ found. words_of line.now ≡ found.0.now ∷ words_of found.1.now) }
+    ensures cut { option_map (λ found. (found.0.now, found.1.now)) result ≡ first_word_of line.now }
 {
-    let (_, rest) = cut(line, Mark::Word);
+    let rest = without_blanks(line);
     if rest.is_empty() {
         return None;
     }
     Some(cut(rest, Mark::Blank))
+}
+
+/// What stands in a line from its first word on.
+pub fn without_blanks(line: &[u8]) -> &[u8]
+    ensures { result.now ≡ after_blanks line.now }
+{
+    let (_, rest) = cut(line, Mark::Word);
+    rest
 }
 
 /// The octets before the first mark, and those from it on.

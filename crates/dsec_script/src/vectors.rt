@@ -70,16 +70,16 @@ pub(crate) const SCRIPTS_2: [(&[u8], &str); 20] = [
     ),
     (
         b"now 5\nanchor example. 3600 IN DNSKEY 257 3 13 AQID\nanchor example. 3600 IN DNSKEY 257 3 13 AQID\n",
-        "line 3: anchor",
+        "anchor 076578616d706c6500 1 48 3600 0101030d010203\nanchor 076578616d706c6500 1 48 3600 0101030d010203\nreplies none none none none",
     ),
     (
         b"now 5\nanchor example. 3600 IN DNSKEY 257 3 13 AQID\nreply a. A 01\nanchor example. 3600 IN DNSKEY 257 3 13 AQID x\n",
         "line 4: anchor",
     ),
-    (b"now 5\nanchor\n", "line 2: anchor"),
+    (b"now 5\nanchor\n", "replies none none none none"),
     (
         b"now 5\nanchor example. 3600 IN DNSKEY 257 3 13 AQID more\n",
-        "line 2: anchor",
+        "anchor 076578616d706c6500 1 48 3600 0101030d0102039a8ade\nreplies none none none none",
     ),
     (
         b"now 5\nanchor example. 3600 in dnskey 257 3 13 AQID\n",
@@ -91,15 +91,15 @@ pub(crate) const SCRIPTS_2: [(&[u8], &str); 20] = [
 pub(crate) const SCRIPTS_3: [(&[u8], &str); 20] = [
     (
         b"now 5\nanchor example. 3600 CLASS1 DNSKEY 257 3 13 AQID\n",
-        "line 2: anchor",
+        "anchor 076578616d706c6500 1 48 3600 0101030d010203\nreplies none none none none",
     ),
     (
         b"now 5\nanchor example. 3600 IN TYPE48 257 3 13 AQID\n",
-        "line 2: anchor",
+        "anchor 076578616d706c6500 1 48 3600 0101030d010203\nreplies none none none none",
     ),
     (
         b"now 5\nanchor example. 3600 CH DNSKEY 257 3 13 AQID\n",
-        "line 2: anchor",
+        "anchor 076578616d706c6500 3 48 3600 0101030d010203\nreplies none none none none",
     ),
     (
         b"now 5\nanchor example. 3600 IN DS 257 3 13 AQID\n",
@@ -110,38 +110,35 @@ pub(crate) const SCRIPTS_3: [(&[u8], &str); 20] = [
         "anchor 00 1 48 4294967295 ffffffff0102\nreplies none none none none\n5 []",
     ),
     (
-        b"now 5\nanchor . 4294967296 IN DNSKEY 1 1 1 AQID\n",
-        "line 2: anchor",
+        b"now 5\nanchor ; a comment\nanchor $TTL 9\nanchor \t \nanchor\t. DNSKEY 1 1 1 AQID ; x\n",
+        "anchor 00 1 48 0 00010101010203\nreplies none none none none",
     ),
     (
-        b"now 5\nanchor . 1 IN DNSKEY 65536 1 1 AQID\n",
-        "line 2: anchor",
+        b"now 5\nanchor a. CH TXT x\nanchor b. TXT y\n",
+        "anchor 016100 3 16 0 0178\nanchor 016200 1 16 0 0179\nreplies none none none none",
+    ),
+    (b"now 5\nanchor a. TXT x\nanchor  TXT y\n", "line 3: anchor"),
+    (
+        b"now 5\nanchor $INCLUDE more.zone\nmessage\n",
+        "replies none none none none\n5 []",
     ),
     (
-        b"now 5\nanchor . 1 IN DNSKEY 1 256 1 AQID\n",
-        "line 2: anchor",
+        b"now 5\nanchor a. DS 1 8 2 (00 01)\n",
+        "anchor 016100 1 43 0 000108020001\nreplies none none none none",
+    ),
+    (b"now 5\nanchor a. DS 1 8 2 ( 00\n)\n", "line 2: anchor"),
+    (
+        b"now 5\nanchor $ORIGIN a.\nanchor b TXT x\n",
+        "anchor 016200 1 16 0 0178\nreplies none none none none",
     ),
     (
-        b"now 5\nanchor . 1 IN DNSKEY 1 1 256 AQID\n",
-        "line 2: anchor",
-    ),
-    (b"now 5\nanchor . 1 IN DNSKEY 1 1 1 AQI\n", "line 2: anchor"),
-    (
-        b"now 5\nanchor . 1 IN DNSKEY 1 1 1 AQJ=\n",
-        "line 2: anchor",
-    ),
-    (
-        b"now 5\nanchor . 1 IN DNSKEY 1 1 1 A_ID\n",
-        "line 2: anchor",
-    ),
-    (
-        b"now 5\nanchor . 1 IN DNSKEY 1 1 1 AQID=\n",
-        "line 2: anchor",
+        b"now 5\nanchor a. TXT \"x y\" z\r\nanchor a. 3 CH TYPE65280 \\# 2 0102 \t\n",
+        "anchor 016100 1 16 0 03782079017a\nanchor 016100 3 65280 3 0102\nreplies none none none none",
     ),
     (b"now 5\nanchor . 1 IN DNSKEY 1 1 1\n", "line 2: anchor"),
     (
         b"now 5\nanchor . 1 IN DNSKEY 1 1 1 AQ ID\n",
-        "line 2: anchor",
+        "anchor 00 1 48 1 00010101010203\nreplies none none none none",
     ),
     (
         b"now 5\nanchor . 1 IN DNSKEY 01 000 1 AQ==\n",
@@ -173,7 +170,7 @@ pub(crate) const SCRIPTS_4: [(&[u8], &str); 20] = [
     ),
     (
         b"now 5\nanchor \xff. 1 IN DNSKEY 1 1 1 AQID\n",
-        "line 2: anchor",
+        "anchor 01ff00 1 48 1 00010101010203\nreplies none none none none",
     ),
     (b"now 5\nreply\n", "line 2: reply"),
     (b"now 5\nreply a.\n", "line 2: reply"),

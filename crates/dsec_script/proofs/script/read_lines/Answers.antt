@@ -12,11 +12,11 @@ loop-rest-init c = (at_first (parts_view c.new-parts.result) c.args.text.now c.n
 pub returns-in_err-said : goal.returns-in_err-said
 returns-in_err-said c =
     let p = err_from_is_err_and c.from_residual.result c.from_residual.ensures.1 in
-    rw (p.1, p.2) (stops_reading (parts_view c.loop-rest.parts) c.loop-rest.number c.loop-rest.state c.in_err-said.field-0.0 c.loop-rest.rest.now _ _ _ c.first_line.ensures.line c.in_err-said.ensures c.loop-rest.invariant.0)
+    rw (p.1, p.2) (stops_reading (parts_view c.loop-rest.parts) c.loop-rest.number c.loop-rest.place c.in_err-said.field-0.0 c.loop-rest.rest.now _ _ _ c.first_line.ensures.line c.in_err-said.ensures c.loop-rest.invariant.0)
 
 pub loop-rest-preserved : goal.loop-rest-preserved
 loop-rest-preserved c = (
-  goes_on_with (parts_view c.loop-rest.parts) (parts_view c.add.new.self) c.loop-rest.number c.loop-rest.state c.after-next.result c.in_ok-said.said c.loop-rest.rest.now _ _ _
+  goes_on_with (parts_view c.loop-rest.parts) (parts_view c.add.new.self) c.loop-rest.number c.loop-rest.place c.after-next.result c.in_ok-said.said c.loop-rest.rest.now _ _ _
       c.first_line.ensures.line c.in_ok-said.ensures c.in_ok-add.ensures c.after-next.ensures c.loop-rest.invariant.0,
   omega (arith, c.loop-rest.invariant.1, c.first_line.ensures.shorter),
 )
@@ -24,9 +24,9 @@ loop-rest-preserved c = (
 pub returns-in-Start : goal.returns-in-Start
 returns-in-Start c =
     let none : c.loop-rest.rest.now ≡ [] = nil_from_length _ (eqb-true _ _ (sym c.loop-rest-test.ensures)) in
-    ends_early (parts_view c.loop-rest.parts) c.loop-rest.number c.loop-rest.state c.loop-rest.rest.now _ c.refused.result none c.in-Start.is c.refused.ensures c.loop-rest.invariant.0
+    ends_early (parts_view c.loop-rest.parts) c.loop-rest.number c.loop-rest.place c.loop-rest.rest.now _ c.refused.result none c.in-Start.is c.refused.ensures c.loop-rest.invariant.0
 
 pub returns-in-Head : goal.returns-in-Head
 returns-in-Head c =
     let none : c.loop-rest.rest.now ≡ [] = nil_from_length _ (eqb-true _ _ (sym c.loop-rest-test.ensures)) in
-    ends (parts_view c.loop-rest.parts) c.loop-rest.number c.loop-rest.state c.loop-rest.rest.now _ none c.loop-rest.invariant.0 ∙ ends_late (parts_view c.loop-rest.parts) c.loop-rest.number c.loop-rest.state.place c.in-Head.is
+    ends (parts_view c.loop-rest.parts) c.loop-rest.number c.loop-rest.place c.loop-rest.rest.now _ none c.loop-rest.invariant.0 ∙ ends_late (parts_view c.loop-rest.parts) c.loop-rest.number c.loop-rest.place c.in-Head.is
