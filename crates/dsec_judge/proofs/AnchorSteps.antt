@@ -20,7 +20,7 @@ use Rattle.dsec_judge.specs.Admission.{Admitted, admitted_by, matching, matching
 use Rattle.dsec_judge.specs.Findings.{anchor_signs}
 use Rattle.dsec_judge.specs.AnchorTrials.{pairs_trial, anchor_trial, IsAnchorTry, earlier, key_cause}
 use Rattle.dsec_judge.specs.declared.admit.AnchorTry.TheVariants as one
-use Rattle.dsec_judge.proofs.IslandSteps.{drop_here}
+use Rattle.dsec_anchors.proofs.IslandSteps.{drop_here}
 
 -- a trial of what comes of a list by a function
 abbrev pub trial_map : {A P : Type 0} → (A → P) → Trial A → Trial P

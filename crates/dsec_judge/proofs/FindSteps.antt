@@ -1,6 +1,6 @@
 -- What is found of a group, by its island and the key set there.
 use Rattle.std.proofs.Common.{◌≡◌, ℕ, zero, suc, ◌==◌, true, false, List, [], ◌∷◌, length, Option, Some, None, refl, sym, ap, ◌∙◌, subst}
-use Rattle.std.specs.Prelude.{Result, Ok, Err, OnOk, filter, slice_get}
+use Rattle.std.specs.Prelude.{Result, Ok, Err, OnOk, filter, map, slice_get}
 use Rattle.std.specs.List.{AllByRecursion}
 use Rattle.std.proofs.lemmas.Bool.{cond-true, cond-false}
 use Rattle.std.proofs.lemmas.Option.{same_Some}
@@ -10,7 +10,7 @@ use Rattle.dsec_spec.specs.Records.{Record}
 use Rattle.dsec_spec.specs.Accepts.{Accepts}
 use Rattle.dsec_spec.specs.Outside.{Table}
 use Rattle.dsec_spec.specs.Groups.{Group}
-use Rattle.dsec_spec.specs.Islands.{looked_for_at, longest, signers, target}
+use Rattle.dsec_spec.specs.Islands.{island, looked_for_at, longest, signers, target}
 use Rattle.dsec_spec.proofs.IslandLemmas.{from_longest}
 use Rattle.dsec_spec.proofs.Members.{from_filter}
 use Rattle.dsec_base.specs.declared.cause.Cause.TheVariants.{RrsigWithoutRrset}
@@ -52,6 +52,11 @@ of_keys told accepts anchors room t asked k one h there =
 -- the island of a name is at or above it
 pub longest_is_above : (from top : Place) (ps : List Place) → longest (filter (is_below from) ps) ≡ Some top → is_below from top ≡ true
 longest_is_above from top ps e = (from_filter (is_below from) ps top (from_longest (filter (is_below from) ps) top e).one).0
+
+-- so where its sets are looked for is at or below it
+pub below_island : (from name top : Place) (rtype : ℕ) (anchors : List Record) → from ≡ looked_for_at name rtype → island anchors name rtype ≡ Some top → is_below from top ≡ true
+below_island from name top rtype anchors at is =
+    subst (λ (p : Place). is_below p top ≡ true) (sym at) (longest_is_above (looked_for_at name rtype) top (map (λ a. place a.owner) anchors) is)
 
 -- a finding by a key set that was asked for
 pub found_under : (accepts : Accepts) (anchors : List Record) (room t : ℕ) (replies : Place → Option (List ℕ)) (group : Group) (from top : Place) (asked : List Asked) (k : ℕ) (one : Asked) (found : Finding)

@@ -2,7 +2,6 @@ pub mod AdmissionLaws
 pub mod FindingLaws
 pub mod Soundness
 pub mod Completeness
-pub mod IslandSteps
 pub mod TargetSteps
 pub mod AnchorSteps
 pub mod KeySetSteps

@@ -1,7 +1,7 @@
 //! A group's island, its anchor's key set, and what is found by them (RFC 4033 2, 5, RFC 4035 5).
 
 ghost use Rattle.std.specs.Prelude.{◌≡◌, ◌≤◌, ◌+◌, ◌-◌, ◌++◌, List, Option, ℕ, IfOk, OnOk, Some, [], length, true};
-ghost use Rattle.dsec_spec.specs.Islands.{looked_for_at, signers, target};
+ghost use Rattle.dsec_spec.specs.Islands.{island, looked_for_at, signers, target};
 ghost use Rattle.dsec_spec.specs.Names.{is_below as below, place, Place};
 ghost use Rattle.dsec_spec.specs.Numbers.{DNSKEY};
 ghost use Rattle.dsec_judge.specs.Asking.{AreAsked, AreOf, bare, places_of, with_island, with_place, with_replies};
@@ -14,9 +14,10 @@ ghost use Rattle.dsec_judge.specs.declared.asking.Asked as declared;
 
 use crate::asking::{Asked, key_set_at};
 use crate::finding::{Finding, by_keys};
-use crate::island::{longest_above, parent_for};
+use crate::island::parent_for;
 use crate::key_set::KeySet;
 use crate::target::is_signed_at_island;
+use dsec_anchors::island_owner;
 use dsec_base::Cause;
 use dsec_crypto::Verifier;
 use dsec_group::{Group, Limits};
@@ -55,7 +56,7 @@ pub(crate) fn find<V: Verifier, U: Upstream>(
         Some(parent) => parent,
         None => group.owner(),
     };
-    match longest_above(anchors, from) {
+    match island_owner(anchors, group.owner(), group.rtype()) {
         Some(top) => find_under::<V, U>(
             alloc, anchors, limits, t, group, from, top, asked, upstream,
         ),
@@ -77,7 +78,7 @@ fn find_under<V: Verifier, U: Upstream>(
 ) -> Result<Finding, NoMemory>
     requires asked { AreAsked (U.table upstream.old) (bare V.accepts anchors.now (limits.now.max_bad_signatures + 1) t) asked.old.items }
     requires from { place from.now ≡ looked_for_at (place group.now.owner) group.now.rtype }
-    requires below { below (place from.now) (place top.now) ≡ true }
+    requires island { island anchors.now (place group.now.owner) group.now.rtype ≡ Some (place top.now) }
     ensures found { IfOk result (λ found. (replies : Place → Option (List ℕ)) → AreOf (with_replies V.accepts anchors.now (limits.now.max_bad_signatures + 1) t replies) asked.new.items
         → found ≡ finding_from (with_replies V.accepts anchors.now (limits.now.max_bad_signatures + 1) t replies) group.now (Some (place top.now))) }
     ensures asked { OnOk result (AreAsked (U.table upstream.old) (bare V.accepts anchors.now (limits.now.max_bad_signatures + 1) t) asked.new.items) }

@@ -188,7 +188,7 @@ fn is_answered_at_name(
 ) -> Result<bool, NoMemory>
     ensures { IfOk result (λ yes. yes ≡ not (list_any (leads_on anchors.now question.now) answers.now) && no_error message.now && not (question.now.rtype == ANY)) }
 {
-    if is_any_leading_on(anchors, question, answers)? {
+    if is_any_leading_on(anchors, question, answers) {
         return Ok(false);
     }
     let fine = is_no_error(alloc, message)?;

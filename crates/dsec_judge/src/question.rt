@@ -10,8 +10,8 @@ ghost use Rattle.dsec_spec.specs.Records as records;
 ghost use Rattle.dsec_judge.specs.Verdicts.{is_bare_alias as bare_alias, is_expanded as expanded, no_error_in};
 ghost use Rattle.dsec_spec.specs.Messages.{rcode_of};
 
-use crate::island::{longest_above, parent_for};
 use crate::target::{is_same, is_strictly_below};
+use dsec_anchors::island_owner;
 use dsec_group::Group;
 use dsec_name::{Name, NoMemory};
 use dsec_number::{Rcode, Rtype};
@@ -50,20 +50,11 @@ pub(crate) fn is_no_error(alloc: Global, message: &Message) -> Result<bool, NoMe
 }
 
 /// Whether a group leads on from the question's name.
-pub(crate) fn is_any_leading_on(
-    anchors: &[Record],
-    question: &Question,
-    groups: &[Group],
-) -> Result<bool, NoMemory>
-    ensures { IfOk result (λ yes. yes ≡ list_any (on anchors.now question.now) groups.now) }
+pub(crate) fn is_any_leading_on(anchors: &[Record], question: &Question, groups: &[Group]) -> bool
+    ensures { result ≡ list_any (on anchors.now question.now) groups.now }
 {
-    let parent = parent_for(question.qname(), question.qtype())?;
-    let from = match &parent {
-        Some(parent) => parent,
-        None => question.qname(),
-    };
-    let top = longest_above(anchors, from);
-    Ok(groups.iter().any(|group| leads_on(question, top, group)))
+    let top = island_owner(anchors, question.qname(), question.qtype());
+    groups.iter().any(|group| leads_on(question, top, group))
 }
 
 /// Whether a group leads on from the question's name, whose island is known.

@@ -5,7 +5,7 @@ use Rattle.dsec_judge.specs.Asking.{AreAsked, bare}
 use Rattle.dsec_judge.specs.declared.asking.Asked as declared
 use Rattle.dsec_judge.proofs.AnchorSteps.{if_ok, stands_at}
 use Rattle.dsec_judge.proofs.KeySetSteps.{same_there}
-use Rattle.dsec_judge.proofs.FindSteps.{of_keys, found_under, on_ok}
+use Rattle.dsec_judge.proofs.FindSteps.{below_island, of_keys, found_under, on_ok}
 use Rattle.dsec_judge.proofs.find.find_under.Goals as goal
 
 pub by_key_set-requires-clause-typed : goal.by_key_set-requires-clause-typed
@@ -14,6 +14,10 @@ by_key_set-requires-clause-typed g c =
     let there = c.in_ok-index.ensures.there in
     let here = stands_at asked c.in_ok-index.index c.index.result.now (slice_get_within asked c.in_ok-index.index there.0 there.1) c.index.ensures in
     of_keys (g.U.Upstream.table c.args.upstream.now) g.V.Verifier.accepts c.args.anchors.now _ c.args.t asked c.in_ok-index.index c.index.result.now c.in_ok-index.ensures.asked here
+
+pub by_key_set-requires-clause-below : goal.by_key_set-requires-clause-below
+by_key_set-requires-clause-below g c =
+    below_island (place c.args.from.now) (place c.args.group.now.owner) (place c.args.top.now) c.args.group.now.rtype c.args.anchors.now c.requires.from c.requires.island
 
 pub returns-clause-found : goal.returns-clause-found
 returns-clause-found g c =
