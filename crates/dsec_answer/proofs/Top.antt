@@ -14,26 +14,11 @@ use Rattle.dsec_script.specs.declared.error.Refused.{Refused}
 use Rattle.dsec_script.specs.declared.error.ScriptError.{ScriptError}
 use Rattle.dsec_script.specs.declared.error.ScriptError.TheVariants as errors
 use Rattle.dsec_script.specs.Place.{wants_memory}
-use Rattle.dsec_script.specs.Script.{script_of, line_past}
+use Rattle.dsec_outside.specs.Limit.{line_past}
+use Rattle.dsec_script.specs.Script.{script_of}
+use Rattle.dsec_script.proofs.CallerLemmas.{script_of-taken}
 use Rattle.dsec_spec.specs.Accepts.{Accepts}
 use Rattle.dsec_answer.specs.Headline.{Answered, RefusedAt, Done}
-
--- past the limit the rest doesn't count
-same_script : (v more : List ℕ) → LIMIT < length v → script_of (v ++ more) ≡ script_of v
-unfolding script_of line_past
-same_script v more l =
-    let n : length (v ++ more) ≡ length v + length more = length-append v more in
-    rw (lt-ltb LIMIT (length (v ++ more)) (omega (arith, n, l)), lt-ltb LIMIT (length v) l, take-append-le LIMIT v more (omega (arith, l))) refl
-
--- what was read says what all says
-pub told_script : (left rest : Option (List ℕ)) (v : List ℕ) → Consumes left rest v → (length v ≤ LIMIT → IsAtEnd rest) → IfSome left (λ xs. script_of xs ≡ script_of v)
-told_script None rest v c e = tt
-told_script (Some xs) None v c e = absurd c
-told_script (Some xs) (Some more) v c e = by (nat_lt LIMIT (length v)) refl
-  where
-    by : (t : Bool) → nat_lt LIMIT (length v) ≡ t → script_of xs ≡ script_of v
-    by true t = ap script_of c ∙ same_script v more (ltb-true LIMIT (length v) t)
-    by false t = ap script_of (c ∙ ap (λ z. v ++ z) (e (ltb-false LIMIT (length v) t)) ∙ append-nil v)
 
 past_limit : (v : List ℕ) → nat_lt LIMIT (length v) ≡ true → script_of v ≡ Err (errors.Refused (record { line = line_past v; word = words.Size }))
 unfolding script_of
@@ -59,7 +44,7 @@ told_answer accepts left rest before after d = Consumes-whole left rest d.conten
 pub told_refusal : (left rest before after : Option (List ℕ)) (v : List ℕ) → Consumes left rest v → (length v ≤ LIMIT → IsAtEnd rest) → RefusedAt v before after → IfSome left (λ xs. RefusedAt xs before after)
 told_refusal None rest before after v c e r = tt
 told_refusal (Some xs) rest before after v c e r =
-    let s : script_of xs ≡ script_of v = told_script (Some xs) rest v c e in
+    let s : script_of xs ≡ script_of v = script_of-taken (Some xs) rest v c e in
     record { refused = r.refused; reads = s ∙ r.reads; sent = r.sent }
 
 -- a refusal that was told is the script's
