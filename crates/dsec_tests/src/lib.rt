@@ -2,6 +2,8 @@
 #![tactic(auto)]
 
 #[cfg(test)]
+mod anchored;
+#[cfg(test)]
 mod anchors;
 #[cfg(test)]
 mod faults;

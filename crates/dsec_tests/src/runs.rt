@@ -1,5 +1,6 @@
 //! What `run` writes for words and scripts, and its status.
 
+use crate::anchored::ANCHORED;
 use crate::rows::{ANSWERS, KEY_SETS, Row, SHAPES, SIGNATURES};
 use crate::scripts::{READ, REFUSED, Script};
 use crate::vectors::ANCHOR;
@@ -122,6 +123,11 @@ fn assert_scripts(rt: &impl Abort, alloc: Global, scripts: &[Script]) -> Result<
 #[test]
 fn reads_scripts(rt: HostRuntime) -> Result<(), Fail> {
     assert_scripts(&rt, rt.alloc(), &READ)
+}
+
+#[test]
+fn reads_anchors(rt: HostRuntime) -> Result<(), Fail> {
+    assert_scripts(&rt, rt.alloc(), &ANCHORED)
 }
 
 #[test]

@@ -37,7 +37,7 @@ pub(crate) const READ: [Script; 20] = [
 
 /// Scripts that are refused.
 #[rattlefmt::skip]
-pub(crate) const REFUSED: [Script; 27] = [
+pub(crate) const REFUSED: [Script; 28] = [
     ("no line", &[], &["line 1: end\n"], 3),
     ("comments alone", &["# now 1\n\n"], &["line 3: end\n"], 3),
     ("a message before the moment", &["message 00\nnow 1\n"], &["line 1: order\n"], 3),
@@ -60,8 +60,9 @@ pub(crate) const REFUSED: [Script; 27] = [
     ("a reply without a type", &["now 1\nreply a.\n"], &["line 2: reply\n"], 3),
     ("an anchor's number past its bound", &["now 1\nanchor example. 3600 IN DNSKEY 65536 3 13 AQI=\n"], &["line 2: anchor\n"], 3),
     ("an anchor's key with a spare bit", &["now 1\nanchor example. 3600 IN DNSKEY 257 3 13 AQJ=\n"], &["line 2: anchor\n"], 3),
-    ("an anchor without a class", &["now 1\nanchor example. 3600 DNSKEY 257 3 13 AQI=\n"], &["line 2: anchor\n"], 3),
-    ("a second anchor", &["now 1\n", ANCHOR, ANCHOR], &["line 3: anchor\n"], 3),
+    ("an anchor without data", &["now 1\nanchor example. IN DNSKEY 257 3 13\n"], &["line 2: anchor\n"], 3),
+    ("a second anchor outside the grammar", &["now 1\n", ANCHOR, "anchor example. x\n"], &["line 3: anchor\n"], 3),
+    ("an anchor without an owner", &["now 1\n", ANCHOR, "anchor \tDNSKEY 257 3 13 AQI=\n"], &["line 3: anchor\n"], 3),
     ("the first bad line is named", &["now 1\nmessage 0\nfoo\n"], &["line 2: message\n"], 3),
     ("an unknown word before its place", &["foo\nmessage 00\n"], &["line 1: other\n"], 3),
     ("words in upper case", &["NOW 1\n"], &["line 1: other\n"], 3),
