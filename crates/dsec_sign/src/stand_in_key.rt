@@ -1,0 +1,77 @@
+//! The key of the stand-in for signatures.
+
+ghost use Rattle.std.specs.Prelude.{◌≡◌, ◌↔◌, IfOk, IsErrOf};
+ghost use Rattle.dsec_sign.specs.Keys.{HasAlgorithm, HasProtocol, IsShort};
+ghost use Rattle.dsec_wire.specs.Views.{key_view};
+
+use arrayvec::ArrayVec;
+use dsec_crypto::FromDnskeyError;
+use dsec_number::SecurityAlgorithm;
+use dsec_valbase::supported_algorithm;
+use dsec_wire::Dnskey;
+use std::marker::Model;
+
+/// The octets that a key has at most.
+const MAX_KEY: usize = 64;
+
+/// Insecure, for the program and for tests: the key of the signatures that `dsec_crypto::StandIn` accepts,
+/// which anybody can make. It has no private part. A clause sees it as the key that its DNSKEY record says.
+#[derive(Drop)]
+pub struct StandInKey {
+    flags: u16,
+    protocol: u8,
+    algorithm: SecurityAlgorithm,
+    public_key: ArrayVec<u8, MAX_KEY>,
+}
+
+impl Model for StandInKey {
+    ghost use Rattle.dsec_spec.specs.Records as records;
+
+    ghost Value = { records.Key };
+
+    ghost view = { λ it. record { flags = it.flags; protocol = it.protocol; algorithm = it.algorithm; public_key = it.public_key.items } };
+}
+
+impl StandInKey {
+    /// The key of a DNSKEY record's data, copied; no memory is taken. Of the refusals the first that is due
+    /// comes: protocol, algorithm, then the key's length.
+    pub fn from_dnskey(dnskey: &Dnskey<'_>) -> Result<StandInKey, FromDnskeyError>
+        ensures made { IfOk result (λ key. key ≡ key_view dnskey.now) }
+        ensures protocol { IsErrOf result FromDnskeyError.UnsupportedProtocol ↔ (HasProtocol (key_view dnskey.now) → ⊥) }
+        ensures algorithm { IsErrOf result FromDnskeyError.UnsupportedAlgorithm
+            ↔ HasProtocol (key_view dnskey.now) × (HasAlgorithm (key_view dnskey.now) → ⊥) }
+        ensures key { IsErrOf result FromDnskeyError.InvalidKey
+            ↔ HasProtocol (key_view dnskey.now) × HasAlgorithm (key_view dnskey.now) × (IsShort (key_view dnskey.now) → ⊥) }
+    {
+        if dnskey.protocol != 3 {
+            return Err(FromDnskeyError::UnsupportedProtocol);
+        }
+        if !supported_algorithm(dnskey.algorithm) {
+            return Err(FromDnskeyError::UnsupportedAlgorithm);
+        }
+        if dnskey.public_key.is_empty() {
+            return Err(FromDnskeyError::InvalidKey);
+        }
+        let Ok(public_key) = ArrayVec::<u8, MAX_KEY>::try_from(dnskey.public_key) else {
+            return Err(FromDnskeyError::InvalidKey);
+        };
+        Ok(StandInKey {
+            flags: dnskey.flags,
+            protocol: dnskey.protocol,
+            algorithm: dnskey.algorithm,
+            public_key,
+        })
+    }
+
+    /// The data of the key's DNSKEY record.
+    pub fn dnskey(&self) -> Dnskey<'_>
+        ensures { key_view result ≡ self.now }
+    {
+        Dnskey {
+            flags: self.flags,
+            protocol: self.protocol,
+            algorithm: self.algorithm,
+            public_key: self.public_key.as_slice(),
+        }
+    }
+}
