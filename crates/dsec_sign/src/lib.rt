@@ -4,3 +4,6 @@
 mod stand_in_key;
 
 pub use stand_in_key::StandInKey;
+
+#[cfg(test)]
+mod tests;

@@ -1,0 +1,4 @@
+pub mod DisplayLemmas
+pub mod KeyLemmas
+pub mod LineLemmas
+pub mod PlainWords
