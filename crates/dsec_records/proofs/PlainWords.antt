@@ -1,5 +1,5 @@
 -- Words that stand in a line as they are, and the words of a line that was made of them.
-use Rattle.std.proofs.Common.{◌≡◌, ◌≢◌, ℕ, List, [], ◌∷◌, ◌++◌, ◌<◌, ◌≤◌, ◌+◌, ◌&&◌, length, refl, sym, ap, ◌∙◌, true, false, true≢false, Bool, arith, cond, Some, length-append}
+use Rattle.std.proofs.Common.{◌≡◌, ◌≢◌, ℕ, List, [], ◌∷◌, ◌++◌, ◌<◌, ◌&&◌, length, refl, sym, ap, ◌∙◌, true, false, Bool, arith, cond, length-append}
 use Rattle.std.specs.Prelude.{nat_lt, ◌==◌}
 use Rattle.std.specs.List.{join_with_byte, list_all}
 use Rattle.std.specs.Cmp.{first_so, second_so}
@@ -45,13 +45,13 @@ cut_at : (test : ℕ → Bool) (word : List ℕ) (mark : ℕ) (rest : List ℕ) 
 cut_at test [] mark rest e m = cut_here test mark rest m
 cut_at test (b ∷ bs) mark rest e m =
     cut_later test b (bs ++ mark ∷ rest) (not_true (test b) (first_so (free test b) (list_all (free test) bs) e))
-        ∙ ap (behind (b ∷ [])) (cut_at test bs mark rest (second_so (free test b) (list_all (free test) bs) e) m)
+    ∙ ap (behind (b ∷ [])) (cut_at test bs mark rest (second_so (free test b) (list_all (free test) bs) e) m)
 
 cut_end : (test : ℕ → Bool) (word : List ℕ) → list_all (free test) word ≡ true → cut_of test word ≡ (word, [])
 cut_end test [] e = cut_nil test
 cut_end test (b ∷ bs) e =
     cut_later test b bs (not_true (test b) (first_so (free test b) (list_all (free test) bs) e))
-        ∙ ap (behind (b ∷ [])) (cut_end test bs (second_so (free test b) (list_all (free test) bs) e))
+    ∙ ap (behind (b ∷ [])) (cut_end test bs (second_so (free test b) (list_all (free test) bs) e))
 
 mark_passed : (test : ℕ → Bool) (mark : ℕ) (rest : List ℕ) → test mark ≡ true → parts test (mark ∷ rest) ≡ parts test rest
 unfolding parts
@@ -66,13 +66,13 @@ part_before : (test : ℕ → Bool) (word : List ℕ) (mark : ℕ) (rest : List 
 part_before test [] mark rest l e m = absurd (omega (arith, l))
 part_before test (b ∷ bs) mark rest l e m =
     first_part_cut test b (bs ++ mark ∷ rest) (not_true (test b) (first_so (free test b) (list_all (free test) bs) e))
-        ∙ ap (parts_from test) (cut_at test (b ∷ bs) mark rest e m) ∙ ap (λ more. (b ∷ bs) ∷ more) (mark_passed test mark rest m)
+    ∙ ap (parts_from test) (cut_at test (b ∷ bs) mark rest e m) ∙ ap (λ more. (b ∷ bs) ∷ more) (mark_passed test mark rest m)
 
 part_alone : (test : ℕ → Bool) (word : List ℕ) → 0 < length word → list_all (free test) word ≡ true → parts test word ≡ word ∷ []
 part_alone test [] l e = absurd (omega (arith, l))
 part_alone test (b ∷ bs) l e =
     first_part_cut test b bs (not_true (test b) (first_so (free test b) (list_all (free test) bs) e))
-        ∙ ap (parts_from test) (cut_end test (b ∷ bs) e) ∙ ap (λ more. (b ∷ bs) ∷ more) (nothing_left test)
+    ∙ ap (parts_from test) (cut_end test (b ∷ bs) e) ∙ ap (λ more. (b ∷ bs) ∷ more) (nothing_left test)
 
 -- ---- lines that were made of plain words
 
@@ -108,7 +108,7 @@ free_join p s h [] plain = refl
 free_join p s h (word ∷ []) plain = all_more is_plain p h word plain.0.octets
 free_join p s h (word ∷ next ∷ words) plain =
     list_all-append p word (32 ∷ join_with_byte 32 (next ∷ words))
-        ∙ (λ i. all_more is_plain p h word plain.0.octets i && (s i && free_join p s h (next ∷ words) plain.1 i))
+    ∙ (λ i. all_more is_plain p h word plain.0.octets i && (s i && free_join p s h (next ∷ words) plain.1 i))
 
 some_join : (word : List ℕ) (words : List (List ℕ)) → PlainWords (word ∷ words) → 0 < length (join_with_byte 32 (word ∷ words))
 some_join word [] plain = plain.0.some
@@ -120,7 +120,7 @@ words_joined : (word : List ℕ) (words : List (List ℕ)) → PlainWords (word 
 words_joined word [] plain = part_alone blank word plain.0.some (all_more is_plain (free blank) plain_blank word plain.0.octets)
 words_joined word (next ∷ words) plain =
     part_before blank word 32 (join_with_byte 32 (next ∷ words)) plain.0.some (all_more is_plain (free blank) plain_blank word plain.0.octets) refl
-        ∙ ap (λ more. word ∷ more) (words_joined next words plain.1)
+    ∙ ap (λ more. word ∷ more) (words_joined next words plain.1)
 
 -- a text of one line of plain words says what the words do
 pub line_read : (word : List ℕ) (words : List (List ℕ)) → PlainWords (word ∷ words) → bind_record (join_with_byte 32 (word ∷ words) ++ 10 ∷ []) ≡ record_in (word ∷ words)

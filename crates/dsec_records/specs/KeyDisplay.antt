@@ -1,5 +1,5 @@
 -- A key's record as BIND writes it.
-use Rattle.std.specs.Prelude.{ℕ, List, [], ◌∷◌, ◌++◌, codes, decimal, Option, Some}
+use Rattle.std.specs.Prelude.{ℕ, ◌<◌, length, List, [], ◌∷◌, ◌++◌, codes, decimal, Option, Some}
 use Rattle.std.specs.List.{join_with_byte}
 use Rattle.base64.specs.Engines.{standard}
 use Rattle.base64.specs.GeneralPurpose.{encode_of}
@@ -29,6 +29,10 @@ bind_text it = do
 -- what a display shows
 abbrev pub shown : BindDisplay → List ℕ
 shown it = key_line it.owner.now (key_view it.key)
+
+-- the key of a DNSKEY record has an octet: the data are more than its flags, protocol and algorithm
+abbrev pub HasKey : Record → Type 0
+HasKey it = 4 < length it.rdata
 
 -- the text of a line up to the protocol
 abbrev pub line_front : Labels → ℕ → List ℕ
