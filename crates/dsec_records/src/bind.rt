@@ -2,6 +2,7 @@
 
 ghost use Rattle.std.specs.Prelude.{◌≡◌, IfErr, IfOk, Some, None};
 ghost use Rattle.std.specs.Option.{option_map};
+ghost use Rattle.dsec_spec.specs.Numbers.{DNSKEY, IN};
 ghost use Rattle.dsec_spec.specs.Reading.{Reads};
 ghost use Rattle.dsec_word.specs.Words.{wants_memory};
 ghost use Rattle.dsec_records.specs.KeyText.{after_type as after_type_of, bind_record, record_in, ttl_in};
@@ -25,6 +26,8 @@ pub fn parse_from_bind(
 ) -> Result<Result<Record, ParseDnskeyTextError>, NoMemory>
     ensures record { IfOk result (λ read. IfOk read (λ it. bind_record text.now ≡ Some it)) }
     ensures refused { IfOk result (λ read. IfErr read (λ _. bind_record text.now ≡ None)) }
+    ensures class { IfOk result (λ read. IfOk read (λ it. it.class ≡ IN)) }
+    ensures rtype { IfOk result (λ read. IfOk read (λ it. it.rtype ≡ DNSKEY)) }
 {
     match read_text(alloc, text.as_bytes()) {
         Ok(record) => Ok(Ok(record)),
@@ -35,7 +38,8 @@ pub fn parse_from_bind(
 
 /// The record that a text writes.
 fn read_text(alloc: Global, text: &[u8]) -> Result<Record, ReadError>
-    ensures { Reads wants_memory (λ it. it) result (bind_record text.now) }
+    ensures value { Reads wants_memory (λ it. it) result (bind_record text.now) }
+    ensures kind { IfOk result (λ it. (it.class ≡ IN) × (it.rtype ≡ DNSKEY)) }
 {
     match only_line(text) {
         Some(line) => read_record(alloc, line),
@@ -45,7 +49,8 @@ fn read_text(alloc: Global, text: &[u8]) -> Result<Record, ReadError>
 
 /// The record that a line writes.
 fn read_record(alloc: Global, line: &[u8]) -> Result<Record, ReadError>
-    ensures { Reads wants_memory (λ it. it) result (record_in (words_of line.now)) }
+    ensures value { Reads wants_memory (λ it. it) result (record_in (words_of line.now)) }
+    ensures kind { IfOk result (λ it. (it.class ≡ IN) × (it.rtype ≡ DNSKEY)) }
 {
     let Some((owner, rest)) = first_word(line) else {
         return Err(ReadError::Bad);
