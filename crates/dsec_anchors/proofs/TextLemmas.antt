@@ -16,12 +16,12 @@ use Rattle.dsec_zonefile.specs.declared.entry.Entry.TheVariants as entries
 use Rattle.dsec_zonefile.specs.declared.error.ZonefileError.{ZonefileError}
 use Rattle.dsec_zonefile.specs.declared.error.ZonefileError.TheVariants as zone
 use Rattle.dsec_zonefile.proofs.AllEntries.{one_reading}
-use Rattle.dsec_anchors.specs.Readings.{Reading}
+use Rattle.dsec_zonefile.specs.Readings.{Reading}
 use Rattle.dsec_anchors.specs.Texts.{added, anchors_in, error_of, is_from_outside, record_in, records_among, records_left, records_of, start_of, wants_memory}
 use Rattle.dsec_anchors.specs.Texts as texts
 use Rattle.dsec_anchors.specs.declared.error.AnchorError.{AnchorError}
 use Rattle.dsec_anchors.specs.declared.error.AnchorError.TheVariants.{InplaceError, ReadError, NoMemory}
-use Rattle.dsec_anchors.specs.EachReading.{found_takes, reading}
+use Rattle.dsec_zonefile.proofs.EachReading.{found_takes, reading}
 
 abbrev Records : Type 0
 Records = Result (List Record) AnchorError

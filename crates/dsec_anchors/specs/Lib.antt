@@ -1,4 +1,2 @@
 pub mod Anchors
-pub mod Readings
-pub mod EachReading
 pub mod Texts

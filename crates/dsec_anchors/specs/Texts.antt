@@ -9,8 +9,8 @@ use Rattle.dsec_zonefile.specs.declared.entry.Entry.{Entry}
 use Rattle.dsec_zonefile.specs.declared.entry.Entry.TheVariants as entries
 use Rattle.dsec_zonefile.specs.declared.error.ZonefileError.{ZonefileError}
 use Rattle.dsec_zonefile.specs.declared.error.ZonefileError.TheVariants as zone
-use Rattle.dsec_anchors.specs.Readings.{Reading}
-use Rattle.dsec_anchors.specs.EachReading.{reading}
+use Rattle.dsec_zonefile.specs.Readings.{Reading}
+use Rattle.dsec_zonefile.proofs.EachReading.{reading}
 use Rattle.dsec_anchors.specs.declared.error.AnchorError.{AnchorError}
 use Rattle.dsec_anchors.specs.declared.error.AnchorError.TheVariants.{InplaceError, ReadError, NoMemory}
 

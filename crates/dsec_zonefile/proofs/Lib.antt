@@ -4,3 +4,4 @@ pub mod DataWords
 pub mod NextEntry
 pub mod Ipv6Text
 pub mod AllEntries
+pub mod EachReading

@@ -7,3 +7,4 @@ pub mod Records
 pub mod Lines
 pub mod Entries
 pub mod Places
+pub mod Readings

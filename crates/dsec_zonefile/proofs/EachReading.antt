@@ -17,7 +17,7 @@ use Rattle.dsec_zonefile.specs.declared.error.ZonefileError.TheVariants as error
 use Rattle.dsec_zonefile.specs.declared.setting.Said.{Said}
 use Rattle.dsec_zonefile.specs.declared.step.Step.{Step}
 use Rattle.dsec_zonefile.proofs.NextEntry.{one_next}
-use Rattle.dsec_anchors.specs.Readings.{Reading}
+use Rattle.dsec_zonefile.specs.Readings.{Reading}
 
 abbrev Stepped : Type 0
 Stepped = Result (Option Step) ZonefileError
@@ -113,7 +113,7 @@ by_step : (reader : Reader) (read : Stepped) → step_of reader ≡ read → rea
     → ((step : Step) → length (behind reader step).text < length reader.text → Coming (behind reader step)) → Coming reader
 by_step reader (Err (errors.Inplace error)) says none go = record { next = refused error.line; is = bad reader error none says; takes = tt }
 by_step reader (Err errors.NoMemory) says none go = absurd (first_is reader (first_line_of reader.text) says)
-by_step reader (Ok None) says none go = record { next = ended reader; is = entries.end reader none says; takes = tt }
+by_step reader (Ok None) says none go = record { next = ended (entries.at_end reader); is = entries.end reader none says; takes = tt }
 by_step reader (Ok (Some step)) says none go = by_entry reader step (entry_of step.said) refl says none (go step (step_takes reader step says))
 
 coming : (n : ℕ) (reader : Reader) → length reader.text < n → Coming reader
