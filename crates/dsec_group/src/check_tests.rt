@@ -21,7 +21,7 @@ const NO_ZONE_KEY: &[u8] = b"\x00\x01\x03\x0d\x01\x02";
 
 const OTHER_PROTOCOL: &[u8] = b"\x01\x01\x02\x0d\x01\x02";
 
-const ADDRESS: &[u8] = b"\xc0\x00\x02\x01";
+pub(crate) const ADDRESS: &[u8] = b"\xc0\x00\x02\x01";
 
 // `example.` and `other.` on the wire.
 const ZONE: &[u8] = b"\x07Example\x00";
@@ -71,7 +71,7 @@ pub(crate) fn data_of(alloc: Global, rtype: Rtype, octets: &[u8]) -> Result<Data
     Ok(Data::new(rtype, Octets::new(Vec::from_slice(alloc, octets)?)))
 }
 
-fn record_of(
+pub(crate) fn record_of(
     alloc: Global,
     owner: &str,
     class: Class,
@@ -165,20 +165,107 @@ pub(crate) fn checked(
     check_by::<Brand>(alloc, section, keys, max_bad, seconds, memo, Blank::new(1))
 }
 
-// The first group of the section at 500 seconds, with a limit of one bad signature.
-fn check(alloc: Global, section: Vec<Record>, keys: &[&[u8]]) -> Result<KeyCheck, Fail> {
-    let mut datas = Vec::new(alloc);
-    for key in keys {
-        datas.push(data_of(alloc, Rtype::DNSKEY, *key)?)?;
+// The check of the first group of a section at 500 seconds, with a limit of one bad signature.
+fn check(alloc: Global, section: Vec<Record>, key: &[u8]) -> Result<KeyCheck, Fail> {
+    let keys = [data_of(alloc, Rtype::DNSKEY, key)?];
+    checked(alloc, section, &keys, 1, 500, &mut NoMemo)
+}
+
+// What a check says: the state, and the cause or the closest encloser.
+fn told(alloc: Global, check: &KeyCheck) -> Result<String, Fail> {
+    let state = check.state;
+    let text = match (&check.cause, &check.closest_encloser) {
+        (Some(cause), _) => format!(in alloc; "{state:?} {cause}")?,
+        (None, Some(encloser)) => format!(in alloc; "{state:?} under {encloser}")?,
+        (None, None) => format!(in alloc; "{state:?}")?,
+    };
+    Ok(text)
+}
+
+// What a row shows; the owner and class of the address; the labels, key tag, signer and octets of the signature, which is of
+// class IN; the key; and what the check says.
+type Row = (
+    &'static str,
+    &'static str,
+    u16,
+    u8,
+    u16,
+    &'static [u8],
+    &'static [u8],
+    &'static [u8],
+    &'static str,
+);
+
+#[rattlefmt::skip]
+const ROWS: [Row; 9] = [
+    ("a good signature", "www.example.", 1, 2, 1296, ZONE, GOOD, KEY, "Secure"),
+    ("a key without the zone flag", "www.example.", 1, 2, 1040, ZONE, BY_NO_ZONE_KEY, NO_ZONE_KEY, "Bogus Bad signature"),
+    ("a key of protocol 2", "www.example.", 1, 2, 1040, ZONE, BY_OTHER_PROTOCOL, OTHER_PROTOCOL, "Bogus Bad signature"),
+    ("another key than it names", "www.example.", 1, 2, 1296, ZONE, GOOD, NO_ZONE_KEY, "Bogus No signature"),
+    ("another signer", "www.example.", 1, 2, 1296, OTHER, BY_OTHER_SIGNER, KEY, "Bogus No signature"),
+    ("more labels than the owner has", "www.example.", 1, 3, 1296, ZONE, OF_THREE_LABELS, KEY, "Bogus Bad signature"),
+    ("an owner outside the zone", "www.other.", 1, 2, 1296, ZONE, AT_OTHER_OWNER, KEY, "Bogus Bad signature"),
+    ("a record of class CH, which it isn't beside", "www.example.", 3, 2, 1296, ZONE, OF_CLASS_CH, KEY, "Bogus No signature"),
+    // RFC 4035 5.3.4.
+    ("a wildcard's expansion", "a.z.w.example.", 1, 2, 1296, ZONE, OF_WILDCARD, KEY, "Secure under w.example."),
+];
+
+// What the check of a row says.
+fn row_told(alloc: Global, row: &Row) -> Result<String, Fail> {
+    let (_, owner, class, labels, tag, signer, octets, key, _) = *row;
+    let mut section = Vec::new(alloc);
+    section.push(record_of(alloc, owner, Class::from_int(class), Rtype::A, ADDRESS)?)?;
+    section.push(signature(alloc, owner, Rtype::A, labels, tag, signer, octets)?)?;
+    told(alloc, &check(alloc, section, key)?)
+}
+
+fn assert_rows(rt: &impl Abort, alloc: Global, rows: &[Row]) -> Result<(), Fail> {
+    for row in rows {
+        let (shows, want) = (row.0, row.8);
+        assert_eq!(rt; row_told(alloc, row)?.as_str(), want, "{shows}");
     }
-    checked(alloc, section, &datas, 1, 500, &mut NoMemo)
+    Ok(())
+}
+
+#[test]
+fn signatures_and_keys(rt: HostRuntime) -> Result<(), Fail> {
+    assert_rows(&rt, rt.alloc(), &ROWS)
+}
+
+// Signatures without a record: what is said of one, which is of a type.
+fn alone(alloc: Global, covered: Rtype, octets: &[u8]) -> Result<String, Fail> {
+    let mut section = Vec::new(alloc);
+    section.push(signature(alloc, "www.example.", covered, 2, 1296, ZONE, octets)?)?;
+    told(alloc, &check(alloc, section, KEY)?)
+}
+
+// A signature over no record of type RRSIG is one by its definition.
+#[test]
+fn signatures_alone(rt: HostRuntime) -> Result<(), Fail> {
+    let alloc = rt.alloc();
+    let over_nothing = alone(alloc, Rtype::RRSIG, OF_NOTHING)?;
+    assert_eq!(rt; over_nothing.as_str(), "Secure");
+    let over_addresses = alone(alloc, Rtype::A, GOOD)?;
+    assert_eq!(rt; over_addresses.as_str(), "Bogus Bad signature");
+    Ok(())
+}
+
+#[test]
+fn no_keys(rt: HostRuntime) -> Result<(), Fail> {
+    let alloc = rt.alloc();
+    let mut section = Vec::new(alloc);
+    section.push(address(alloc, "www.example.")?)?;
+    section.push(plain(alloc, GOOD)?)?;
+    let found = checked(alloc, section, &[], 1, 500, &mut NoMemo)?;
+    assert_eq!(rt; told(alloc, &found)?.as_str(), "Bogus No signature");
+    Ok(())
 }
 
 // How often a verifier's answer was asked for, and kept.
 #[derive(Drop)]
-struct Counting {
-    asked: u32,
-    kept: u32,
+pub(crate) struct Counting {
+    pub(crate) asked: u32,
+    pub(crate) kept: u32,
 }
 
 impl<V: Verifier> Memo<V> for Counting {
@@ -265,99 +352,6 @@ fn one_more_is_tried_than_may_be_bad(rt: HostRuntime) -> Result<(), Fail> {
     Ok(())
 }
 
-fn is_bogus(rt: &impl Abort, check: &KeyCheck, cause: Cause) {
-    assert!(rt; check.state == ValidationState::Bogus);
-    assert!(rt; check.cause == Some(cause));
-    assert!(rt; check.signature.is_none() && check.key.is_none());
-    assert!(rt; check.closest_encloser.is_none());
-}
-
-// The address at www.example. and a signature, which is good by the verifier but for what its caller changed.
-fn of_two(alloc: Global, sig: Record, key: &[u8]) -> Result<KeyCheck, Fail> {
-    let mut section = Vec::new(alloc);
-    section.push(address(alloc, "www.example.")?)?;
-    section.push(sig)?;
-    check(alloc, section, &[key])
-}
-
-#[test]
-fn keys_that_may_not_sign(rt: HostRuntime) -> Result<(), Fail> {
-    let alloc = rt.alloc();
-    let good = of_two(alloc, plain(alloc, GOOD)?, KEY)?;
-    assert!(rt; good.state == ValidationState::Secure);
-    assert!(rt; good.signature == Some(0) && good.key == Some(0));
-    let sig = signature(
-        alloc,
-        "www.example.",
-        Rtype::A,
-        2,
-        1040,
-        ZONE,
-        BY_NO_ZONE_KEY,
-    )?;
-    is_bogus(&rt, &of_two(alloc, sig, NO_ZONE_KEY)?, Cause::BadSignature);
-    let sig = signature(
-        alloc,
-        "www.example.",
-        Rtype::A,
-        2,
-        1040,
-        ZONE,
-        BY_OTHER_PROTOCOL,
-    )?;
-    is_bogus(
-        &rt,
-        &of_two(alloc, sig, OTHER_PROTOCOL)?,
-        Cause::BadSignature,
-    );
-    // It names another key.
-    is_bogus(
-        &rt,
-        &of_two(alloc, plain(alloc, GOOD)?, NO_ZONE_KEY)?,
-        Cause::NoSignature,
-    );
-    let mut section = Vec::new(alloc);
-    section.push(address(alloc, "www.example.")?)?;
-    section.push(plain(alloc, GOOD)?)?;
-    is_bogus(&rt, &check(alloc, section, &[])?, Cause::NoSignature);
-    Ok(())
-}
-
-#[test]
-fn signatures_that_do_not_count(rt: HostRuntime) -> Result<(), Fail> {
-    let alloc = rt.alloc();
-    let sig = signature(
-        alloc,
-        "www.example.",
-        Rtype::A,
-        2,
-        1296,
-        OTHER,
-        BY_OTHER_SIGNER,
-    )?;
-    is_bogus(&rt, &of_two(alloc, sig, KEY)?, Cause::NoSignature);
-    let sig = signature(
-        alloc,
-        "www.example.",
-        Rtype::A,
-        3,
-        1296,
-        ZONE,
-        OF_THREE_LABELS,
-    )?;
-    is_bogus(&rt, &of_two(alloc, sig, KEY)?, Cause::BadSignature);
-    let mut section = Vec::new(alloc);
-    section.push(address(alloc, "www.other.")?)?;
-    section.push(signature(alloc, "www.other.", Rtype::A, 2, 1296, ZONE, AT_OTHER_OWNER)?)?;
-    is_bogus(&rt, &check(alloc, section, &[KEY])?, Cause::BadSignature);
-    // The signature is of class IN, and so it isn't the group's.
-    let mut section = Vec::new(alloc);
-    section.push(record_of(alloc, "www.example.", Class::CH, Rtype::A, ADDRESS)?)?;
-    section.push(plain(alloc, OF_CLASS_CH)?)?;
-    is_bogus(&rt, &check(alloc, section, &[KEY])?, Cause::NoSignature);
-    Ok(())
-}
-
 #[test]
 fn duplicates_are_signed_once(rt: HostRuntime) -> Result<(), Fail> {
     let alloc = rt.alloc();
@@ -367,51 +361,8 @@ fn duplicates_are_signed_once(rt: HostRuntime) -> Result<(), Fail> {
     section.push(record_of(alloc, "WWW.example.", Class::IN, Rtype::MX, upper)?)?;
     section.push(record_of(alloc, "www.Example.", Class::IN, Rtype::MX, lower)?)?;
     section.push(signature(alloc, "www.example.", Rtype::MX, 2, 1296, ZONE, OF_EXCHANGE)?)?;
-    let found = check(alloc, section, &[KEY])?;
+    let found = check(alloc, section, KEY)?;
     assert!(rt; found.state == ValidationState::Secure);
-    Ok(())
-}
-
-// RFC 4035 5.3.4.
-#[test]
-fn wildcard(rt: HostRuntime) -> Result<(), Fail> {
-    let alloc = rt.alloc();
-    let mut section = Vec::new(alloc);
-    section.push(address(alloc, "a.z.w.example.")?)?;
-    section.push(signature(
-        alloc,
-        "a.z.w.example.",
-        Rtype::A,
-        2,
-        1296,
-        ZONE,
-        OF_WILDCARD,
-    )?)?;
-    let found = check(alloc, section, &[KEY])?;
-    assert!(rt; found.state == ValidationState::Secure);
-    assert!(rt; found.closest_encloser == Some(Name::parse(alloc, "w.example.")?));
-    Ok(())
-}
-
-// A signature over no record of type RRSIG is one by its definition.
-#[test]
-fn signatures_alone(rt: HostRuntime) -> Result<(), Fail> {
-    let alloc = rt.alloc();
-    let mut section = Vec::new(alloc);
-    section.push(signature(
-        alloc,
-        "www.example.",
-        Rtype::RRSIG,
-        2,
-        1296,
-        ZONE,
-        OF_NOTHING,
-    )?)?;
-    let found = check(alloc, section, &[KEY])?;
-    assert!(rt; found.state == ValidationState::Secure);
-    let mut section = Vec::new(alloc);
-    section.push(plain(alloc, GOOD)?)?;
-    is_bogus(&rt, &check(alloc, section, &[KEY])?, Cause::BadSignature);
     Ok(())
 }
 
@@ -436,55 +387,5 @@ fn periods(rt: HostRuntime) -> Result<(), Fail> {
             "at {seconds}"
         );
     }
-    Ok(())
-}
-
-// Whether the address is signed by the one call for a record, where the key stands at the name and has the tag.
-fn is_signed(
-    alloc: Global,
-    section: Vec<Record>,
-    sig: &Record,
-    key_name: &str,
-    key_tag: u16,
-) -> Result<bool, Fail> {
-    let found = groups(alloc, Records::new(section))?;
-    let Some(group) = found.as_slice().first() else {
-        return Err(Fail::new("no group"));
-    };
-    let data = data_of(alloc, Rtype::DNSKEY, KEY)?;
-    let Some(key) = data.dnskey() else {
-        return Err(Fail::new("no key"));
-    };
-    let zone = Name::parse(alloc, "Example.")?;
-    let key_name = Name::parse(alloc, key_name)?;
-    let t = Timestamp::from_int(500);
-    let mut memo = Counting { asked: 0, kept: 0 };
-    let yes = group.check_sig_cached::<StandIn>(
-        alloc, sig, &zone, &key, &key_name, key_tag, &mut memo, t,
-    )?;
-    Ok(yes)
-}
-
-#[test]
-fn one_record_by_one_key(rt: HostRuntime) -> Result<(), Fail> {
-    let alloc = rt.alloc();
-    let sig = plain(alloc, GOOD)?;
-    let rows: [(&str, Class, &str, u16, bool); 5] = [
-        ("www.example.", Class::IN, "example.", 1296, true),
-        ("www.example.", Class::IN, "other.", 1296, false),
-        ("www.example.", Class::IN, "example.", 1297, false),
-        ("www.example.", Class::CH, "example.", 1296, false),
-        ("ww.example.", Class::IN, "example.", 1296, false),
-    ];
-    for (owner, class, key_name, key_tag, want) in rows {
-        let mut section = Vec::new(alloc);
-        section.push(record_of(alloc, owner, class, Rtype::A, ADDRESS)?)?;
-        let yes = is_signed(alloc, section, &sig, key_name, key_tag)?;
-        assert_eq!(rt; yes, want, "{owner} {key_name} {key_tag}");
-    }
-    let mut section = Vec::new(alloc);
-    section.push(address(alloc, "www.example.")?)?;
-    let other = address(alloc, "www.example.")?;
-    assert!(rt; !is_signed(alloc, section, &other, "example.", 1296)?);
     Ok(())
 }

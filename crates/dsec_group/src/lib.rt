@@ -24,6 +24,8 @@ pub use steps::Steps;
 pub use tries::{Tries, try_all};
 
 #[cfg(test)]
+mod cached_tests;
+#[cfg(test)]
 mod check_tests;
 #[cfg(test)]
 mod memo_tests;
