@@ -2,18 +2,10 @@
 #![tactic(auto)]
 
 #[cfg(test)]
-mod anchored;
-#[cfg(test)]
-mod anchors;
-#[cfg(test)]
 mod faults;
 #[cfg(test)]
 mod judged;
 #[cfg(test)]
-mod rows;
-#[cfg(test)]
 mod runs;
-#[cfg(test)]
-mod scripts;
 #[cfg(test)]
 mod vectors;

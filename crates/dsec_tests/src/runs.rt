@@ -1,9 +1,5 @@
-//! What `run` writes for words and scripts, and its status.
+//! What `run` writes for words that name no command and for a source past its limit, and its status.
 
-use crate::anchored::ANCHORED;
-use crate::rows::{ANSWERS, KEY_SETS, Row, SHAPES, SIGNATURES};
-use crate::scripts::{READ, REFUSED, Script};
-use crate::vectors::ANCHOR;
 use dsec_answer::run;
 use dsec_outside::{LIMIT, OctetsSink, OctetsSource};
 use std::alloc::Global;
@@ -47,92 +43,6 @@ fn assert_run(
     assert_eq!(rt; status, want.1, "{shows}");
     assert_eq!(rt; sink.octets.as_slice(), want.0.as_bytes(), "{shows}");
     Ok(())
-}
-
-/// The script of a row.
-fn script_of(alloc: Global, row: &Row) -> Result<String, Fail> {
-    let (_, now, keys, message, _, _) = *row;
-    let parts = [
-        "now ",
-        now,
-        "\n",
-        ANCHOR,
-        "reply example. DNSKEY ",
-        keys,
-        "\nmessage ",
-        message,
-        "\n",
-    ];
-    joined(alloc, &parts)
-}
-
-/// What is written for a row.
-fn written_for(alloc: Global, row: &Row) -> Result<String, Fail> {
-    let (_, _, _, _, first, links) = *row;
-    let mut text = joined(alloc, &["0 ", first, "\n"])?;
-    for link in links {
-        text.push_str("link 0 ")?;
-        text.push_str(link)?;
-        text.push_str("\n")?;
-    }
-    Ok(text)
-}
-
-/// Runs the script of each row.
-fn assert_rows(rt: &impl Abort, alloc: Global, rows: &[Row]) -> Result<(), Fail> {
-    for row in rows {
-        let script = script_of(alloc, row)?;
-        let want = written_for(alloc, row)?;
-        let want = (want.as_str(), 0);
-        assert_run(rt, alloc, &["validate"], script.as_bytes(), want, row.0)?;
-    }
-    Ok(())
-}
-
-#[test]
-fn judges_signatures(rt: HostRuntime) -> Result<(), Fail> {
-    assert_rows(&rt, rt.alloc(), &SIGNATURES)
-}
-
-#[test]
-fn judges_key_sets(rt: HostRuntime) -> Result<(), Fail> {
-    assert_rows(&rt, rt.alloc(), &KEY_SETS)
-}
-
-#[test]
-fn judges_shapes(rt: HostRuntime) -> Result<(), Fail> {
-    assert_rows(&rt, rt.alloc(), &SHAPES)
-}
-
-#[test]
-fn judges_answers(rt: HostRuntime) -> Result<(), Fail> {
-    assert_rows(&rt, rt.alloc(), &ANSWERS)
-}
-
-/// Runs each script.
-fn assert_scripts(rt: &impl Abort, alloc: Global, scripts: &[Script]) -> Result<(), Fail> {
-    for (shows, source, output, status) in scripts {
-        let source = joined(alloc, source)?;
-        let output = joined(alloc, output)?;
-        let want = (output.as_str(), *status);
-        assert_run(rt, alloc, &["validate"], source.as_bytes(), want, shows)?;
-    }
-    Ok(())
-}
-
-#[test]
-fn reads_scripts(rt: HostRuntime) -> Result<(), Fail> {
-    assert_scripts(&rt, rt.alloc(), &READ)
-}
-
-#[test]
-fn reads_anchors(rt: HostRuntime) -> Result<(), Fail> {
-    assert_scripts(&rt, rt.alloc(), &ANCHORED)
-}
-
-#[test]
-fn refuses_scripts(rt: HostRuntime) -> Result<(), Fail> {
-    assert_scripts(&rt, rt.alloc(), &REFUSED)
 }
 
 #[test]
