@@ -5,7 +5,6 @@ ghost use Rattle.std.specs.Prelude.{◌≡◌, IfOk};
 ghost use Rattle.dsec_spec.specs.Numbers.{DNSKEY};
 ghost use Rattle.dsec_valbase.specs.Sets.{AreRecordsOf};
 
-use crate::anchors::TrustAnchors;
 use crate::dnskey_ext::DnskeyExt;
 use crate::ds_ext::DsExt;
 use crate::key_search::{KeySearch, first_key_for};
@@ -162,11 +161,12 @@ fn size_of(alloc: Global, hexed: &str) -> Result<Option<usize>, Fail> {
 #[test]
 fn sizes(rt: HostRuntime) -> Result<(), Fail> {
     let alloc = rt.alloc();
-    let rows: [(&str, Option<usize>); 13] = [
+    let rows: [(&str, Option<usize>); 14] = [
         (ROOT_KEY, Some(2048)),
         (EXAMPLE_KEY, Some(1024)),
         ("0101030800", Some(0)),
         ("0101030a0000", Some(0)),
+        ("0101030800000080", Some(8)),
         ("01010307000001ff01", Some(1)),
         ("010103070002ff", Some(0)),
         ("0101030501ff", Some(0)),
@@ -183,62 +183,5 @@ fn sizes(rt: HostRuntime) -> Result<(), Fail> {
     for (key, want) in rows {
         assert!(rt; size_of(alloc, key)? == want, "{key}");
     }
-    Ok(())
-}
-
-// Anchors at `example.`, `sub.example.`, and `Example.` again.
-fn anchors_of(alloc: Global) -> Result<TrustAnchors, Fail> {
-    let mut anchors = TrustAnchors::empty(alloc);
-    for owner in ["example.", "sub.example.", "Example."] {
-        let owner = Name::parse(alloc, owner)?;
-        let rdata = data_of(alloc, Rtype::DNSKEY, KEYS[0])?;
-        anchors.add(Record::new(owner, Class::IN, Ttl::from_secs(60), rdata))?;
-    }
-    Ok(anchors)
-}
-
-// Whether the island of the name and type is at this owner, and has so many anchors.
-fn is_island(
-    alloc: Global,
-    anchors: &TrustAnchors,
-    name: &str,
-    rtype: Rtype,
-    want: &str,
-    count: u32,
-) -> Result<bool, Fail> {
-    let name = Name::parse(alloc, name)?;
-    let want = Name::parse(alloc, want)?;
-    let Some(island) = anchors.island(&name, rtype) else {
-        return Ok(count == 0);
-    };
-    let mut left = island.iter();
-    for _ in 0..count {
-        if left.next().is_none() {
-            return Ok(false);
-        }
-    }
-    Ok(left.next().is_none() && *island.owner() == want && anchors.find(&want).is_some())
-}
-
-#[test]
-fn islands(rt: HostRuntime) -> Result<(), Fail> {
-    let alloc = rt.alloc();
-    let mut anchors = anchors_of(alloc)?;
-    assert!(rt;
-        is_island(
-            alloc,
-            &anchors,
-            "a.SUB.example.",
-            Rtype::A,
-            "sub.example.",
-            1
-        )?
-    );
-    assert!(rt; is_island(alloc, &anchors, "sub.example.", Rtype::DS, "example.", 2)?);
-    assert!(rt; is_island(alloc, &anchors, "example.", Rtype::DS, ".", 0)?);
-    let rdata = data_of(alloc, Rtype::DNSKEY, KEYS[0])?;
-    anchors.add(Record::new(Name::root(alloc), Class::IN, Ttl::from_secs(60), rdata))?;
-    assert!(rt; is_island(alloc, &anchors, ".", Rtype::DS, ".", 1)?);
-    assert!(rt; is_island(alloc, &anchors, "example.", Rtype::DS, ".", 1)?);
     Ok(())
 }
