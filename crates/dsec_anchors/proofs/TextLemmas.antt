@@ -10,14 +10,13 @@ use Rattle.dsec_outside.specs.declared.whole.TheConstants.{LIMIT}
 use Rattle.dsec_outside.proofs.CallerLemmas.{line_past-append, says-taken}
 use Rattle.dsec_outside.specs.Limit.{line_past}
 use Rattle.dsec_zonefile.specs.Entries as entry_list
-use Rattle.dsec_zonefile.specs.Entries.{Answers, IsNext, Reader, ended, found, no_more, refused, stops}
+use Rattle.dsec_zonefile.specs.Entries.{Answers, HasEntries, IsNext, Reader, ended, found, no_more, refused, stops}
 use Rattle.dsec_zonefile.specs.declared.entry.Entry.{Entry}
 use Rattle.dsec_zonefile.specs.declared.entry.Entry.TheVariants as entries
 use Rattle.dsec_zonefile.specs.declared.error.ZonefileError.{ZonefileError}
 use Rattle.dsec_zonefile.specs.declared.error.ZonefileError.TheVariants as zone
 use Rattle.dsec_zonefile.proofs.AllEntries.{one_reading}
-use Rattle.dsec_zonefile.specs.Readings.{Reading}
-use Rattle.dsec_anchors.specs.Texts.{added, anchors_in, error_of, is_from_outside, record_in, records_among, records_left, records_of, start_of, wants_memory}
+use Rattle.dsec_anchors.specs.Texts.{added, anchors_in, error_of, is_from_outside, record_in, records_among, records_left, start_of, wants_memory}
 use Rattle.dsec_anchors.specs.Texts as texts
 use Rattle.dsec_anchors.specs.declared.error.AnchorError.{AnchorError}
 use Rattle.dsec_anchors.specs.declared.error.AnchorError.TheVariants.{InplaceError, ReadError, NoMemory}
@@ -26,10 +25,10 @@ use Rattle.dsec_zonefile.proofs.EachReading.{found_takes, reading}
 abbrev Records : Type 0
 Records = Result (List Record) AnchorError
 
--- whatever reading a reader has, its records are these
-of_reading : (reader : Reader) (a b : Reading reader) → records_of a ≡ records_of b
-of_reading reader a b =
-    let same = one_reading reader a.entries b.entries a.end b.end a.are b.are in
+-- whatever entries a reader has, the records that it has left are those among them
+pub records_are : (reader : Reader) (all : List Entry) (end : Option ℕ) → HasEntries reader all end → records_left reader ≡ records_among all end
+records_are reader all end has =
+    let same = one_reading reader (reading reader).entries all (reading reader).end end (reading reader).are has in
     λ i. records_among (same.0 i) (same.1 i)
 
 abbrev pub put : Option Record → Records → Records
@@ -47,14 +46,13 @@ put_among (entries.Include path origin) others (Some line) = refl
 by_found : (reader next : Reader) (it : Entry) → IsNext reader (found it next) → records_left reader ≡ put (record_in it) (records_left next)
 by_found reader next it is =
     let others = reading next in
-    of_reading reader (reading reader) (record { entries = it ∷ others.entries; end = others.end; are = entry_list.goes_on reader next it others.entries others.end is others.are })
-    ∙ put_among it others.entries others.end
+    records_are reader (it ∷ others.entries) others.end (entry_list.goes_on reader next it others.entries others.end is others.are) ∙ put_among it others.entries others.end
 
 by_end : (reader last : Reader) → IsNext reader (ended last) → records_left reader ≡ Ok []
-by_end reader last is = of_reading reader (reading reader) (record { entries = []; end = None; are = no_more reader last is })
+by_end reader last is = records_are reader [] None (no_more reader last is)
 
 by_refusal : (reader : Reader) (line : ℕ) → IsNext reader (refused line) → records_left reader ≡ texts.refused line
-by_refusal reader line is = of_reading reader (reading reader) (record { entries = []; end = Some line; are = stops reader line is })
+by_refusal reader line is = records_are reader [] (Some line) (stops reader line is)
 
 added_more : (front : List Record) (it : Record) (records : Records) → added front (put (Some it) records) ≡ added (front ++ it ∷ []) records
 added_more front it (Ok records) = ap (λ (all : List Record). Ok all) (sym (append_assoc front (it ∷ []) records))
