@@ -98,7 +98,7 @@ pub record IsKeyLink (accepts : Accepts) (above link : Link) (t : ℕ) : Type 0 
   pub speaks : SpeaksOf ds_data link
   pub supported : IsSupported speaks.ds_record
 
--- a set at or below the held zone, signed by one of the held keys; a DS set, but the root's, is strictly below, for it
+-- a set of any class at or below the held zone, signed by one of the held keys; a DS set, but the root's, is strictly below, for it
 -- stands in the zone above (RFC 4035 2.4)
 pub record IsSetLink (accepts : Accepts) (zone : Place) (keys : List (List ℕ)) (link : Link) (t : ℕ) : Type 0 where
   pub of_kind : link.kind ≡ set

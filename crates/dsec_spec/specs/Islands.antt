@@ -21,7 +21,8 @@ unfoldable pub longest : List Place → Option Place
 longest [] = None
 longest (p ∷ ps) = Some (longer p (longest ps))
 
--- the island of a name and type: the place of the longest anchor at or above where it is looked for (RFC 4033 2)
+-- the island of a name and type: the place of the longest anchor at or above where it is looked for (RFC 4033 2, island of security);
+-- each record among the anchors counts, whatever its type and class
 abbrev pub island : List Record → Place → ℕ → Option Place
 island anchors name rtype = longest (filter (is_below (looked_for_at name rtype)) (map (λ anchor. place anchor.owner) anchors))
 

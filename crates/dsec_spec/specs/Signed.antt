@@ -13,7 +13,8 @@ pub record IsZoneKey (key : Key) : Type 0 where
   pub of_dnssec : key.protocol ≡ 3
 
 -- The signature counts at the moment t as the zone key's over the set: ten tests of RFC 4035 5.3.1 and RFC 4034 2.1, and last the
--- verifier's yes (RFC 4035 5.3.3). That the key stands in the zone's DNSKEY set is asked where a chain is followed.
+-- verifier's yes (RFC 4035 5.3.3). That the key stands in the zone's DNSKEY set is asked where a chain is followed, and that the set
+-- has a record where a group is judged.
 pub record Signed (accepts : Accepts) (set : RecordSet) (sig : RrsigRecord) (key : Key) (zone : Place) (t : ℕ) : Type 0 where
   pub same_owner : place sig.owner ≡ place set.owner
   pub same_class : sig.class ≡ set.class

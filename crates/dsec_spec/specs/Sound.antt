@@ -14,7 +14,8 @@ pub record IsLookedForAt (name : Place) (rtype : ℕ) (from : Place) : Type 0 wh
   pub above_for_ds : rtype ≡ DS → name ≢ [] → (last : List ℕ) × (name ≡ from ++ last ∷ [])
   pub itself_for_others : rtype ≢ DS ⊎ (name ≡ []) → from ≡ name
 
--- the island of a name and type: the place of the longest anchor at or above where it is looked for (RFC 4033 2)
+-- the island of a name and type: the place of the longest anchor at or above where it is looked for (RFC 4033 2, island of security);
+-- an anchor is any record among the anchors, whatever its type and class
 pub record IsIsland (anchors : List Record) (name : Place) (rtype : ℕ) (island : Place) : Type 0 where
   pub from : Place
   pub looked_for : IsLookedForAt name rtype from
@@ -35,8 +36,8 @@ pub record IsAtQuestion (question : Question) (group : Group) : Type 0 where
   pub of_class : group.class ≡ question.class
   pub of_type : group.rtype ≡ question.rtype
 
--- the group leads on from the question's name: a CNAME at it, unless CNAME is asked for, or a DNAME strictly above it and
--- not strictly above its island (RFC 1034 3.6.2, RFC 6672 2.2)
+-- the group, of one record of the question's class, leads on from the question's name: a CNAME at it, unless CNAME is asked for,
+-- or a DNAME strictly above it and not strictly above its island (RFC 1034 3.6.2, RFC 6672 2.2); of two records or more, no group is an alias
 abbrev pub LeadsOn : List Record → Question → Group → Type 0
 LeadsOn anchors question group =
     (group.class ≡ question.class) × (length group.records ≡ 1)
@@ -44,8 +45,9 @@ LeadsOn anchors question group =
     ⊎ ((group.rtype ≡ DNAME) × IsStrictlyBelow (place question.name) (place group.owner)
     × ((island : Place) → IsIsland anchors (place question.name) question.rtype island → IsStrictlyBelow island (place group.owner) → ⊥)))
 
--- The message answers its one question, without error and without an alias at or above its name, by a set that the kept links show at the moment t: from the anchor of the
--- set's island to the set, which stands in the answer section, no expansion of a wildcard, with the signature of the last link.
+-- The message answers its one question, without error, by a set that the kept links show at the moment t: from the anchor of the
+-- set's island to the set, which stands in the answer section, no expansion of a wildcard, with the signature of the last link. No
+-- single CNAME or DNAME record of the question's class leads on from the question's name.
 pub record IsSound (accepts : Accepts) (anchors : List Record) (t : ℕ) (message : List ℕ) (why : Why) : Type 0 where
   pub question : Question
   pub questions_end : ℕ

@@ -68,7 +68,7 @@ pub record IsWritableRecord (it : Record) : Type 0 where
   pub ttl : it.ttl < 2 ^ 32
   pub rdata : IsReadable it.rtype it.rdata
 
--- a message that can be written
+-- a message whose items can be written; that they are no more than a header can count follows where its octets are no more than 65535
 pub record IsWritable (written : Written) : Type 0 where
   pub id : written.id < 2 ^ 16
   pub flags : written.flags < 2 ^ 16
