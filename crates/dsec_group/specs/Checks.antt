@@ -45,7 +45,7 @@ cause_of nothing = Some NoSignature
 cause_of all_bad = Some BadSignature
 cause_of too_many_bad = Some TooManyBadSignatures
 
--- the closest encloser, where the owner is a wildcard's expansion by what the signature counts (RFC 4035 5.3.4)
+-- the owner's rightmost labels that the signature counts, where the owner has more: the closest encloser of a wildcard's expansion (RFC 4035 5.3.4)
 abbrev pub encloser_by : Labels → Option Rrsig → Option Labels
 encloser_by owner (Some sig) = encloser_of sig.labels owner
 encloser_by owner None = None

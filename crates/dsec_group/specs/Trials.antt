@@ -17,7 +17,7 @@ abbrev pub found_or : {P : Type 0} → ℕ → Option P → Trial P
 found_or more (Some p) = found p
 found_or more None = left more
 
--- candidates, of which so many may be tried
+-- candidates, of which so many may be tried; with no room left none is, and none may be after them
 abbrev pub trial : {P : Type 0} → (P → Bool) → ℕ → List P → Trial P
 trial is_good room candidates = found_or (room - length candidates) (find is_good (take room candidates))
 

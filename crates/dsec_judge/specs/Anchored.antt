@@ -6,7 +6,7 @@ use Rattle.dsec_spec.specs.Numbers.{IN, DS, DNSKEY}
 use Rattle.dsec_spec.specs.Records.{Record}
 use Rattle.dsec_spec.specs.Chain as chain
 
--- the type of the anchors that a link can rest on, by its kind
+-- the type of the anchors that a link can rest on, by its kind; only those of the first two kinds rest on anchors, and the others are given one type alike
 abbrev pub anchor_type : chain.LinkKind → ℕ
 anchor_type chain.anchor_key = DNSKEY
 anchor_type chain.anchor_ds = DS

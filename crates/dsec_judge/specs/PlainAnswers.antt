@@ -36,8 +36,8 @@ pub record HasPlainKeys (w : World) (keys : Group) : Type 0 where
   pub reads : key_of anchor.rdata ≡ Some anchor_key
   pub signed : IsSignedOnce w keys (place anchor.owner) (anchor_key ∷ [])
 
--- a message with one question, no error, and one group, which is at the question, below the anchor, is signed once by
--- one of the keys, and isn't made from a wildcard
+-- a message with one question, no error, and one group, which is at the question, at or below the anchor, is
+-- signed once by one of the keys, and isn't made from a wildcard
 pub record IsPlainAnswer (w : World) (message : List ℕ) : Type 0 where
   pub keys : Group
   pub has_keys : HasPlainKeys w keys

@@ -9,7 +9,7 @@ use Rattle.dsec_word.specs.Words.{base64_in, class_in, name_in, rtype_in}
 use Rattle.dsec_records.specs.Lines.{only, worded_lines}
 use Rattle.dsec_records.specs.declared.key.Numbers.{Numbers}
 
--- a word that is a TTL is taken, and any other stays; a TTL is a number below 2^32 (RFC 2181 8)
+-- a word that is a TTL is taken, and any other stays; a TTL is any number below 2^32, also past the 2^31 - 1 of RFC 2181 8
 abbrev pub taken : Option ℕ → List ℕ → List (List ℕ) → ℕ × List (List ℕ)
 taken None word words = (0, word ∷ words)
 taken (Some ttl) word words = (ttl, words)

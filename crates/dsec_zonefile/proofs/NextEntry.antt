@@ -68,7 +68,7 @@ goes_on text start place next step given says e gives none on n h =
 -- the place behind a line is within the text
 pub within_next : (text : List ℕ) (place next : Place) (step : Step) → IsSized (length text - place.at) (ahead.Step step) → place_behind place step ≡ next → IsWithin text place → IsWithin text next
 within_next text place next step sized e within =
-    subst (IsWithin text) e (omega (arith, sized.1, within.0), omega (arith, sized.2, within.1))
+    subst (IsWithin text) e (omega (arith, sized.1, within.0), omega (arith, sized.1, sized.2, within.0, within.1))
 
 -- a refusal stays
 pub still_refused : (reader : Reader) (line : ℕ) → reader.refused ≡ Some line → IsNext reader (refused line) × (reader ≡ record reader { refused = Some line })

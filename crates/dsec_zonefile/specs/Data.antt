@@ -9,7 +9,7 @@ use Rattle.dsec_text.specs.Words.{Word, is_generic_mark}
 use Rattle.dsec_zonefile.specs.Forms.{formed_in}
 use Rattle.dsec_zonefile.specs.Words.{hex_of, number_in}
 
--- the generic form, after its mark: a length, and so many octets in hex, which may be split (RFC 3597 5)
+-- the generic form, after its mark: a length, and so many octets in hex (RFC 3597 5), which may be split anywhere, also within an octet
 abbrev pub generic_in : List Word → Option (List ℕ)
 generic_in [] = None
 generic_in (size ∷ words) = do

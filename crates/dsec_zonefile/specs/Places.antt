@@ -1,5 +1,5 @@
 -- A place in a text, and the way from one entry to the next, as the code has them.
-use Rattle.std.specs.Prelude.{◌≡◌, ℕ, ◌+◌, ◌<◌, ◌≤◌, List, length, drop, Option, Some, None, Result, Ok, Err}
+use Rattle.std.specs.Prelude.{◌≡◌, ℕ, ◌+◌, ◌-◌, ◌^◌, ◌<◌, ◌≤◌, List, length, drop, Option, Some, None, Result, Ok, Err}
 use Rattle.std.specs.Bool.{OnFalse}
 use Rattle.dsec_text.specs.Lines.{line_ends}
 use Rattle.dsec_zonefile.specs.Setting.{after, as_before}
@@ -20,9 +20,9 @@ use Rattle.dsec_zonefile.specs.declared.step.Ahead.TheVariants as ahead
 abbrev pub reader_at : List ℕ → Place → Reader
 reader_at text place = record { text = drop place.at text; passed = place.lines; setting = place.setting; refused = None }
 
--- a place within a text, with no more line ends than octets before it
+-- a place within a text, where each line end that was passed or is still to come can be counted
 abbrev pub IsWithin : List ℕ → Place → Type 0
-IsWithin text place = (place.at ≤ length text) × (place.lines ≤ place.at)
+IsWithin text place = (place.at ≤ length text) × (place.lines + (length text - place.at) < 2 ^ 63)
 
 -- what stands ahead of a reader, or why it was not read
 abbrev pub Steps : Reader → Result Ahead ZonefileError → Type 0

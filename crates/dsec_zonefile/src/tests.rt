@@ -6,6 +6,7 @@ use crate::vectors::{
     OWNERS_2, TEXTS_1, TEXTS_2, TTLS_AND_CLASSES_1, TTLS_AND_CLASSES_2,
 };
 use crate::written::{FRONTS_1, FRONTS_2, KEYS, STANDARDS, ZONES};
+use crate::zonefile::give_up_read;
 use crate::{Entry, InplaceError, Zonefile, ZonefileError};
 use dsec_name::Name;
 use dsec_number::Class;
@@ -251,6 +252,18 @@ fn the_end_is_passed_once(rt: HostRuntime) -> Result<(), Fail> {
     }
     zonefile.extend_from_slice(b"a. IN FOO\n")?;
     assert_eq!(rt; shown(alloc, &mut zonefile)?.as_str(), "line 100001");
+    Ok(())
+}
+
+// What was read goes where it is more than what is left.
+#[test]
+fn read_text_is_given_up(rt: HostRuntime) -> Result<(), Fail> {
+    for (read, at, text) in [(0, 0, "abcdef"), (3, 3, "abcdef"), (4, 0, "ef"), (6, 0, "")] {
+        let mut octets = Vec::from_slice(rt.alloc(), b"abcdef")?;
+        let mut place = octets.len().min(read);
+        give_up_read(&mut octets, &mut place);
+        assert!(rt; place == at && octets.as_slice() == text.as_bytes());
+    }
     Ok(())
 }
 

@@ -1,6 +1,6 @@
 //! Zone text, read entry by entry.
 
-ghost use Rattle.std.specs.Prelude.{◌≡◌, ◌++◌, [], None, Some, OnErr, OnOk};
+ghost use Rattle.std.specs.Prelude.{◌≡◌, ◌≤◌, ◌++◌, [], None, Some, OnErr, OnOk, drop, length};
 ghost use Rattle.dsec_zonefile.specs.Entries.{Answers};
 ghost use Rattle.dsec_zonefile.specs.Setting.{at_first};
 
@@ -34,6 +34,9 @@ impl Model for Zonefile {
     ghost invariant = { λ it. IsWithin it.text.items it.place };
 }
 
+/// How many line ends are counted at most.
+const MOST_LINE_ENDS: usize = usize::MAX / 2;
+
 impl Zonefile {
     /// No text, no class, and the root for the origin.
     pub fn new(alloc: Global) -> Self
@@ -57,11 +60,18 @@ impl Zonefile {
         self.place.setting.class = Some(class);
     }
 
-    /// Adds more text after what is there.
+    /// Adds more text after what is there. What was read is given up where it is more than what is left, so that text that is
+    /// added piece by piece, as it is read, takes memory in proportion to what is not read yet. Text with more line ends
+    /// than a number can count wants memory too.
     pub fn extend_from_slice(&mut self, more: &[u8]) -> Result<(), NoMemory>
         ensures ok { OnOk result (self.new ≡ record self.old { text = self.old.text ++ more.now }) }
         ensures err { OnErr result (self.new ≡ self.old) }
     {
+        let left = self.text.len() - self.place.at;
+        if more.len() > MOST_LINE_ENDS - (self.place.lines + left) {
+            return Err(NoMemory);
+        }
+        give_up_read(&mut self.text, &mut self.place.at);
         self.text.extend_from_slice(more)?;
         Ok(())
     }
@@ -86,5 +96,18 @@ impl Zonefile {
             }
             Err(ZonefileError::NoMemory) => Err(ZonefileError::NoMemory),
         }
+    }
+}
+
+/// Gives up the octets before a place, where they are more than those from it on: so each octet that stays is moved for one
+/// that goes, and the moves of all calls together are no more than the octets that were read.
+pub(crate) fn give_up_read(text: &mut Vec<u8>, at: &mut usize)
+    requires { at.old ≤ length text.old.items }
+    ensures left { drop at.new text.new.items ≡ drop at.old text.old.items }
+    ensures within { at.new ≤ length text.new.items }
+{
+    if *at > text.len() - *at {
+        text.drain(..*at);
+        *at = 0;
     }
 }
