@@ -52,6 +52,11 @@ symbols = engine_symbols standard
 symbol_plain : (i : ℕ) → i < 64 → is_plain (slice_index symbols i) ≡ true
 symbol_plain i l = AllPass-from_list_all is_plain symbols refl i 0 l
 
+-- no octet is written as nothing
+pub nothing_written : encode_of standard [] ≡ []
+unfolding encode_symbols
+nothing_written = refl
+
 symbols_plain : (x : List ℕ) → list_all small x ≡ true → list_all is_plain (encode_symbols symbols x) ≡ true
 unfolding encode_symbols
 symbols_plain [] e = refl

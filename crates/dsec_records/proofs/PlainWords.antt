@@ -122,14 +122,55 @@ words_joined word (next ∷ words) plain =
     part_before blank word 32 (join_with_byte 32 (next ∷ words)) plain.0.some (all_more is_plain (free blank) plain_blank word plain.0.octets) refl
     ∙ ap (λ more. word ∷ more) (words_joined next words plain.1)
 
--- a text of one line of plain words says what the words do
-pub line_read : (word : List ℕ) (words : List (List ℕ)) → PlainWords (word ∷ words) → bind_record (join_with_byte 32 (word ∷ words) ++ 10 ∷ []) ≡ record_in (word ∷ words)
-line_read word words plain =
-    let line = join_with_byte 32 (word ∷ words) in
-    let cut : lines_of (line ++ 10 ∷ []) ≡ line ∷ lines_of [] =
-    part_before line_end line 10 [] (some_join word words plain) (free_join (free line_end) refl plain_line_end (word ∷ words) plain) refl in
-    let whole : uncommented line ≡ line = ap (λ (c : List ℕ × List ℕ). c.0) (cut_end comment line (free_join (free comment) refl plain_comment (word ∷ words) plain)) in
-    let said : words_of (uncommented line) ≡ word ∷ words = ap words_of whole ∙ words_joined word words plain in
+-- a text of one line without marks says what the line's words do
+line_says : (line word : List ℕ) (words : List (List ℕ)) → 0 < length line → list_all (free line_end) line ≡ true → list_all (free comment) line ≡ true → words_of line ≡ word ∷ words
+    → bind_record (line ++ 10 ∷ []) ≡ record_in (word ∷ words)
+line_says line word words some ends comments is =
+    let cut : lines_of (line ++ 10 ∷ []) ≡ line ∷ lines_of [] = part_before line_end line 10 [] some ends refl in
+    let whole : uncommented line ≡ line = ap (λ (c : List ℕ × List ℕ). c.0) (cut_end comment line comments) in
+    let said : words_of (uncommented line) ≡ word ∷ words = ap words_of whole ∙ is in
     let one : worded_lines (line ++ 10 ∷ []) ≡ (word ∷ words) ∷ [] =
     line_found (line ++ 10 ∷ []) line [] word words cut said ∙ (λ i. said i ∷ no_line [] (nothing_left line_end) i) in
     ap (λ (lines : List (List (List ℕ))). only lines >>= record_in) one
+
+-- a text of one line of plain words says what the words do
+pub line_read : (word : List ℕ) (words : List (List ℕ)) → PlainWords (word ∷ words) → bind_record (join_with_byte 32 (word ∷ words) ++ 10 ∷ []) ≡ record_in (word ∷ words)
+line_read word words plain =
+    line_says (join_with_byte 32 (word ∷ words)) word words (some_join word words plain) (free_join (free line_end) refl plain_line_end (word ∷ words) plain)
+    (free_join (free comment) refl plain_comment (word ∷ words) plain) (words_joined word words plain)
+
+-- ---- the same with nothing behind the last space
+
+-- plain words, and nothing behind them
+abbrev pub open_words : List (List ℕ) → List (List ℕ)
+open_words words = words ++ [] ∷ []
+
+free_open : (p : ℕ → Bool) → p 32 ≡ true → ((b : ℕ) → is_plain b ≡ true → p b ≡ true) → (word : List ℕ) (words : List (List ℕ)) → PlainWords (word ∷ words)
+    → list_all p (join_with_byte 32 (open_words (word ∷ words))) ≡ true
+free_open p s h word [] plain = list_all-append p word (32 ∷ []) ∙ (λ i. all_more is_plain p h word plain.0.octets i && (s i && true))
+free_open p s h word (next ∷ words) plain =
+    list_all-append p word (32 ∷ join_with_byte 32 (open_words (next ∷ words)))
+    ∙ (λ i. all_more is_plain p h word plain.0.octets i && (s i && free_open p s h next words plain.1 i))
+
+some_open : (word : List ℕ) (words : List (List ℕ)) → PlainWords (word ∷ words) → 0 < length (join_with_byte 32 (open_words (word ∷ words)))
+some_open word [] plain =
+    let l = length-append word (32 ∷ []) in
+    omega (arith, l, plain.0.some)
+some_open word (next ∷ words) plain =
+    let l = length-append word (32 ∷ join_with_byte 32 (open_words (next ∷ words))) in
+    omega (arith, l, plain.0.some)
+
+words_open : (word : List ℕ) (words : List (List ℕ)) → PlainWords (word ∷ words) → words_of (join_with_byte 32 (open_words (word ∷ words))) ≡ word ∷ words
+words_open word [] plain =
+    part_before blank word 32 [] plain.0.some (all_more is_plain (free blank) plain_blank word plain.0.octets) refl
+    ∙ ap (λ more. word ∷ more) (nothing_left blank)
+words_open word (next ∷ words) plain =
+    part_before blank word 32 (join_with_byte 32 (open_words (next ∷ words))) plain.0.some (all_more is_plain (free blank) plain_blank word plain.0.octets) refl
+    ∙ ap (λ more. word ∷ more) (words_open next words plain.1)
+
+-- a text of one line of plain words and a space behind them says what the words do
+pub line_read_open : (word : List ℕ) (words : List (List ℕ)) → PlainWords (word ∷ words)
+    → bind_record (join_with_byte 32 (open_words (word ∷ words)) ++ 10 ∷ []) ≡ record_in (word ∷ words)
+line_read_open word words plain =
+    line_says (join_with_byte 32 (open_words (word ∷ words))) word words (some_open word words plain) (free_open (free line_end) refl plain_line_end word words plain)
+    (free_open (free comment) refl plain_comment word words plain) (words_open word words plain)

@@ -1,5 +1,5 @@
 -- A key's record as BIND writes it.
-use Rattle.std.specs.Prelude.{ℕ, ◌<◌, length, List, [], ◌∷◌, ◌++◌, codes, decimal, Option, Some}
+use Rattle.std.specs.Prelude.{ℕ, nat_lt, length, List, [], ◌∷◌, ◌++◌, codes, decimal, Option, Some, None, if◌then◌else◌}
 use Rattle.std.specs.List.{join_with_byte}
 use Rattle.base64.specs.Engines.{standard}
 use Rattle.base64.specs.GeneralPurpose.{encode_of}
@@ -30,9 +30,10 @@ bind_text it = do
 abbrev pub shown : BindDisplay → List ℕ
 shown it = key_line it.owner.now (key_view it.key)
 
--- the key of a DNSKEY record has an octet: the data are more than its flags, protocol and algorithm
-abbrev pub HasKey : Record → Type 0
-HasKey it = 4 < length it.rdata
+-- what the text of a DNSKEY record of class IN is read as: the record, with TTL 0; or nothing, where its data are only flags,
+-- protocol and algorithm, for then no base64 stands in the text
+abbrev pub read_back : Record → Option Record
+read_back it = if nat_lt 4 (length it.rdata) then Some (record it { ttl = 0 }) else None
 
 -- the text of a line up to the protocol
 abbrev pub line_front : Labels → ℕ → List ℕ

@@ -1,6 +1,9 @@
 //! Texts of keys, as another reader of BIND's text reads them.
 
 use super::*;
+use dsec_name::{Name, Octets};
+use dsec_number::{Class, Rtype, Ttl};
+use dsec_wire::{Data, Record};
 use std::alloc::Global;
 use std::test::Fail;
 
@@ -93,6 +96,26 @@ fn other_keys(rt: HostRuntime) -> Result<(), Fail> {
         "example. IN DNSKEY 257 3 13 AQI=\r",
     ];
     assert!(rt; are_refused(rt.alloc(), &texts)?);
+    Ok(())
+}
+
+// A key without an octet is displayed without base64, which is refused.
+#[test]
+fn key_without_octets(rt: HostRuntime) -> Result<(), Fail> {
+    let alloc = rt.alloc();
+    let data = Data::new(
+        Rtype::DNSKEY,
+        Octets::new(Vec::from_slice(alloc, &[1, 1, 3, 13])?),
+    );
+    let record = Record::new(
+        Name::parse(alloc, "example.")?,
+        Class::IN,
+        Ttl::from_secs(7),
+        data,
+    );
+    let text = format!(in alloc; "{}", display_as_bind(&record))?;
+    assert!(rt; text.as_str() == "example. IN DNSKEY 257 3 13 \n");
+    assert!(rt; is_refused(alloc, text.as_str())?);
     Ok(())
 }
 

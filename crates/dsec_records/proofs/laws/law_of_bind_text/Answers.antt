@@ -15,4 +15,4 @@ returns c =
     subst (All (λ octet. octet < 256)) (c.as_slice-2.ensures ∙ c.octets.ensures.value ∙ ap (λ (d : TypedData). d.octets) c.rdata.ensures.value) c.in_range-2.ensures in
     let read : name_of_text (name_text it.owner) ≡ Ok it.owner =
     subst (λ (name : Labels). name_of_text (name_text name) ≡ Ok name) c.owner.ensures c.law_of_display.ensures.back in
-    record_back it owner rdata read c.requires.class c.requires.dnskey c.rdata.ensures.readable.at_most c.requires.key
+    record_back it owner rdata read c.requires.class c.requires.dnskey c.rdata.ensures.readable.at_most
