@@ -13,6 +13,8 @@ pub use items::{Item, Items};
 pub use script::{Script, read_script};
 
 #[cfg(test)]
+mod more_vectors;
+#[cfg(test)]
 mod tests;
 #[cfg(test)]
 mod vectors;

@@ -1,8 +1,7 @@
 //! Scripts, read and refused.
 
-use crate::vectors::{
-    SCRIPTS_1, SCRIPTS_2, SCRIPTS_3, SCRIPTS_4, SCRIPTS_5, SCRIPTS_6, SCRIPTS_7, SCRIPTS_8,
-};
+use crate::more_vectors::{SCRIPTS_6, SCRIPTS_7, SCRIPTS_8};
+use crate::vectors::{SCRIPTS_1, SCRIPTS_2, SCRIPTS_3, SCRIPTS_4, SCRIPTS_5};
 use crate::{Refused, ScriptError, Word, read_script};
 use dsec_name::Name;
 use dsec_number::Rtype;
