@@ -13,6 +13,7 @@ use dsec_name::{Name, Octets};
 use dsec_number::{Class, DigestAlgorithm, Rtype, Ttl};
 use dsec_wire::{Data, Record};
 use std::alloc::Global;
+use std::process::Abort;
 use std::test::Fail;
 
 // The root's key of 2017.
@@ -36,38 +37,55 @@ fn data_of(alloc: Global, rtype: Rtype, hexed: &str) -> Result<Data, Fail>
 }
 
 // Whether the key has this digest of the type; none where the type isn't known.
-fn has_digest(alloc: Global, owner: &str, key: &str, number: u8, want: &str) -> Result<bool, Fail> {
-    let owner = Name::parse(alloc, owner)?;
+fn has_digest(
+    alloc: Global,
+    owner: &Name,
+    made: &Data,
+    number: u8,
+    want: &str,
+) -> Result<bool, Fail> {
     let want = hex::decode(alloc, want)?;
-    let made = data_of(alloc, Rtype::DNSKEY, key)?;
     let Some(key) = made.dnskey() else {
         return Ok(false);
     };
-    match key.digest(&owner, DigestAlgorithm::from_int(number)) {
+    match key.digest(owner, DigestAlgorithm::from_int(number)) {
         Ok(digest) => Ok(digest.as_ref() == want.as_slice()),
         Err(error) => Ok(error == AlgorithmError::Unsupported && want.is_empty()),
     }
 }
 
+// Digests of the root's key.
+const ROOT_DIGESTS: [(u8, &str); 4] = [
+    (1, "ae1ea5b974d4c858b740bd03e3ced7ebfcbd1724"),
+    (
+        2,
+        "e06d44b80b8f1d39a95c0b0d7c65d08458e880409bbc683457104237c7f8ec8d",
+    ),
+    (3, ""),
+    (
+        4,
+        "538f47ba9bb88908e1dc335d6dfd51ca66b4d824192e6e6e210ae8cc18ece46a0f62b9f0d2f88dfc87d4bb8b8aed21cb",
+    ),
+];
+
+// Whether the key of the owner has these digests.
+fn has_digests(alloc: Global, owner: &str, key: &str, rows: &[(u8, &str)]) -> Result<bool, Fail> {
+    let owner = Name::parse(alloc, owner)?;
+    let made = data_of(alloc, Rtype::DNSKEY, key)?;
+    for (number, want) in rows {
+        if !has_digest(alloc, &owner, &made, *number, want)? {
+            return Ok(false);
+        }
+    }
+    Ok(true)
+}
+
 #[test]
 fn digests(rt: HostRuntime) -> Result<(), Fail> {
     let alloc = rt.alloc();
-    assert!(rt; has_digest(alloc, "dskey.EXAMPLE.com.", EXAMPLE_KEY, 1, EXAMPLE_DIGEST)?);
-    let rows: [(u8, &str); 4] = [
-        (1, "ae1ea5b974d4c858b740bd03e3ced7ebfcbd1724"),
-        (
-            2,
-            "e06d44b80b8f1d39a95c0b0d7c65d08458e880409bbc683457104237c7f8ec8d",
-        ),
-        (3, ""),
-        (
-            4,
-            "538f47ba9bb88908e1dc335d6dfd51ca66b4d824192e6e6e210ae8cc18ece46a0f62b9f0d2f88dfc87d4bb8b8aed21cb",
-        ),
-    ];
-    for (number, want) in rows {
-        assert!(rt; has_digest(alloc, ".", ROOT_KEY, number, want)?);
-    }
+    assert!(rt; has_digests(alloc, ".", ROOT_KEY, &ROOT_DIGESTS)?);
+    let example = [(1, EXAMPLE_DIGEST)];
+    assert!(rt; has_digests(alloc, "dskey.EXAMPLE.com.", EXAMPLE_KEY, &example)?);
     Ok(())
 }
 
@@ -91,56 +109,75 @@ fn keys_of(alloc: Global, all: &[&str]) -> Result<Vec<Record>, Fail>
     Ok(made)
 }
 
-// Where a DS record finds its key, and whether it speaks of the third.
-fn found(alloc: Global, ds: &str, most: usize) -> Result<(KeySearch, bool), Fail> {
+// Where a DS record finds its key.
+fn found(alloc: Global, made: &Data, most: usize) -> Result<KeySearch, Fail> {
     let owner = Name::parse(alloc, "Example.")?;
     let keys = keys_of(alloc, &KEYS)?;
-    let made = data_of(alloc, Rtype::DS, ds)?;
+    let Some(ds) = made.ds() else {
+        return Err(Fail::new("unreadable"));
+    };
+    Ok(first_key_for(&ds, &owner, &keys, most))
+}
+
+// Whether it speaks of the third.
+fn is_of_third(alloc: Global, made: &Data) -> Result<bool, Fail> {
+    let owner = Name::parse(alloc, "Example.")?;
     let third = data_of(alloc, Rtype::DNSKEY, KEYS[2])?;
     match (made.ds(), third.dnskey()) {
-        (Some(ds), Some(third)) => Ok((
-            first_key_for(&ds, &owner, &keys, most),
-            ds.matches(&owner, &third),
-        )),
+        (Some(ds), Some(third)) => Ok(ds.matches(&owner, &third)),
         _ => Err(Fail::new("unreadable")),
     }
 }
 
-#[test]
-fn keys_of_ds_records(rt: HostRuntime) -> Result<(), Fail> {
-    let alloc = rt.alloc();
-    let rows: [(&str, usize, KeySearch, bool); 6] = [
-        (
-            "05100d022c6403bd20956140d202ec366555a5a934d05a03233d69ab380a7eea4eee3525",
-            2,
-            KeySearch::FoundAt(2),
-            true,
-        ),
-        (
-            "05100d022c6403bd20956140d202ec366555a5a934d05a03233d69ab380a7eea4eee3525",
-            1,
-            KeySearch::TooMany,
-            true,
-        ),
-        (
-            "05110d022c6403bd20956140d202ec366555a5a934d05a03233d69ab380a7eea4eee3525",
-            9,
-            KeySearch::NotFound,
-            false,
-        ),
-        (
-            "051008022c6403bd20956140d202ec366555a5a934d05a03233d69ab380a7eea4eee3525",
-            9,
-            KeySearch::NotFound,
-            false,
-        ),
-        ("05100d0200", 2, KeySearch::TooMany, false),
-        ("05100d0200", 3, KeySearch::NotFound, false),
-    ];
-    for (ds, most, search, matches) in rows {
-        assert!(rt; found(alloc, ds, most)? == (search, matches));
+// A DS record, how many digests may be taken, where it finds its key, and whether it speaks of the third.
+type Search = (&'static str, usize, KeySearch, bool);
+
+const SEARCHES: [Search; 6] = [
+    (
+        "05100d022c6403bd20956140d202ec366555a5a934d05a03233d69ab380a7eea4eee3525",
+        2,
+        KeySearch::FoundAt(2),
+        true,
+    ),
+    (
+        "05100d022c6403bd20956140d202ec366555a5a934d05a03233d69ab380a7eea4eee3525",
+        1,
+        KeySearch::TooMany,
+        true,
+    ),
+    (
+        "05110d022c6403bd20956140d202ec366555a5a934d05a03233d69ab380a7eea4eee3525",
+        9,
+        KeySearch::NotFound,
+        false,
+    ),
+    (
+        "051008022c6403bd20956140d202ec366555a5a934d05a03233d69ab380a7eea4eee3525",
+        9,
+        KeySearch::NotFound,
+        false,
+    ),
+    ("05100d0200", 2, KeySearch::TooMany, false),
+    ("05100d0200", 3, KeySearch::NotFound, false),
+];
+
+fn finds(alloc: Global, row: &Search) -> Result<bool, Fail> {
+    let (ds, most, search, matches) = *row;
+    let made = data_of(alloc, Rtype::DS, ds)?;
+    let is_third = is_of_third(alloc, &made)?;
+    Ok(found(alloc, &made, most)? == search && is_third == matches)
+}
+
+fn assert_found(rt: &impl Abort, alloc: Global, rows: &[Search]) -> Result<(), Fail> {
+    for row in rows {
+        assert!(rt; finds(alloc, row)?);
     }
     Ok(())
+}
+
+#[test]
+fn keys_of_ds_records(rt: HostRuntime) -> Result<(), Fail> {
+    assert_found(&rt, rt.alloc(), &SEARCHES)
 }
 
 // The size of a key with these octets; none where the algorithm isn't known, and some 0 where there is no such key.
@@ -158,30 +195,38 @@ fn size_of(alloc: Global, hexed: &str) -> Result<Option<usize>, Fail> {
 
 // RSA keys with no exponent, with exponents of one and of two octets of length, with no modulus, and with zeros before it;
 // halves of odd octets; and an Ed25519 key.
-#[test]
-fn sizes(rt: HostRuntime) -> Result<(), Fail> {
-    let alloc = rt.alloc();
-    let rows: [(&str, Option<usize>); 14] = [
-        (ROOT_KEY, Some(2048)),
-        (EXAMPLE_KEY, Some(1024)),
-        ("0101030800", Some(0)),
-        ("0101030a0000", Some(0)),
-        ("0101030800000080", Some(8)),
-        ("01010307000001ff01", Some(1)),
-        ("010103070002ff", Some(0)),
-        ("0101030501ff", Some(0)),
-        ("0101030501ff80", Some(8)),
-        ("0101030501ff0001", Some(8)),
-        ("0101030e0102030405", Some(16)),
-        (
-            "0101030f9b53442cb55540a9787c7567fca29d78d3b43eb60a193dc819b62c793f1770aa",
-            Some(256),
-        ),
-        ("0101030102030405", None),
-        ("0101031102030405", None),
-    ];
+const SIZES: [(&str, Option<usize>); 14] = [
+    (ROOT_KEY, Some(2048)),
+    (EXAMPLE_KEY, Some(1024)),
+    ("0101030800", Some(0)),
+    ("0101030a0000", Some(0)),
+    ("0101030800000080", Some(8)),
+    ("01010307000001ff01", Some(1)),
+    ("010103070002ff", Some(0)),
+    ("0101030501ff", Some(0)),
+    ("0101030501ff80", Some(8)),
+    ("0101030501ff0001", Some(8)),
+    ("0101030e0102030405", Some(16)),
+    (
+        "0101030f9b53442cb55540a9787c7567fca29d78d3b43eb60a193dc819b62c793f1770aa",
+        Some(256),
+    ),
+    ("0101030102030405", None),
+    ("0101031102030405", None),
+];
+
+fn assert_sizes(
+    rt: &impl Abort,
+    alloc: Global,
+    rows: &[(&str, Option<usize>)],
+) -> Result<(), Fail> {
     for (key, want) in rows {
-        assert!(rt; size_of(alloc, key)? == want, "{key}");
+        assert!(rt; size_of(alloc, key)? == *want);
     }
     Ok(())
+}
+
+#[test]
+fn sizes(rt: HostRuntime) -> Result<(), Fail> {
+    assert_sizes(&rt, rt.alloc(), &SIZES)
 }
