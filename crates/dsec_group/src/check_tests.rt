@@ -2,13 +2,16 @@
 
 ghost use Rattle.std.specs.Prelude.{◌≡◌, ◌<◌};
 
-use crate::{KeyCheck, Limits, Memo, NoMemo, Steps, ValidationState, check_with_keys, groups};
+use crate::{
+    Group, KeyCheck, Limits, Memo, NoMemo, Steps, ValidationState, check_with_keys, groups,
+};
 use dsec_base::Cause;
 use dsec_crypto::{StandIn, Verifier};
 use dsec_name::{Name, NoMemory, Octets};
 use dsec_number::{Class, Rtype, Timestamp, Ttl};
 use dsec_wire::{Data, Dnskey, Record, Records};
 use std::alloc::Global;
+use std::fmt::Display;
 use std::marker::Brand;
 use std::process::Abort;
 use std::sync::ledger::{Blank, Ledger};
@@ -101,9 +104,8 @@ fn signature(
     let [tag_high, tag_low] = key_tag.to_be_bytes();
     let mut data = Vec::new(alloc);
     data.extend_from_slice(&[
-        high, low, 13, labels, 0, 0, 14, 16, 0, 0, 3, 232, 0, 0, 0, 0,
+        high, low, 13, labels, 0, 0, 14, 16, 0, 0, 3, 232, 0, 0, 0, 0, tag_high, tag_low,
     ])?;
-    data.extend_from_slice(&[tag_high, tag_low])?;
     data.extend_from_slice(signer)?;
     data.extend_from_slice(octets)?;
     record_of(alloc, owner, Class::IN, Rtype::RRSIG, &data)
@@ -126,7 +128,7 @@ fn views_of<'a>(alloc: Global, keys: &'a [Data]) -> Result<Vec<Dnskey<'a>>, NoMe
 
 fn check_by<L: Ledger>(
     alloc: Global,
-    section: Vec<Record>,
+    group: &Group,
     keys: &[Data],
     max_bad: u8,
     seconds: u32,
@@ -137,14 +139,10 @@ fn check_by<L: Ledger>(
     requires parts { blank.parts ≡ L.parts }
     requires some { 0 < L.parts }
 {
-    let found = groups(alloc, Records::new(section))?;
     let views = views_of(alloc, keys)?;
     let zone = Name::parse(alloc, "example.")?;
     let mut limits = Limits::default();
     limits.max_bad_signatures = max_bad;
-    let Some(group) = found.as_slice().first() else {
-        return Err(Fail::new("no group"));
-    };
     let mut steps: Steps<L> = Steps::begin(blank);
     let t = Timestamp::from_int(seconds);
     let check = check_with_keys::<StandIn, L>(
@@ -153,7 +151,7 @@ fn check_by<L: Ledger>(
     Ok(check)
 }
 
-// The same, with steps that nobody counts.
+// The check of the first group of a section, with steps that nobody counts.
 pub(crate) fn checked(
     alloc: Global,
     section: Vec<Record>,
@@ -162,7 +160,11 @@ pub(crate) fn checked(
     seconds: u32,
     memo: &mut impl Memo<StandIn>,
 ) -> Result<KeyCheck, Fail> {
-    check_by::<Brand>(alloc, section, keys, max_bad, seconds, memo, Blank::new(1))
+    let found = groups(alloc, Records::new(section))?;
+    let Some(group) = found.as_slice().first() else {
+        return Err(Fail::new("no group"));
+    };
+    check_by::<Brand>(alloc, group, keys, max_bad, seconds, memo, Blank::new(1))
 }
 
 // The check of the first group of a section at 500 seconds, with a limit of one bad signature.
@@ -171,15 +173,33 @@ fn check(alloc: Global, section: Vec<Record>, key: &[u8]) -> Result<KeyCheck, Fa
     checked(alloc, section, &keys, 1, 500, &mut NoMemo)
 }
 
-// What a check says: the state, and the cause or the closest encloser.
-fn told(alloc: Global, check: &KeyCheck) -> Result<String, Fail> {
-    let state = check.state;
-    let text = match (&check.cause, &check.closest_encloser) {
-        (Some(cause), _) => format!(in alloc; "{state:?} {cause}")?,
-        (None, Some(encloser)) => format!(in alloc; "{state:?} under {encloser}")?,
-        (None, None) => format!(in alloc; "{state:?}")?,
-    };
-    Ok(text)
+// Whether there is a value that is shown so, or none.
+fn is_shown<T: Display>(
+    alloc: Global,
+    value: &Option<T>,
+    want: Option<&str>,
+) -> Result<bool, Fail> {
+    match (value, want) {
+        (Some(value), Some(want)) => Ok(format!(in alloc; "{value}")?.as_str() == want),
+        (None, None) => Ok(true),
+        _ => Ok(false),
+    }
+}
+
+// What a check says: the state, the cause and the closest encloser.
+type Said = (ValidationState, Option<&'static str>, Option<&'static str>);
+
+const SECURE: Said = (ValidationState::Secure, None, None);
+
+const BAD: Said = (ValidationState::Bogus, Some("Bad signature"), None);
+
+const UNSIGNED: Said = (ValidationState::Bogus, Some("No signature"), None);
+
+fn says(alloc: Global, check: &KeyCheck, want: Said) -> Result<bool, Fail> {
+    let (state, cause, encloser) = want;
+    let has_cause = is_shown(alloc, &check.cause, cause)?;
+    let has_encloser = is_shown(alloc, &check.closest_encloser, encloser)?;
+    Ok(check.state == state && has_cause && has_encloser)
 }
 
 // What a row shows; the owner and class of the address; the labels, key tag, signer and octets of the signature, which is of
@@ -193,36 +213,42 @@ type Row = (
     &'static [u8],
     &'static [u8],
     &'static [u8],
-    &'static str,
+    Said,
 );
 
 #[rattlefmt::skip]
 const ROWS: [Row; 9] = [
-    ("a good signature", "www.example.", 1, 2, 1296, ZONE, GOOD, KEY, "Secure"),
-    ("a key without the zone flag", "www.example.", 1, 2, 1040, ZONE, BY_NO_ZONE_KEY, NO_ZONE_KEY, "Bogus Bad signature"),
-    ("a key of protocol 2", "www.example.", 1, 2, 1040, ZONE, BY_OTHER_PROTOCOL, OTHER_PROTOCOL, "Bogus Bad signature"),
-    ("another key than it names", "www.example.", 1, 2, 1296, ZONE, GOOD, NO_ZONE_KEY, "Bogus No signature"),
-    ("another signer", "www.example.", 1, 2, 1296, OTHER, BY_OTHER_SIGNER, KEY, "Bogus No signature"),
-    ("more labels than the owner has", "www.example.", 1, 3, 1296, ZONE, OF_THREE_LABELS, KEY, "Bogus Bad signature"),
-    ("an owner outside the zone", "www.other.", 1, 2, 1296, ZONE, AT_OTHER_OWNER, KEY, "Bogus Bad signature"),
-    ("a record of class CH, which it isn't beside", "www.example.", 3, 2, 1296, ZONE, OF_CLASS_CH, KEY, "Bogus No signature"),
+    ("a good signature", "www.example.", 1, 2, 1296, ZONE, GOOD, KEY, SECURE),
+    ("a key without the zone flag", "www.example.", 1, 2, 1040, ZONE, BY_NO_ZONE_KEY, NO_ZONE_KEY, BAD),
+    ("a key of protocol 2", "www.example.", 1, 2, 1040, ZONE, BY_OTHER_PROTOCOL, OTHER_PROTOCOL, BAD),
+    ("another key than it names", "www.example.", 1, 2, 1296, ZONE, GOOD, NO_ZONE_KEY, UNSIGNED),
+    ("another signer", "www.example.", 1, 2, 1296, OTHER, BY_OTHER_SIGNER, KEY, UNSIGNED),
+    ("more labels than the owner has", "www.example.", 1, 3, 1296, ZONE, OF_THREE_LABELS, KEY, BAD),
+    ("an owner outside the zone", "www.other.", 1, 2, 1296, ZONE, AT_OTHER_OWNER, KEY, BAD),
+    ("a record of class CH, which it isn't beside", "www.example.", 3, 2, 1296, ZONE, OF_CLASS_CH, KEY, UNSIGNED),
     // RFC 4035 5.3.4.
-    ("a wildcard's expansion", "a.z.w.example.", 1, 2, 1296, ZONE, OF_WILDCARD, KEY, "Secure under w.example."),
+    ("a wildcard's expansion", "a.z.w.example.", 1, 2, 1296, ZONE, OF_WILDCARD, KEY, (ValidationState::Secure, None, Some("w.example."))),
 ];
 
-// What the check of a row says.
-fn row_told(alloc: Global, row: &Row) -> Result<String, Fail> {
-    let (_, owner, class, labels, tag, signer, octets, key, _) = *row;
+// The records of a row.
+fn row_section(alloc: Global, row: &Row) -> Result<Vec<Record>, Fail> {
+    let (_, owner, class, labels, tag, signer, octets, _, _) = *row;
     let mut section = Vec::new(alloc);
     section.push(record_of(alloc, owner, Class::from_int(class), Rtype::A, ADDRESS)?)?;
     section.push(signature(alloc, owner, Rtype::A, labels, tag, signer, octets)?)?;
-    told(alloc, &check(alloc, section, key)?)
+    Ok(section)
+}
+
+// Whether the check of a row says what it is to.
+fn row_holds(alloc: Global, row: &Row) -> Result<bool, Fail> {
+    let section = row_section(alloc, row)?;
+    says(alloc, &check(alloc, section, row.7)?, row.8)
 }
 
 fn assert_rows(rt: &impl Abort, alloc: Global, rows: &[Row]) -> Result<(), Fail> {
     for row in rows {
-        let (shows, want) = (row.0, row.8);
-        assert_eq!(rt; row_told(alloc, row)?.as_str(), want, "{shows}");
+        let shows = row.0;
+        assert!(rt; row_holds(alloc, row)?, "{shows}");
     }
     Ok(())
 }
@@ -232,32 +258,36 @@ fn signatures_and_keys(rt: HostRuntime) -> Result<(), Fail> {
     assert_rows(&rt, rt.alloc(), &ROWS)
 }
 
-// Signatures without a record: what is said of one, which is of a type.
-fn alone(alloc: Global, covered: Rtype, octets: &[u8]) -> Result<String, Fail> {
+// Signatures without a record: whether this is said of one, which is of a type.
+fn alone(alloc: Global, covered: Rtype, octets: &[u8], want: Said) -> Result<bool, Fail> {
     let mut section = Vec::new(alloc);
     section.push(signature(alloc, "www.example.", covered, 2, 1296, ZONE, octets)?)?;
-    told(alloc, &check(alloc, section, KEY)?)
+    says(alloc, &check(alloc, section, KEY)?, want)
 }
 
 // A signature over no record of type RRSIG is one by its definition.
 #[test]
 fn signatures_alone(rt: HostRuntime) -> Result<(), Fail> {
-    let alloc = rt.alloc();
-    let over_nothing = alone(alloc, Rtype::RRSIG, OF_NOTHING)?;
-    assert_eq!(rt; over_nothing.as_str(), "Secure");
-    let over_addresses = alone(alloc, Rtype::A, GOOD)?;
-    assert_eq!(rt; over_addresses.as_str(), "Bogus Bad signature");
+    assert!(rt; alone(rt.alloc(), Rtype::RRSIG, OF_NOTHING, SECURE)?);
+    assert!(rt; alone(rt.alloc(), Rtype::A, GOOD, BAD)?);
     Ok(())
+}
+
+// The address at www.example., and signatures over it that name KEY.
+pub(crate) fn signed(alloc: Global, signatures: &[&[u8]]) -> Result<Vec<Record>, Fail> {
+    let mut section = Vec::new(alloc);
+    section.push(address(alloc, "www.example.")?)?;
+    for octets in signatures {
+        section.push(plain(alloc, octets)?)?;
+    }
+    Ok(section)
 }
 
 #[test]
 fn no_keys(rt: HostRuntime) -> Result<(), Fail> {
-    let alloc = rt.alloc();
-    let mut section = Vec::new(alloc);
-    section.push(address(alloc, "www.example.")?)?;
-    section.push(plain(alloc, GOOD)?)?;
-    let found = checked(alloc, section, &[], 1, 500, &mut NoMemo)?;
-    assert_eq!(rt; told(alloc, &found)?.as_str(), "Bogus No signature");
+    let section = signed(rt.alloc(), &[GOOD])?;
+    let found = checked(rt.alloc(), section, &[], 1, 500, &mut NoMemo)?;
+    assert!(rt; says(rt.alloc(), &found, UNSIGNED)?);
     Ok(())
 }
 
@@ -318,12 +348,7 @@ impl<V: Verifier> Memo<V> for Counting {
 
 // Four signatures of one key, the first two of them bad, under a memo that has no memory.
 fn two_bad_of_four(alloc: Global, max_bad: u8, memo: &mut Counting) -> Result<KeyCheck, Fail> {
-    let mut section = Vec::new(alloc);
-    section.push(address(alloc, "www.example.")?)?;
-    section.push(plain(alloc, b"first")?)?;
-    section.push(plain(alloc, b"second")?)?;
-    section.push(plain(alloc, GOOD)?)?;
-    section.push(plain(alloc, b"fourth")?)?;
+    let section = signed(alloc, &[b"first", b"second", GOOD, b"fourth"])?;
     let keys = [
         data_of(alloc, Rtype::DNSKEY, NO_ZONE_KEY)?,
         data_of(alloc, Rtype::DNSKEY, KEY)?,
@@ -331,61 +356,69 @@ fn two_bad_of_four(alloc: Global, max_bad: u8, memo: &mut Counting) -> Result<Ke
     checked(alloc, section, &keys, max_bad, 500, memo)
 }
 
+fn is_stopped(check: &KeyCheck) -> bool {
+    check.state == ValidationState::Bogus
+        && check.cause == Some(Cause::TooManyBadSignatures)
+        && check.signature.is_none()
+        && check.key.is_none()
+}
+
+// Whether the third signature is good, by the second key.
+fn is_third_good(check: &KeyCheck) -> bool {
+    check.state == ValidationState::Secure
+        && check.cause.is_none()
+        && check.signature == Some(2)
+        && check.key == Some(1)
+        && check.closest_encloser.is_none()
+}
+
 #[test]
 fn one_more_is_tried_than_may_be_bad(rt: HostRuntime) -> Result<(), Fail> {
-    let alloc = rt.alloc();
     let mut memo = Counting { asked: 0, kept: 0 };
-    let check = two_bad_of_four(alloc, 1, &mut memo)?;
-    assert!(rt; check.state == ValidationState::Bogus);
-    assert!(rt; check.cause == Some(Cause::TooManyBadSignatures));
-    assert!(rt; check.signature.is_none() && check.key.is_none());
-    assert_eq!(rt; memo.asked, 2);
-    assert_eq!(rt; memo.kept, 2);
-    let mut memo = Counting { asked: 0, kept: 0 };
-    let check = two_bad_of_four(alloc, 2, &mut memo)?;
-    assert!(rt; check.state == ValidationState::Secure);
-    assert!(rt; check.cause.is_none());
-    assert!(rt; check.signature == Some(2));
-    assert!(rt; check.key == Some(1));
-    assert!(rt; check.closest_encloser.is_none());
-    assert_eq!(rt; memo.asked, 3);
+    let check = two_bad_of_four(rt.alloc(), 1, &mut memo)?;
+    assert!(rt; is_stopped(&check) && memo.asked == 2 && memo.kept == 2);
     Ok(())
 }
 
 #[test]
-fn duplicates_are_signed_once(rt: HostRuntime) -> Result<(), Fail> {
-    let alloc = rt.alloc();
+fn a_good_one_is_found_behind_bad_ones(rt: HostRuntime) -> Result<(), Fail> {
+    let mut memo = Counting { asked: 0, kept: 0 };
+    let check = two_bad_of_four(rt.alloc(), 2, &mut memo)?;
+    assert!(rt; is_third_good(&check) && memo.asked == 3);
+    Ok(())
+}
+
+// The same mail exchange twice, under its signature.
+fn exchanges(alloc: Global) -> Result<Vec<Record>, Fail> {
     let mut section = Vec::new(alloc);
     let lower: &[u8] = b"\x00\x0a\x02mx\x07example\x00";
     let upper: &[u8] = b"\x00\x0a\x02MX\x07Example\x00";
     section.push(record_of(alloc, "WWW.example.", Class::IN, Rtype::MX, upper)?)?;
     section.push(record_of(alloc, "www.Example.", Class::IN, Rtype::MX, lower)?)?;
     section.push(signature(alloc, "www.example.", Rtype::MX, 2, 1296, ZONE, OF_EXCHANGE)?)?;
-    let found = check(alloc, section, KEY)?;
-    assert!(rt; found.state == ValidationState::Secure);
+    Ok(section)
+}
+
+#[test]
+fn duplicates_are_signed_once(rt: HostRuntime) -> Result<(), Fail> {
+    let section = exchanges(rt.alloc())?;
+    assert!(rt; check(rt.alloc(), section, KEY)?.state == ValidationState::Secure);
     Ok(())
+}
+
+fn is_secure_at(alloc: Global, seconds: u32) -> Result<bool, Fail> {
+    let section = signed(alloc, &[GOOD])?;
+    let keys = [data_of(alloc, Rtype::DNSKEY, KEY)?];
+    let found = checked(alloc, section, &keys, 1, seconds, &mut NoMemo)?;
+    Ok(found.state == ValidationState::Secure)
 }
 
 #[test]
 fn periods(rt: HostRuntime) -> Result<(), Fail> {
     let alloc = rt.alloc();
-    let rows: [(u32, bool); 4] = [
-        (0, true),
-        (1000, true),
-        (1001, false),
-        (4_294_967_295, false),
-    ];
-    for (seconds, want) in rows {
-        let mut section = Vec::new(alloc);
-        section.push(address(alloc, "www.example.")?)?;
-        section.push(plain(alloc, GOOD)?)?;
-        let keys = [data_of(alloc, Rtype::DNSKEY, KEY)?];
-        let found = checked(alloc, section, &keys, 1, seconds, &mut NoMemo)?;
-        assert_eq!(rt;
-            found.state == ValidationState::Secure,
-            want,
-            "at {seconds}"
-        );
-    }
+    assert!(rt; is_secure_at(alloc, 0)?);
+    assert!(rt; is_secure_at(alloc, 1000)?);
+    assert!(rt; !is_secure_at(alloc, 1001)?);
+    assert!(rt; !is_secure_at(alloc, 4_294_967_295)?);
     Ok(())
 }

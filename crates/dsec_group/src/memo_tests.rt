@@ -3,12 +3,13 @@
 ghost use Rattle.std.specs.Prelude.{◌≡◌};
 ghost use Rattle.dsec_crypto.specs.StandIn.{stand_in};
 
-use crate::check_tests::{GOOD, KEY, address, checked, data_of, plain};
+use crate::check_tests::{GOOD, KEY, checked, data_of, signed};
 use crate::{Memo, ValidationState};
 use dsec_crypto::StandIn;
 use dsec_name::NoMemory;
 use dsec_number::Rtype;
 use std::alloc::Global;
+use std::process::Abort;
 use std::test::Fail;
 
 /// The arguments of a check, and the verifier's answer.
@@ -108,29 +109,39 @@ fn state_of(
     seconds: u32,
     memo: &mut Last,
 ) -> Result<ValidationState, Fail> {
-    let mut section = Vec::new(alloc);
-    section.push(address(alloc, "www.example.")?)?;
-    section.push(plain(alloc, signature)?)?;
+    let section = signed(alloc, &[signature])?;
     let keys = [data_of(alloc, Rtype::DNSKEY, KEY)?];
     Ok(checked(alloc, section, &keys, 1, seconds, memo)?.state)
 }
 
+/// Signatures and moments in turn, what comes of them, and how often an answer was given again until then. Another
+/// signature isn't the one that was kept, and the period is tested each time.
+const TURNS: [(&[u8], u32, ValidationState, u32); 5] = [
+    (GOOD, 500, ValidationState::Secure, 0),
+    (GOOD, 600, ValidationState::Secure, 1),
+    (b"other", 600, ValidationState::Bogus, 1),
+    (GOOD, 600, ValidationState::Secure, 1),
+    (GOOD, 1001, ValidationState::Bogus, 1),
+];
+
+fn assert_turns(
+    rt: &impl Abort,
+    memo: &mut Last,
+    rows: &[(&[u8], u32, ValidationState, u32)],
+) -> Result<(), Fail> {
+    for (signature, seconds, want, given) in rows {
+        let state = state_of(memo.alloc, signature, *seconds, memo)?;
+        assert!(rt; state == *want && memo.given == *given);
+    }
+    Ok(())
+}
+
 #[test]
 fn an_answer_is_given_again(rt: HostRuntime) -> Result<(), Fail> {
-    let alloc = rt.alloc();
     let mut memo = Last {
-        alloc,
+        alloc: rt.alloc(),
         answer: None,
         given: 0,
     };
-    assert!(rt; state_of(alloc, GOOD, 500, &mut memo)? == ValidationState::Secure);
-    assert_eq!(rt; memo.given, 0);
-    assert!(rt; state_of(alloc, GOOD, 600, &mut memo)? == ValidationState::Secure);
-    assert_eq!(rt; memo.given, 1);
-    // Another signature isn't the one that was kept, and the period is tested each time.
-    assert!(rt; state_of(alloc, b"other", 600, &mut memo)? == ValidationState::Bogus);
-    assert!(rt; state_of(alloc, GOOD, 600, &mut memo)? == ValidationState::Secure);
-    assert!(rt; state_of(alloc, GOOD, 1001, &mut memo)? == ValidationState::Bogus);
-    assert_eq!(rt; memo.given, 1);
-    Ok(())
+    assert_turns(&rt, &mut memo, &TURNS)
 }
