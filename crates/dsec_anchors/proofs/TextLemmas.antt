@@ -6,9 +6,8 @@ use Rattle.std.proofs.lemmas.Bool.{lt-ltb}
 use Rattle.std.specs.Io.KnownBytes.{Consumes, IsAtEnd}
 use Rattle.dsec_spec.specs.Reading.{Gives}
 use Rattle.dsec_spec.specs.Records.{Record}
-use Rattle.dsec_outside.specs.declared.whole.TheConstants.{LIMIT}
 use Rattle.dsec_outside.proofs.CallerLemmas.{line_past-append, says-taken}
-use Rattle.dsec_outside.specs.Limit.{line_past}
+use Rattle.dsec_outside.specs.Limit.{limit, line_past}
 use Rattle.dsec_zonefile.specs.Entries as entry_list
 use Rattle.dsec_zonefile.specs.Entries.{Answers, HasEntries, IsNext, Reader, ended, found, no_more, refused, stops}
 use Rattle.dsec_zonefile.specs.declared.entry.Entry.{Entry}
@@ -101,10 +100,10 @@ stops_at front reader after zone.NoMemory all answers inv = tt
 -- ---- whole texts
 
 -- past the limit the rest doesn't count
-pub anchors_in-append : (default : Option ℕ) (text more : List ℕ) → LIMIT < length text → anchors_in default (text ++ more) ≡ anchors_in default text
+pub anchors_in-append : (default : Option ℕ) (text more : List ℕ) → limit < length text → anchors_in default (text ++ more) ≡ anchors_in default text
 anchors_in-append default text more l =
     let n : length (text ++ more) ≡ length text + length more = length-append text more in
-    rw (lt-ltb LIMIT (length (text ++ more)) (omega (arith, n, l)), lt-ltb LIMIT (length text) l, line_past-append text more l) refl
+    rw (lt-ltb limit (length (text ++ more)) (omega (arith, n, l)), lt-ltb limit (length text) l, line_past-append text more l) refl
 
 never_among : (entries : List Entry) (end : Option ℕ) → records_among entries end ≡ Err ReadError → ⊥
 never_among entries None e = cc
@@ -116,7 +115,7 @@ never_by false line reader e = never_among (reading reader).entries (reading rea
 
 -- no text says that a read failed
 pub never_read : (default : Option ℕ) (text : List ℕ) → anchors_in default text ≡ Err ReadError → ⊥
-never_read default text e = never_by (nat_lt LIMIT (length text)) (line_past text) (start_of default text) e
+never_read default text e = never_by (nat_lt limit (length text)) (line_past text) (start_of default text) e
 
 -- what doesn't come of a text may come of less
 more_free : (result defined : Records) → Gives wants_memory (λ (anchors : List Record). anchors) result defined → Gives is_from_outside (λ (anchors : List Record). anchors) result defined
@@ -126,7 +125,7 @@ more_free (Err ReadError) defined gives = tt
 more_free (Err NoMemory) defined gives = tt
 
 -- what was read of a source says what all of it says
-pub told_all : (left rest : Option (List ℕ)) (content text : List ℕ) (result : Records) → Consumes left rest content → (length content ≤ LIMIT → IsAtEnd rest)
+pub told_all : (left rest : Option (List ℕ)) (content text : List ℕ) (result : Records) → Consumes left rest content → (length content ≤ limit → IsAtEnd rest)
     → text ≡ content → Gives wants_memory (λ (anchors : List Record). anchors) result (anchors_in None text)
     → IfSome left (λ all. Gives is_from_outside (λ (anchors : List Record). anchors) result (anchors_in None all))
 told_all left rest content text result taken whole same_text gives = by left (says-taken (anchors_in None) (anchors_in-append None) left rest content taken whole)

@@ -1,8 +1,7 @@
 -- Trust anchors in zone text (RFC 1035 5.1).
 use Rattle.std.specs.Prelude.{ℕ, nat_lt, List, ◌++◌, length, filter_map, Bool, true, false, Option, Some, None, Result, Ok, Err, if◌then◌else◌}
 use Rattle.dsec_spec.specs.Records.{Record}
-use Rattle.dsec_outside.specs.Limit.{line_past}
-use Rattle.dsec_outside.specs.declared.whole.TheConstants.{LIMIT}
+use Rattle.dsec_outside.specs.Limit.{limit, line_past}
 use Rattle.dsec_zonefile.specs.Entries.{Reader}
 use Rattle.dsec_zonefile.specs.Setting.{at_first}
 use Rattle.dsec_zonefile.specs.declared.entry.Entry.{Entry}
@@ -58,7 +57,7 @@ start_of default text = record { text = text; passed = 0; setting = record at_fi
 
 -- the records of a zone text with this default class; or the line that is refused, or that of the first octet past the limit
 abbrev pub anchors_in : Option ℕ → List ℕ → Result (List Record) AnchorError
-anchors_in default text = if nat_lt LIMIT (length text) then refused (line_past text) else records_left (start_of default text)
+anchors_in default text = if nat_lt limit (length text) then refused (line_past text) else records_left (start_of default text)
 
 -- what a text says is added to the anchors before; a refusal stays
 abbrev pub added : List Record → Result (List Record) AnchorError → Result (List Record) AnchorError

@@ -7,20 +7,19 @@ use Rattle.std.proofs.KnownBytes.{Consumes-whole}
 use Rattle.std.proofs.lemmas.Bool.{lt-ltb, ltb-true, ltb-false}
 use Rattle.std.proofs.lemmas.List.{take-append-le, length-append}
 use Rattle.std.proofs.lemmas.Slice.Eq.{bytes_eq-Decides}
-use Rattle.dsec_outside.specs.declared.whole.TheConstants.{LIMIT}
 use Rattle.dsec_script.specs.declared.script.Script.{Script}
 use Rattle.dsec_script.specs.declared.error.Word.TheVariants as words
 use Rattle.dsec_script.specs.declared.error.Refused.{Refused}
 use Rattle.dsec_script.specs.declared.error.ScriptError.{ScriptError}
 use Rattle.dsec_script.specs.declared.error.ScriptError.TheVariants as errors
 use Rattle.dsec_script.specs.Place.{wants_memory}
-use Rattle.dsec_outside.specs.Limit.{line_past}
+use Rattle.dsec_outside.specs.Limit.{limit, line_past}
 use Rattle.dsec_script.specs.Script.{script_of}
 use Rattle.dsec_script.proofs.CallerLemmas.{script_of-taken}
 use Rattle.dsec_spec.specs.Accepts.{Accepts}
 use Rattle.dsec_answer.specs.Headline.{Answered, RefusedAt, Done}
 
-past_limit : (v : List ℕ) → nat_lt LIMIT (length v) ≡ true → script_of v ≡ Err (errors.Refused (record { line = line_past v; word = words.Size }))
+past_limit : (v : List ℕ) → nat_lt limit (length v) ≡ true → script_of v ≡ Err (errors.Refused (record { line = line_past v; word = words.Size }))
 unfolding script_of
 past_limit v t = rw t refl
 
@@ -28,20 +27,20 @@ no_refusal : (x : Script) (y : ScriptError) (read : Result Script ScriptError) �
 no_refusal x y read h k = cc
 
 -- a script is within the limit
-within : (v : List ℕ) (script : Script) → script_of v ≡ Ok script → length v ≤ LIMIT
-within v script h = by (nat_lt LIMIT (length v)) refl
+within : (v : List ℕ) (script : Script) → script_of v ≡ Ok script → length v ≤ limit
+within v script h = by (nat_lt limit (length v)) refl
   where
-    by : (t : Bool) → nat_lt LIMIT (length v) ≡ t → length v ≤ LIMIT
+    by : (t : Bool) → nat_lt limit (length v) ≡ t → length v ≤ limit
     by true t = absurd (no_refusal _ _ _ h (past_limit v t))
-    by false t = ltb-false LIMIT (length v) t
+    by false t = ltb-false limit (length v) t
 
-pub done_of : (accepts : Accepts) (left rest before after : Option (List ℕ)) (v : List ℕ) → Consumes left rest v → (length v ≤ LIMIT → IsAtEnd rest) → Answered accepts v before after → Done accepts left rest before after
+pub done_of : (accepts : Accepts) (left rest before after : Option (List ℕ)) (v : List ℕ) → Consumes left rest v → (length v ≤ limit → IsAtEnd rest) → Answered accepts v before after → Done accepts left rest before after
 done_of accepts left rest before after v c e a = record { content = v; read = c; whole = e (within v a.script a.reads); answered = a }
 
 pub told_answer : (accepts : Accepts) (left rest before after : Option (List ℕ)) → Done accepts left rest before after → IfSome left (λ xs. Answered accepts xs before after)
 told_answer accepts left rest before after d = Consumes-whole left rest d.content (λ xs. Answered accepts xs before after) d.read d.whole d.answered
 
-pub told_refusal : (left rest before after : Option (List ℕ)) (v : List ℕ) → Consumes left rest v → (length v ≤ LIMIT → IsAtEnd rest) → RefusedAt v before after → IfSome left (λ xs. RefusedAt xs before after)
+pub told_refusal : (left rest before after : Option (List ℕ)) (v : List ℕ) → Consumes left rest v → (length v ≤ limit → IsAtEnd rest) → RefusedAt v before after → IfSome left (λ xs. RefusedAt xs before after)
 told_refusal None rest before after v c e r = tt
 told_refusal (Some xs) rest before after v c e r =
     let s : script_of xs ≡ script_of v = script_of-taken (Some xs) rest v c e in

@@ -20,7 +20,6 @@ use Rattle.dsec_spec.proofs.DelegationLaws.{speaks_decides}
 use Rattle.dsec_spec.proofs.Members.{first_in, later_in, not_in_none, in_either, at_index, in_map, from_map}
 use Rattle.dsec_spec.proofs.ReadingLemmas.{from_bind}
 use Rattle.dsec_judge.specs.Admission.{Admitted, admission, admitted, admitted_by, ds_in, matching, own_key, spoken_of}
-use Rattle.dsec_judge.specs.declared.admission.TheConstants.{KEYS_FOR_DS}
 use Rattle.dsec_judge.proofs.AskingSteps.{from_position}
 
 -- what stands at the position of a test passes it
@@ -66,7 +65,7 @@ pub record IsPicked (group : Group) (anchor : Record) (k : ℕ) : Type 0 where
   pub stands_at : place anchor.owner ≡ place group.owner
   pub of_class : anchor.class ≡ IN
   pub by_type : ((anchor.rtype ≡ DNSKEY) × (position (λ (r : Record). bytes_eq r.rdata anchor.rdata) group.records ≡ Some k))
-      ⊎ ((anchor.rtype ≡ DS) × ((ds : Ds) × (ds_of anchor.rdata ≡ Some ds) × (first_key ds group.owner KEYS_FOR_DS (set_in group).datas ≡ found_at k)))
+      ⊎ ((anchor.rtype ≡ DS) × ((ds : Ds) × (ds_of anchor.rdata ≡ Some ds) × (first_key ds group.owner 4 (set_in group).datas ≡ found_at k)))
 
 pub from_admission : (group : Group) (anchor : Record) (k : ℕ) → admission group anchor ≡ found_at k → IsPicked group anchor k
 from_admission group anchor k e = by_place (same_place (place anchor.owner) (place group.owner) && (anchor.class == IN)) refl e
@@ -75,7 +74,7 @@ from_admission group anchor k e = by_place (same_place (place anchor.owner) (pla
     test r = bytes_eq r.rdata anchor.rdata
 
     with : (same_place (place anchor.owner) (place group.owner) && (anchor.class == IN)) ≡ true
-        → ((anchor.rtype ≡ DNSKEY) × (position test group.records ≡ Some k)) ⊎ ((anchor.rtype ≡ DS) × ((ds : Ds) × (ds_of anchor.rdata ≡ Some ds) × (first_key ds group.owner KEYS_FOR_DS (set_in group).datas ≡ found_at k)))
+        → ((anchor.rtype ≡ DNSKEY) × (position test group.records ≡ Some k)) ⊎ ((anchor.rtype ≡ DS) × ((ds : Ds) × (ds_of anchor.rdata ≡ Some ds) × (first_key ds group.owner 4 (set_in group).datas ≡ found_at k)))
         → IsPicked group anchor k
     with there typed =
         let both = and_parts _ _ there in
@@ -124,7 +123,7 @@ at_picked group anchor k r key picked there reads = record {
         let it : s.one ≡ r = same_Some s.one r (sym s.there ∙ there) in
         inl (own.0, sym (ap (λ (x : Record). x.rdata) (sym it) ∙ (bytes_eq-Decides s.one.rdata anchor.rdata).0 s.passes))
     | inr spoken ↦
-        inr (spoken.0, (spoken.1.0, spoken.1.1, from_search spoken.1.0 group.owner KEYS_FOR_DS k (set_in group).datas r.rdata key spoken.1.2 (mapped_at (λ (x : Record). x.rdata) group.records k r there) reads))
+        inr (spoken.0, (spoken.1.0, spoken.1.1, from_search spoken.1.0 group.owner 4 k (set_in group).datas r.rdata key spoken.1.2 (mapped_at (λ (x : Record). x.rdata) group.records k r there) reads))
   ];
 }
 

@@ -10,7 +10,6 @@ use Rattle.dsec_spec.specs.Groups.{Group, set_in}
 use Rattle.dsec_spec.specs.Trying.{pair_matches}
 use Rattle.dsec_base.specs.declared.cause.Cause.{Cause}
 use Rattle.dsec_base.specs.declared.cause.Cause.TheVariants.{NoSignature, BadSignature, TooManyDnskeysForDs}
-use Rattle.dsec_judge.specs.declared.admission.TheConstants.{KEYS_FOR_DS}
 
 -- a DNSKEY anchor admits its own key, where the set has its data
 abbrev pub own_key : Option ℕ → KeySearch
@@ -21,10 +20,10 @@ own_key None = not_found
 abbrev pub ds_in : Record → Option Ds
 ds_in anchor = if anchor.rtype == DS then ds_of anchor.rdata else None
 
--- a DS anchor admits the first key that it speaks of, where it is among so many with its algorithm and tag (RFC 4035 5.2)
+-- a DS anchor admits the first key that it speaks of, where it is among the first four with its algorithm and tag (RFC 4035 5.2)
 abbrev pub spoken_of : Group → Option Ds → KeySearch
 spoken_of group None = not_found
-spoken_of group (Some ds) = first_key ds group.owner KEYS_FOR_DS (set_in group).datas
+spoken_of group (Some ds) = first_key ds group.owner 4 (set_in group).datas
 
 -- the key of a set that an anchor admits: one of class IN at the set's owner, by its type
 abbrev pub admission : Group → Record → KeySearch

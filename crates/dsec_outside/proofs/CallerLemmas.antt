@@ -4,21 +4,20 @@ use Rattle.std.specs.Prelude.{nat_lt, IfSome}
 use Rattle.std.specs.Io.KnownBytes.{Consumes, IsAtEnd}
 use Rattle.std.proofs.lemmas.Bool.{ltb-true, ltb-false}
 use Rattle.std.proofs.lemmas.List.{take-append-le}
-use Rattle.dsec_outside.specs.Limit.{line_past}
-use Rattle.dsec_outside.specs.declared.whole.TheConstants.{LIMIT}
+use Rattle.dsec_outside.specs.Limit.{limit, line_past}
 
 -- the line of the first octet past the limit doesn't depend on those behind it
-pub line_past-append : (content more : List ℕ) → LIMIT < length content → line_past (content ++ more) ≡ line_past content
+pub line_past-append : (content more : List ℕ) → limit < length content → line_past (content ++ more) ≡ line_past content
 unfolding line_past
-line_past-append content more l = rw (take-append-le LIMIT content more (omega (arith, l))) refl
+line_past-append content more l = rw (take-append-le limit content more (omega (arith, l))) refl
 
 -- where nothing past the limit changes what octets say, what `read_all` took says what all that was left says
-pub says-taken : {A : Type 0} (says : List ℕ → A) → ((content more : List ℕ) → LIMIT < length content → says (content ++ more) ≡ says content)
-    → (left rest : Option (List ℕ)) (content : List ℕ) → Consumes left rest content → (length content ≤ LIMIT → IsAtEnd rest) → IfSome left (λ all. says all ≡ says content)
+pub says-taken : {A : Type 0} (says : List ℕ → A) → ((content more : List ℕ) → limit < length content → says (content ++ more) ≡ says content)
+    → (left rest : Option (List ℕ)) (content : List ℕ) → Consumes left rest content → (length content ≤ limit → IsAtEnd rest) → IfSome left (λ all. says all ≡ says content)
 says-taken says same None rest content taken ended = tt
 says-taken says same (Some all) None content taken ended = absurd taken
-says-taken {A} says same (Some all) (Some more) content taken ended = by (nat_lt LIMIT (length content)) refl
+says-taken {A} says same (Some all) (Some more) content taken ended = by (nat_lt limit (length content)) refl
   where
-    by : (t : Bool) → nat_lt LIMIT (length content) ≡ t → says all ≡ says content
-    by true t = ap says taken ∙ same content more (ltb-true LIMIT (length content) t)
-    by false t = ap says (taken ∙ ap (λ rest. content ++ rest) (ended (ltb-false LIMIT (length content) t)) ∙ append-nil content)
+    by : (t : Bool) → nat_lt limit (length content) ≡ t → says all ≡ says content
+    by true t = ap says taken ∙ same content more (ltb-true limit (length content) t)
+    by false t = ap says (taken ∙ ap (λ rest. content ++ rest) (ended (ltb-false limit (length content) t)) ∙ append-nil content)

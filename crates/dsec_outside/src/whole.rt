@@ -3,6 +3,7 @@
 ghost use Rattle.std.specs.Prelude.{◌≡◌, ◌+◌, ◌≤◌, length, IfOk, IsErrOf, OnErr, OnOk};
 ghost use Rattle.std.specs.Io.KnownBytes.{Appends, Consumes, IsAtEnd};
 ghost use Rattle.dsec_spec.specs.Outside.{Rose, SentFront};
+ghost use Rattle.dsec_outside.specs.Limit.{limit};
 ghost use Rattle.dsec_outside.specs.declared.whole.Stop.TheVariants.{Memory};
 
 use crate::sink::Sink;
@@ -49,8 +50,8 @@ pub fn read_all<S: Source>(alloc: Global, source: &mut S) -> Result<Vec<u8>, Sto
     ensures later { S.faults source.old ≤ S.faults source.new }
     ensures read { IsErrOf result Stop.Read → Rose (S.faults source.old) (S.faults source.new) }
     ensures taken { IfOk result (λ all. Consumes (S.left source.old) (S.left source.new) all.items) }
-    ensures whole { IfOk result (λ all. length all.items ≤ LIMIT → IsAtEnd (S.left source.new)) }
-    ensures bound { IfOk result (λ all. length all.items ≤ LIMIT + PIECE) }
+    ensures whole { IfOk result (λ all. length all.items ≤ limit → IsAtEnd (S.left source.new)) }
+    ensures bound { IfOk result (λ all. length all.items ≤ limit + PIECE) }
 {
     let mut all = Vec::new(alloc);
     let mut piece = [0u8; PIECE];

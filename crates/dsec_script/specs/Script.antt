@@ -2,8 +2,7 @@
 use Rattle.std.specs.Prelude.{ℕ, ◌+◌, nat_lt, List, [], ◌∷◌, ◌++◌, length, Result, Ok, Err, if◌then◌else◌}
 use Rattle.dsec_spec.specs.Groups.{firsts}
 use Rattle.dsec_spec.specs.Outside.{same_question, with_entry}
-use Rattle.dsec_outside.specs.Limit.{line_past}
-use Rattle.dsec_outside.specs.declared.whole.TheConstants.{LIMIT}
+use Rattle.dsec_outside.specs.Limit.{limit, line_past}
 use Rattle.dsec_script.specs.declared.error.Word.TheVariants as words
 use Rattle.dsec_script.specs.declared.error.ScriptError.{ScriptError}
 use Rattle.dsec_script.specs.declared.line.Line.{Line}
@@ -59,7 +58,7 @@ script_in lines = do
 
 -- what a script's octets say
 unfoldable pub script_of : List ℕ → Result Script ScriptError
-script_of content = if nat_lt LIMIT (length content) then refused (line_past content) words.Size else script_in (lines_of content)
+script_of content = if nat_lt limit (length content) then refused (line_past content) words.Size else script_in (lines_of content)
 
 -- the parts that a reader has, as a script
 abbrev pub parts_view : Parts → Script

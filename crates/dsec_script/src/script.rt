@@ -1,6 +1,7 @@
 //! Whole scripts.
 
 ghost use Rattle.std.specs.Prelude.{◌≡◌, ◌≤◌, length, OnOk};
+ghost use Rattle.dsec_outside.specs.Limit.{limit};
 ghost use Rattle.dsec_outside.specs.Replies.{kept_reply};
 ghost use Rattle.dsec_spec.specs.Reading.{Gives};
 ghost use Rattle.dsec_script.specs.Place.{wants_memory};
@@ -95,7 +96,7 @@ fn vector(kept: Option<Octets>) -> Option<Vec<u8>>
 
 /// What the lines of a text say.
 fn read_lines(alloc: Global, text: &[u8]) -> Result<Parts, ScriptError>
-    requires { length text.now ≤ LIMIT }
+    requires { length text.now ≤ limit }
     ensures { Gives wants_memory parts_view result (script_in (lines_of text.now)) }
 {
     let mut parts = Parts::new(alloc);

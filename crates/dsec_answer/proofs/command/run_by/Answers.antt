@@ -1,8 +1,8 @@
 use Rattle.std.proofs.Common.{◌≤◌, subst, refl, length}
 use Rattle.std.proofs.lemmas.Bool.{false≢true}
 use Rattle.std.specs.Io.KnownBytes.{Consumes, IsAtEnd}
+use Rattle.dsec_outside.specs.Limit.{limit}
 use Rattle.dsec_spec.specs.Outside.{SentFront}
-use Rattle.dsec_outside.specs.declared.whole.TheConstants.{LIMIT}
 use Rattle.dsec_answer.specs.Headline.{usage, script}
 use Rattle.dsec_answer.proofs.Top.{done_of, told_answer, told_refusal}
 use Rattle.dsec_answer.proofs.command.run_by.Goals as goal
@@ -18,7 +18,7 @@ returns-in-Err-clause-front g c =
 pub returns-in-Ok-read_all-clause-done : goal.returns-in-Ok-read_all-clause-done
 returns-in-Ok-read_all-clause-done g c = λ s.
     let taken : Consumes _ _ c.deref.result.now = rw c.deref.ensures.value c.in-Ok-read_all.ensures.taken in
-    let whole : length c.deref.result.now ≤ LIMIT → IsAtEnd _ = rw c.deref.ensures.value c.in-Ok-read_all.ensures.whole in
+    let whole : length c.deref.result.now ≤ limit → IsAtEnd _ = rw c.deref.ensures.value c.in-Ok-read_all.ensures.whole in
     done_of _ _ _ _ _ c.deref.result.now taken whole (c.answer.ensures.done s)
 
 pub returns-in-Ok-read_all-clause-told : goal.returns-in-Ok-read_all-clause-told
@@ -28,7 +28,7 @@ returns-in-Ok-read_all-clause-told g c = λ s.
 pub returns-in-Ok-read_all-clause-first : goal.returns-in-Ok-read_all-clause-first
 returns-in-Ok-read_all-clause-first g c = λ s.
     let taken : Consumes _ _ c.deref.result.now = rw c.deref.ensures.value c.in-Ok-read_all.ensures.taken in
-    let whole : length c.deref.result.now ≤ LIMIT → IsAtEnd _ = rw c.deref.ensures.value c.in-Ok-read_all.ensures.whole in
+    let whole : length c.deref.result.now ≤ limit → IsAtEnd _ = rw c.deref.ensures.value c.in-Ok-read_all.ensures.whole in
     told_refusal _ (g.S.Source.left c.read_all.new.source) _ _ c.deref.result.now taken whole (c.answer.ensures.refused s)
 
 pub returns-in-Ok-read_all-clause-front : goal.returns-in-Ok-read_all-clause-front
