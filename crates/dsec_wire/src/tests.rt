@@ -6,6 +6,7 @@ use dsec_name::{Name, Octets};
 use dsec_number::Rtype;
 use std::alloc::Global;
 use std::fmt::Write;
+use std::process::Abort;
 use std::test::Fail;
 
 fn octets(alloc: Global, text: &str) -> Result<Vec<u8>, Fail> {
@@ -137,81 +138,104 @@ fn show(alloc: Global, message: &Message) -> Result<String, Fail> {
     Ok(out)
 }
 
-#[test]
-fn messages_item_for_item(rt: HostRuntime) -> Result<(), Fail> {
-    let alloc = rt.alloc();
-    for (text, items) in MESSAGES {
-        let Ok(message) = Message::from_octets(octets(alloc, text)?) else {
-            return Ok(assert!(rt; false, "{text}"));
-        };
-        assert_eq!(rt; show(alloc, &message)?.as_str(), items);
+/// Whether the message has these items.
+fn is_shown(alloc: Global, text: &str, items: &str) -> Result<bool, Fail> {
+    match Message::from_octets(octets(alloc, text)?) {
+        Ok(message) => Ok(show(alloc, &message)?.as_str() == items),
+        Err(ShortMessage) => Ok(false),
+    }
+}
+
+fn assert_shown(rt: &impl Abort, alloc: Global, rows: &[(&str, &str)]) -> Result<(), Fail> {
+    for (text, items) in rows {
+        assert!(rt; is_shown(alloc, text, items)?, "{text}");
     }
     Ok(())
+}
+
+#[test]
+fn messages_item_for_item(rt: HostRuntime) -> Result<(), Fail> {
+    assert_shown(&rt, rt.alloc(), &MESSAGES)
+}
+
+/// Whether the sections have as many items as the header counts.
+fn fit_header(sections: &Sections, header: Header) -> bool {
+    sections.question.len() == usize::from(header.qdcount())
+        && sections.answer.len() == usize::from(header.ancount())
+        && sections.authority.len() == usize::from(header.nscount())
+}
+
+/// The same of the message's sections, where they are readable.
+fn sections_fit(alloc: Global, text: &str) -> Result<Option<bool>, Fail> {
+    let Ok(message) = Message::from_octets(octets(alloc, text)?) else {
+        return Ok(None);
+    };
+    match message.sections(alloc) {
+        Ok(sections) => Ok(Some(fit_header(&sections, message.header()))),
+        Err(_) => Ok(None),
+    }
+}
+
+/// How many of the messages have readable sections, which fit.
+fn readable_of(rt: &impl Abort, alloc: Global, rows: &[(&str, &str)]) -> Result<usize, Fail> {
+    let mut readable = 0;
+    for (text, _) in rows {
+        if let Some(fit) = sections_fit(alloc, text)? {
+            assert!(rt; fit, "{text}");
+            readable = usize::wrapping_add(readable, 1);
+        }
+    }
+    Ok(readable)
 }
 
 #[test]
 fn sections_in_one_pass(rt: HostRuntime) -> Result<(), Fail> {
-    let alloc = rt.alloc();
-    let mut readable = 0;
-    for (text, _) in MESSAGES {
-        let Ok(message) = Message::from_octets(octets(alloc, text)?) else {
-            continue;
-        };
-        if let Ok(sections) = message.sections(alloc) {
-            assert_eq!(rt;
-                sections.question.len(),
-                usize::from(message.header().qdcount())
-            );
-            assert_eq!(rt;
-                sections.answer.len(),
-                usize::from(message.header().ancount())
-            );
-            assert_eq!(rt;
-                sections.authority.len(),
-                usize::from(message.header().nscount())
-            );
-            readable = usize::wrapping_add(readable, 1);
-        }
-    }
-    assert_eq!(rt; readable, READABLE);
+    let readable = readable_of(&rt, rt.alloc(), &MESSAGES)?;
+    assert!(rt; readable == READABLE);
     Ok(())
+}
+
+/// Whether the front of a message is refused: as too short below the header's size, and else by its sections.
+fn is_refused(alloc: Global, front: &[u8]) -> Result<bool, Fail> {
+    match Message::from_octets(Vec::from_slice(alloc, front)?) {
+        Err(ShortMessage) => Ok(front.len() < 12),
+        Ok(message) => Ok(
+            front.len() >= 12 && message.sections(alloc).err() == Some(MessageError::ParseError),
+        ),
+    }
 }
 
 #[test]
 fn cut_short(rt: HostRuntime) -> Result<(), Fail> {
-    let alloc = rt.alloc();
-    let whole = octets(alloc, SIGNED)?;
+    let whole = octets(rt.alloc(), SIGNED)?;
     for size in 0..whole.len() {
-        match Message::from_octets(Vec::from_slice(alloc, &whole[..size])?) {
-            Err(ShortMessage) => assert!(rt; size < 12, "{size}"),
-            Ok(message) => {
-                assert!(rt; size >= 12, "{size}");
-                assert_eq!(rt;
-                    message.sections(alloc).err(),
-                    Some(MessageError::ParseError)
-                );
-            }
-        }
+        assert!(rt; is_refused(rt.alloc(), &whole[..size])?);
+    }
+    Ok(())
+}
+
+/// Whether the name with the place after it is read there, or none where it is unreadable.
+fn has_name(alloc: Global, text: &str, at: usize, name: &str, after: usize) -> Result<bool, Fail> {
+    match read_name(alloc, &octets(alloc, text)?, at) {
+        Ok((found, end)) => Ok(end == after && name_hexed(alloc, &found)?.as_str() == name),
+        Err(error) => Ok(error == MessageError::ParseError && name == "unreadable"),
+    }
+}
+
+fn assert_names(
+    rt: &impl Abort,
+    alloc: Global,
+    rows: &[(&str, usize, &str, usize)],
+) -> Result<(), Fail> {
+    for (text, at, name, after) in rows {
+        assert!(rt; has_name(alloc, text, *at, name, *after)?, "{text}");
     }
     Ok(())
 }
 
 #[test]
 fn names_and_pointers(rt: HostRuntime) -> Result<(), Fail> {
-    let alloc = rt.alloc();
-    for (text, at, name, after) in NAMES {
-        match read_name(alloc, &octets(alloc, text)?, at) {
-            Ok((found, end)) => {
-                assert_eq!(rt; name_hexed(alloc, &found)?.as_str(), name, "{text}");
-                assert_eq!(rt; end, after, "{text}");
-            }
-            Err(error) => {
-                assert_eq!(rt; error, MessageError::ParseError);
-                assert_eq!(rt; "unreadable", name, "{text}");
-            }
-        }
-    }
-    Ok(())
+    assert_names(&rt, rt.alloc(), &NAMES)
 }
 
 /// Octets and pointers after them, each to the one before, and the first to the front.
@@ -238,48 +262,69 @@ fn name_of(alloc: Global, sizes: &[u8]) -> Result<Vec<u8>, Fail> {
     Ok(octets)
 }
 
+/// Whether the last of so many pointers leads through all the others to the name of labels of these sizes.
+fn is_chain_readable(alloc: Global, sizes: &[u8], pointers: u16) -> Result<bool, Fail> {
+    let octets = chain(name_of(alloc, sizes)?, pointers)?;
+    let at = octets.len().saturating_sub(2);
+    Ok(read_name(alloc, &octets, at).is_ok())
+}
+
+/// The same behind the root, and behind a name of 127 labels.
+fn are_chains(alloc: Global, pointers: u16, want: bool) -> Result<bool, Fail> {
+    let of_root = is_chain_readable(alloc, &[], pointers)?;
+    let of_longest = is_chain_readable(alloc, &[1; 127], pointers)?;
+    Ok(of_root == want && of_longest == want)
+}
+
+#[test]
+fn pointers_at_their_limit(rt: HostRuntime) -> Result<(), Fail> {
+    assert!(rt; are_chains(rt.alloc(), 1, true)?);
+    assert!(rt; are_chains(rt.alloc(), 255, true)?);
+    assert!(rt; are_chains(rt.alloc(), 256, false)?);
+    assert!(rt; are_chains(rt.alloc(), 257, false)?);
+    Ok(())
+}
+
+/// Whether labels of these sizes are read as a name, and as the data of NS.
+fn are_labels(alloc: Global, sizes: &[u8], want: bool) -> Result<bool, Fail> {
+    let octets = name_of(alloc, sizes)?;
+    Ok(
+        read_name(alloc, &octets, 0).is_ok() == want
+            && Data::is_readable(Rtype::NS, &octets) == want,
+    )
+}
+
 #[test]
 fn names_at_their_limits(rt: HostRuntime) -> Result<(), Fail> {
-    let alloc = rt.alloc();
-    for (pointers, readable) in [(1, true), (255, true), (256, false), (257, false)] {
-        for labels in [0, 127] {
-            let octets = chain(name_of(alloc, &[1; 127][..labels])?, pointers)?;
-            let at = octets.len().saturating_sub(2);
-            assert_eq!(rt;
-                read_name(alloc, &octets, at).is_ok(),
-                readable,
-                "{pointers} {labels}"
-            );
-        }
+    assert!(rt; are_labels(rt.alloc(), &[63, 63, 63, 61], true)?);
+    assert!(rt; are_labels(rt.alloc(), &[63, 63, 63, 62], false)?);
+    assert!(rt; are_labels(rt.alloc(), &[1, 1, 1, 63], true)?);
+    assert!(rt; are_labels(rt.alloc(), &[1, 1, 1, 64], false)?);
+    Ok(())
+}
+
+/// Whether the data of the type have this canonical form, or none where they are unreadable.
+fn has_canonical(alloc: Global, rtype: u16, text: &str, want: &str) -> Result<bool, Fail> {
+    let rtype = Rtype::from_int(rtype);
+    let whole = octets(alloc, text)?;
+    if !Data::is_readable(rtype, &whole) {
+        return Ok(want == "unreadable");
     }
-    for (sizes, readable) in [
-        ([63, 63, 63, 61], true),
-        ([63, 63, 63, 62], false),
-        ([1, 1, 1, 63], true),
-        ([1, 1, 1, 64], false),
-    ] {
-        let octets = name_of(alloc, &sizes)?;
-        assert_eq!(rt; read_name(alloc, &octets, 0).is_ok(), readable);
-        assert_eq!(rt; Data::is_readable(Rtype::NS, &octets), readable);
+    let mut out = Vec::new(alloc);
+    Data::new(rtype, Octets::new(whole)).compose_canonical(&mut out)?;
+    Ok(hexed(alloc, &out)?.as_str() == want)
+}
+
+fn assert_data(rt: &impl Abort, alloc: Global, rows: &[(u16, &str, &str)]) -> Result<(), Fail> {
+    for (rtype, text, canonical) in rows {
+        assert!(rt; has_canonical(alloc, *rtype, text, canonical)?, "{text}");
     }
     Ok(())
 }
 
 #[test]
 fn data_by_their_type(rt: HostRuntime) -> Result<(), Fail> {
-    let alloc = rt.alloc();
-    for (rtype, text, canonical) in DATA {
-        let rtype = Rtype::from_int(rtype);
-        let whole = octets(alloc, text)?;
-        let mut out = Vec::new(alloc);
-        if Data::is_readable(rtype, &whole) {
-            Data::new(rtype, Octets::new(whole)).compose_canonical(&mut out)?;
-            assert_eq!(rt; hexed(alloc, &out)?.as_str(), canonical, "{text}");
-        } else {
-            assert_eq!(rt; "unreadable", canonical, "{text}");
-        }
-    }
-    Ok(())
+    assert_data(&rt, rt.alloc(), &DATA)
 }
 
 /// The tag of the key that data say.
@@ -290,15 +335,24 @@ fn tag_in(rdata: &Data) -> Option<u16> {
     }
 }
 
-#[test]
-fn tags(rt: HostRuntime) -> Result<(), Fail> {
-    let alloc = rt.alloc();
-    for (text, tag) in KEYS {
-        let whole = octets(alloc, text)?;
-        assert!(rt; Data::is_readable(Rtype::DNSKEY, &whole), "{text}");
-        let rdata = Data::new(Rtype::DNSKEY, Octets::new(whole));
-        assert_eq!(rt; tag_in(&rdata), Some(tag), "{text}");
-        assert!(rt; rdata.rrsig().is_none());
+/// Whether the octets are a key with this tag, and no signature.
+fn has_tag(alloc: Global, text: &str, tag: u16) -> Result<bool, Fail> {
+    let whole = octets(alloc, text)?;
+    if !Data::is_readable(Rtype::DNSKEY, &whole) {
+        return Ok(false);
+    }
+    let rdata = Data::new(Rtype::DNSKEY, Octets::new(whole));
+    Ok(tag_in(&rdata) == Some(tag) && rdata.rrsig().is_none())
+}
+
+fn assert_tags(rt: &impl Abort, alloc: Global, rows: &[(&str, u16)]) -> Result<(), Fail> {
+    for (text, tag) in rows {
+        assert!(rt; has_tag(alloc, text, *tag)?, "{text}");
     }
     Ok(())
+}
+
+#[test]
+fn tags(rt: HostRuntime) -> Result<(), Fail> {
+    assert_tags(&rt, rt.alloc(), &KEYS)
 }
