@@ -4,6 +4,7 @@ use super::*;
 use std::alloc::Global;
 use std::cmp::Ordering;
 use std::hash::{FoldHasher, Hash, Hasher};
+use std::process::Abort;
 use std::test::Fail;
 
 const LABEL_63: &str = "abcdefghijklmnopqrstuvwxyz0123456789abcdefghijklmnopqrstuvwxyz0";
@@ -25,268 +26,423 @@ fn error_of(alloc: Global, text: &str) -> Option<NameError> {
     Name::parse(alloc, text).err()
 }
 
+fn is_refused(alloc: Global, text: &str, want: NameError) -> bool {
+    error_of(alloc, text) == Some(want)
+}
+
+/// The parts as one text.
+fn joined(alloc: Global, parts: &[&str]) -> Result<String, Fail> {
+    let mut text = String::new(alloc);
+    for part in parts {
+        text.push_str(part)?;
+    }
+    Ok(text)
+}
+
+/// The name on the wire.
+fn wire_of(alloc: Global, name: &Name) -> Result<Vec<u8>, Fail> {
+    let mut octets = Vec::new(alloc);
+    name.compose(&mut octets)?;
+    Ok(octets)
+}
+
 // RFC 4034 6.1's example.
-#[test]
-fn names_stand_in_the_canonical_order(rt: HostRuntime) -> Result<(), Fail> {
-    let mut earlier = Name::root(rt.alloc());
-    for text in [
-        "example",
-        "a.example",
-        "yljkjljk.a.example",
-        "Z.a.example",
-        "zABC.a.EXAMPLE",
-        "z.example",
-        "\\001.z.example",
-        "*.z.example",
-        "\\200.z.example",
-    ] {
-        let name = Name::parse(rt.alloc(), text)?;
-        assert_eq!(rt; earlier.canonical_cmp(&name), Ordering::Less, "{text}");
-        assert!(rt; name > earlier, "{text}");
+const IN_ORDER: [&str; 9] = [
+    "example",
+    "a.example",
+    "yljkjljk.a.example",
+    "Z.a.example",
+    "zABC.a.EXAMPLE",
+    "z.example",
+    "\\001.z.example",
+    "*.z.example",
+    "\\200.z.example",
+];
+
+fn is_later(name: &Name, earlier: &Name) -> bool {
+    earlier.canonical_cmp(name) == Ordering::Less && *name > *earlier
+}
+
+/// Asserts that each name stands behind the one before it, and the first behind the root.
+fn assert_order(rt: &impl Abort, alloc: Global, texts: &[&str]) -> Result<(), Fail> {
+    let mut earlier = Name::root(alloc);
+    for text in texts {
+        let name = Name::parse(alloc, text)?;
+        assert!(rt; is_later(&name, &earlier), "{text}");
         earlier = name;
     }
     Ok(())
 }
 
 #[test]
-fn texts_of_no_name_are_refused(rt: HostRuntime) -> Result<(), Fail> {
-    let alloc = rt.alloc();
-    for text in [
-        "", "..", ".a", "a..b.", "a..", "\\256", "\\25", "\\2a5", "a.\\", "a\\",
-    ] {
-        assert_eq!(rt; error_of(alloc, text), Some(NameError::BadLabel), "{text}");
+fn names_stand_in_the_canonical_order(rt: HostRuntime) -> Result<(), Fail> {
+    assert_order(&rt, rt.alloc(), &IN_ORDER)
+}
+
+const BAD_LABELS: [&str; 10] = [
+    "", "..", ".a", "a..b.", "a..", "\\256", "\\25", "\\2a5", "a.\\", "a\\",
+];
+
+fn assert_bad_labels(rt: &impl Abort, alloc: Global, texts: &[&str]) {
+    for text in texts {
+        assert!(rt; is_refused(alloc, text, NameError::BadLabel), "{text}");
     }
-    let long = format!(in alloc; "a.{LABEL_63}z.")?;
-    assert_eq!(rt; error_of(alloc, long.as_str()), Some(NameError::LongLabel));
-    let long_and_bad = format!(in alloc; "a.{LABEL_63}z..")?;
-    assert_eq!(rt;
-        error_of(alloc, long_and_bad.as_str()),
-        Some(NameError::BadLabel)
-    );
-    let name_256 = format!(in alloc; "{LABEL_63}.{LABEL_63}.{LABEL_63}.{LABEL_61}z")?;
-    assert_eq!(rt;
-        error_of(alloc, name_256.as_str()),
-        Some(NameError::LongName)
-    );
-    let long_label_too = format!(in alloc; "{LABEL_63}.{LABEL_63}.{LABEL_63}.{LABEL_63}z")?;
-    assert_eq!(rt;
-        error_of(alloc, long_label_too.as_str()),
-        Some(NameError::LongLabel)
+}
+
+#[test]
+fn texts_of_no_name_are_refused(rt: HostRuntime) {
+    assert_bad_labels(&rt, rt.alloc(), &BAD_LABELS);
+}
+
+fn are_refused(alloc: Global, parts: &[&str], want: NameError) -> Result<bool, Fail> {
+    Ok(is_refused(alloc, joined(alloc, parts)?.as_str(), want))
+}
+
+#[test]
+fn texts_past_the_limits_are_refused(rt: HostRuntime) -> Result<(), Fail> {
+    let alloc = rt.alloc();
+    let three = joined(alloc, &[LABEL_63, ".", LABEL_63, ".", LABEL_63, "."])?;
+    assert!(rt; are_refused(alloc, &["a.", LABEL_63, "z."], NameError::LongLabel)?);
+    assert!(rt; are_refused(alloc, &["a.", LABEL_63, "z.."], NameError::BadLabel)?);
+    assert!(rt; are_refused(alloc, &[three.as_str(), LABEL_61, "z"], NameError::LongName)?);
+    assert!(rt;
+        are_refused(
+            alloc,
+            &[three.as_str(), LABEL_63, "z"],
+            NameError::LongLabel
+        )?
     );
     Ok(())
 }
 
+fn is_wire_refused(alloc: Global, wire: &[u8], want: NameError) -> bool {
+    Name::from_wire(alloc, wire).err() == Some(want)
+}
+
+/// A text of a name with 255 octets on the wire.
+const LONGEST: [&str; 7] = [LABEL_63, ".", LABEL_63, ".", LABEL_63, ".", LABEL_61];
+
 #[test]
 fn the_longest_names_are_read(rt: HostRuntime) -> Result<(), Fail> {
-    let alloc = rt.alloc();
-    let text = format!(in alloc; "{LABEL_63}.{LABEL_63}.{LABEL_63}.{LABEL_61}")?;
-    let name = Name::parse(alloc, text.as_str())?;
-    assert_eq!(rt; name.wire_len(), 255);
-    let mut octets = Vec::new(alloc);
-    name.compose(&mut octets)?;
-    assert_eq!(rt; octets.len(), 255);
-    assert!(rt; Name::from_wire(alloc, &octets)? == name);
+    let text = joined(rt.alloc(), &LONGEST)?;
+    let name = Name::parse(rt.alloc(), text.as_str())?;
+    let octets = wire_of(rt.alloc(), &name)?;
+    assert!(rt; name.wire_len() == 255 && octets.len() == 255);
+    assert!(rt; Name::from_wire(rt.alloc(), &octets)? == name);
+    Ok(())
+}
+
+// The label `A` before the longest name.
+#[test]
+fn longer_names_are_refused(rt: HostRuntime) -> Result<(), Fail> {
+    let text = joined(rt.alloc(), &LONGEST)?;
+    let mut octets = wire_of(rt.alloc(), &Name::parse(rt.alloc(), text.as_str())?)?;
     octets.insert(0, 1)?;
     octets.insert(1, 65)?;
-    assert_eq!(rt;
-        Name::from_wire(alloc, &octets).err(),
-        Some(NameError::LongName)
-    );
+    assert!(rt; is_wire_refused(rt.alloc(), &octets, NameError::LongName));
+    Ok(())
+}
+
+/// Texts in the zone `Example.org.`, and their names on the wire.
+const IN_ZONE: [(&[u8], &[u8]); 8] = [
+    (b"www", b"\x03www\x07Example\x03org\0"),
+    (b"a.b", b"\x01a\x01b\x07Example\x03org\0"),
+    (b"a.b.", b"\x01a\x01b\0"),
+    (b".", b"\0"),
+    (b"a\\.", b"\x02a.\x07Example\x03org\0"),
+    (b"a\\046", b"\x02a.\x07Example\x03org\0"),
+    (b"a\\\\.", b"\x02a\\\0"),
+    (b"\xff@", b"\x02\xff@\x07Example\x03org\0"),
+];
+
+fn is_in_zone(alloc: Global, text: &[u8], origin: &Name, want: &[u8]) -> Result<bool, Fail> {
+    let name = Name::parse_in(alloc, text, origin)?;
+    Ok(wire_of(alloc, &name)?.as_slice() == want)
+}
+
+fn assert_in_zone(rt: &impl Abort, alloc: Global, rows: &[(&[u8], &[u8])]) -> Result<(), Fail> {
+    let origin = Name::parse(alloc, "Example.org.")?;
+    for (text, wire) in rows {
+        assert!(rt; is_in_zone(alloc, text, &origin, wire)?);
+    }
     Ok(())
 }
 
 #[test]
 fn names_in_a_zone_are_relative_without_a_dot(rt: HostRuntime) -> Result<(), Fail> {
-    let alloc = rt.alloc();
-    let origin = Name::parse(alloc, "Example.org.")?;
-    let rows: [(&[u8], &[u8]); 8] = [
-        (b"www", b"\x03www\x07Example\x03org\0"),
-        (b"a.b", b"\x01a\x01b\x07Example\x03org\0"),
-        (b"a.b.", b"\x01a\x01b\0"),
-        (b".", b"\0"),
-        (b"a\\.", b"\x02a.\x07Example\x03org\0"),
-        (b"a\\046", b"\x02a.\x07Example\x03org\0"),
-        (b"a\\\\.", b"\x02a\\\0"),
-        (b"\xff@", b"\x02\xff@\x07Example\x03org\0"),
-    ];
-    for (text, wire) in rows {
-        let name = Name::parse_in(alloc, text, &origin)?;
-        let mut octets = Vec::new(alloc);
-        name.compose(&mut octets)?;
-        assert_eq!(rt; octets.as_slice(), wire);
-    }
-    Ok(())
+    assert_in_zone(&rt, rt.alloc(), &IN_ZONE)
+}
+
+/// A zone that leaves room for 62 octets of a name on the wire.
+fn long_origin(alloc: Global) -> Result<Name, Fail> {
+    let text = joined(alloc, &[LABEL_63, ".", LABEL_63, ".", LABEL_63, "."])?;
+    Ok(Name::parse(alloc, text.as_str())?)
+}
+
+fn is_refused_in(alloc: Global, text: &[u8], origin: &Name, want: NameError) -> bool {
+    Name::parse_in(alloc, text, origin).err() == Some(want)
 }
 
 #[test]
 fn the_limits_of_names_in_a_zone_count_the_origin(rt: HostRuntime) -> Result<(), Fail> {
     let alloc = rt.alloc();
-    let text = format!(in alloc; "{LABEL_63}.{LABEL_63}.{LABEL_63}.")?;
-    let origin = Name::parse(alloc, text.as_str())?;
-    let name = Name::parse_in(alloc, LABEL_61.as_bytes(), &origin)?;
-    assert_eq!(rt; name.wire_len(), 255);
-    let longer = Name::parse_in(alloc, &LABEL_63.as_bytes()[..62], &origin);
-    assert_eq!(rt; longer.err(), Some(NameError::LongName));
-    assert!(rt; Name::parse_in(alloc, b"a.b.", &origin)? == Name::parse(alloc, "a.b")?);
-    let empty = Name::parse_in(alloc, b"", &origin);
-    assert_eq!(rt; empty.err(), Some(NameError::BadLabel));
+    let origin = long_origin(alloc)?;
+    assert!(rt; Name::parse_in(alloc, LABEL_61.as_bytes(), &origin)?.wire_len() == 255);
+    let longer = &LABEL_63.as_bytes()[..62];
+    assert!(rt; is_refused_in(alloc, longer, &origin, NameError::LongName));
+    assert!(rt; is_refused_in(alloc, b"", &origin, NameError::BadLabel));
     Ok(())
 }
 
 #[test]
-fn octets_of_no_name_are_refused(rt: HostRuntime) -> Result<(), Fail> {
-    let alloc = rt.alloc();
-    let wires: [&[u8]; 6] = [
-        &[],
-        &[1, 97],
-        &[0, 0],
-        &[2, 97, 0],
-        &[192, 12],
-        &[1, 97, 0, 0],
-    ];
+fn names_with_a_dot_do_not_count_the_origin(rt: HostRuntime) -> Result<(), Fail> {
+    let origin = long_origin(rt.alloc())?;
+    let name = Name::parse_in(rt.alloc(), b"a.b.", &origin)?;
+    assert!(rt; name == Name::parse(rt.alloc(), "a.b")?);
+    Ok(())
+}
+
+const NO_NAMES: [&[u8]; 6] = [
+    &[],
+    &[1, 97],
+    &[0, 0],
+    &[2, 97, 0],
+    &[192, 12],
+    &[1, 97, 0, 0],
+];
+
+fn assert_no_names(rt: &impl Abort, alloc: Global, wires: &[&[u8]]) {
     for wire in wires {
-        assert_eq!(rt;
-            Name::from_wire(alloc, wire).err(),
-            Some(NameError::BadLabel)
-        );
+        assert!(rt; is_wire_refused(alloc, wire, NameError::BadLabel));
     }
-    let mut long = Vec::new(alloc);
-    long.push(64)?;
-    for _ in 0..64 {
-        long.push(97)?;
+}
+
+#[test]
+fn octets_of_no_name_are_refused(rt: HostRuntime) {
+    assert_no_names(&rt, rt.alloc(), &NO_NAMES);
+}
+
+/// A label of these octets so often, without the root's behind it.
+fn push_label(octets: &mut Vec<u8>, size: u8, octet: u8) -> Result<(), Fail> {
+    octets.push(size)?;
+    for _ in 0..size {
+        octets.push(octet)?;
     }
-    assert_eq!(rt;
-        Name::from_wire(alloc, &long).err(),
-        Some(NameError::BadLabel)
-    );
+    Ok(())
+}
+
+#[test]
+fn long_labels_are_refused(rt: HostRuntime) -> Result<(), Fail> {
+    let mut long = Vec::new(rt.alloc());
+    push_label(&mut long, 64, 97)?;
+    assert!(rt; is_wire_refused(rt.alloc(), &long, NameError::BadLabel));
     long.push(0)?;
-    assert_eq!(rt;
-        Name::from_wire(alloc, &long).err(),
-        Some(NameError::LongLabel)
-    );
+    assert!(rt; is_wire_refused(rt.alloc(), &long, NameError::LongLabel));
     Ok(())
 }
 
 #[test]
 fn escapes_write_octets(rt: HostRuntime) -> Result<(), Fail> {
-    let alloc = rt.alloc();
-    let plain = Name::parse(alloc, "a\\.b.C")?;
-    let number = Name::parse(alloc, "a\\046b.c.")?;
-    assert!(rt; plain == number);
-    assert_eq!(rt; hash_of(&plain), hash_of(&number));
-    let mut octets = Vec::new(alloc);
+    let plain = Name::parse(rt.alloc(), "a\\.b.C")?;
+    let number = Name::parse(rt.alloc(), "a\\046b.c.")?;
+    assert!(rt; plain == number && hash_of(&plain) == hash_of(&number));
+    Ok(())
+}
+
+#[test]
+fn octets_are_added(rt: HostRuntime) -> Result<(), Fail> {
+    let plain = Name::parse(rt.alloc(), "a\\.b.C")?;
+    let mut octets = Vec::new(rt.alloc());
     octets.push(7)?;
     plain.compose(&mut octets)?;
-    assert_eq!(rt; octets.as_slice(), [7, 3, 97, 46, 98, 1, 67, 0].as_slice());
+    assert!(rt; octets.as_slice() == b"\x07\x03a.b\x01C\x00".as_slice());
     plain.compose_canonical(&mut octets)?;
-    assert_eq!(rt;
-        octets.as_slice(),
-        [7, 3, 97, 46, 98, 1, 67, 0, 3, 97, 46, 98, 1, 99, 0].as_slice()
-    );
+    assert!(rt; octets.as_slice() == b"\x07\x03a.b\x01C\x00\x03a.b\x01c\x00".as_slice());
+    Ok(())
+}
+
+/// Texts, and how their names are shown, which are texts of the same names.
+const SHOWN: [(&str, &str); 5] = [
+    (".", "."),
+    ("Example", "Example."),
+    ("*._a-9.b.", "*._a-9.b."),
+    ("a\\.b\\\\.\\000\\255\\\"", "a\\046b\\092.\\000\\255\\034."),
+    ("\u{e9}.", "\\195\\169."),
+];
+
+fn is_shown(alloc: Global, text: &str, want: &str) -> Result<bool, Fail> {
+    Ok(shown(alloc, text)?.as_str() == want)
+}
+
+fn assert_shown(rt: &impl Abort, alloc: Global, rows: &[(&str, &str)]) -> Result<(), Fail> {
+    for (text, want) in rows {
+        assert!(rt; is_shown(alloc, text, want)? && is_shown(alloc, want, want)?);
+    }
     Ok(())
 }
 
 #[test]
 fn names_are_shown(rt: HostRuntime) -> Result<(), Fail> {
-    let alloc = rt.alloc();
-    for (text, want) in [
-        (".", "."),
-        ("Example", "Example."),
-        ("*._a-9.b.", "*._a-9.b."),
-        ("a\\.b\\\\.\\000\\255\\\"", "a\\046b\\092.\\000\\255\\034."),
-        ("\u{e9}.", "\\195\\169."),
-    ] {
-        let text = shown(alloc, text)?;
-        assert_eq!(rt; text.as_str(), want);
-        assert_eq!(rt; shown(alloc, want)?.as_str(), want);
-    }
-    let name = Name::parse(alloc, "a.b")?;
-    assert_eq!(rt; format!(in alloc; "{name:?}")?.as_str(), "a.b.");
-    assert_eq!(rt;
-        format!(in alloc; "{NoMemory} {}", NameError::LongName)?.as_str(),
-        "out of memory LongName"
-    );
+    assert_shown(&rt, rt.alloc(), &SHOWN)
+}
+
+#[test]
+fn names_are_shown_where_all_is(rt: HostRuntime) -> Result<(), Fail> {
+    let name = Name::parse(rt.alloc(), "a.b")?;
+    let text = format!(in rt.alloc(); "{name:?}")?;
+    assert!(rt; text.as_str() == "a.b.");
+    Ok(())
+}
+
+#[test]
+fn errors_are_shown(rt: HostRuntime) -> Result<(), Fail> {
+    let text = format!(in rt.alloc(); "{NoMemory} {}", NameError::LongName)?;
+    assert!(rt; text.as_str() == "out of memory LongName");
     Ok(())
 }
 
 #[test]
 fn names_stand_under_others(rt: HostRuntime) -> Result<(), Fail> {
-    let alloc = rt.alloc();
-    let name = Name::parse(alloc, "*.a.Example")?;
-    let apex = Name::parse(alloc, "eXample.")?;
-    let other = Name::parse(alloc, "xample.")?;
-    let root = Name::root(alloc);
-    assert!(rt; name.ends_with(&apex) && name.ends_with(&name) && name.ends_with(&root));
-    assert!(rt; !apex.ends_with(&name) && !apex.ends_with(&other) && !root.ends_with(&apex));
-    assert_eq!(rt; (name.label_count(), name.rrsig_label_count()), (4, 2));
-    assert_eq!(rt; (apex.label_count(), apex.rrsig_label_count()), (2, 1));
-    assert_eq!(rt; (root.label_count(), root.rrsig_label_count()), (1, 0));
-    assert!(rt; root.is_root() && !apex.is_root());
-    let parent = name.parent()?.ok_or(NoMemory)?;
-    assert_eq!(rt; format!(in alloc; "{parent}")?.as_str(), "a.Example.");
-    assert!(rt; apex.parent()? == Some(root.clone()?));
+    let name = Name::parse(rt.alloc(), "*.a.Example")?;
+    let apex = Name::parse(rt.alloc(), "eXample.")?;
+    let other = Name::parse(rt.alloc(), "xample.")?;
+    let root = Name::root(rt.alloc());
+    let under = name.ends_with(&apex) && name.ends_with(&name) && name.ends_with(&root);
+    let beside = apex.ends_with(&name) || apex.ends_with(&other) || root.ends_with(&apex);
+    assert!(rt; under && !beside && root.is_root() && !apex.is_root());
+    Ok(())
+}
+
+/// Whether the name has so many labels, and an RRSIG record counts so many of them.
+fn has_counts(alloc: Global, text: &str, labels: usize, rrsig_labels: u8) -> Result<bool, Fail> {
+    let name = Name::parse(alloc, text)?;
+    Ok(name.label_count() == labels && name.rrsig_label_count() == rrsig_labels)
+}
+
+#[test]
+fn labels_are_counted(rt: HostRuntime) -> Result<(), Fail> {
+    assert!(rt; has_counts(rt.alloc(), "*.a.Example", 4, 2)?);
+    assert!(rt; has_counts(rt.alloc(), "eXample.", 2, 1)?);
+    assert!(rt; has_counts(rt.alloc(), ".", 1, 0)?);
+    Ok(())
+}
+
+/// Whether the name's parent is shown so.
+fn has_parent(alloc: Global, text: &str, want: &str) -> Result<bool, Fail> {
+    match Name::parse(alloc, text)?.parent()? {
+        Some(parent) => Ok(format!(in alloc; "{parent}")?.as_str() == want),
+        None => Ok(false),
+    }
+}
+
+#[test]
+fn names_have_parents(rt: HostRuntime) -> Result<(), Fail> {
+    let root = Name::root(rt.alloc());
+    assert!(rt; has_parent(rt.alloc(), "*.a.Example", "a.Example.")?);
+    assert!(rt; Name::parse(rt.alloc(), "eXample.")?.parent()? == Some(root.clone()?));
     assert!(rt; root.parent()?.is_none());
     Ok(())
 }
 
+/// Whether the borrowed name is the one of this text.
+fn is_name(alloc: Global, borrowed: &NameRef<'_>, text: &str) -> Result<bool, Fail> {
+    Ok(borrowed.is(&Name::parse(alloc, text)?))
+}
+
 #[test]
 fn names_are_borrowed(rt: HostRuntime) -> Result<(), Fail> {
-    let alloc = rt.alloc();
-    let octets: &[u8] = b"\x01A\x07Example\x00\x01";
-    let (borrowed, rest) = NameRef::from_prefix(octets).ok_or(NoMemory)?;
-    assert!(rt; rest == [1].as_slice());
-    assert_eq!(rt; borrowed.label_count(), 3);
-    let name = Name::parse(alloc, "a.eXample")?;
-    assert!(rt; borrowed.is(&name) && !borrowed.is(&Name::parse(alloc, "b.example")?));
-    assert!(rt; !borrowed.is(&Name::parse(alloc, "example")?) && !borrowed.is(&Name::root(alloc)));
-    let kept = borrowed.to_name(alloc)?;
-    assert!(rt; kept == name);
-    assert_eq!(rt; format!(in alloc; "{kept}")?.as_str(), "A.Example.");
-    let mut out = Vec::new(alloc);
-    kept.as_name_ref().compose_canonical(&mut out)?;
-    assert!(rt; out.as_slice() == b"\x01a\x07example\x00".as_slice());
-    let (root, rest) = NameRef::from_prefix(b"\x00\x00").ok_or(NoMemory)?;
-    assert!(rt; root.is(&Name::root(alloc)) && rest.len() == 1);
-    assert_eq!(rt; root.label_count(), 1);
+    let Some((borrowed, rest)) = NameRef::from_prefix(b"\x01A\x07Example\x00\x01") else {
+        return Err(Fail::from("no name"));
+    };
+    assert!(rt; rest == [1].as_slice() && borrowed.label_count() == 3);
+    assert!(rt; is_name(rt.alloc(), &borrowed, "a.eXample")?);
+    assert!(rt; !is_name(rt.alloc(), &borrowed, "b.example")?);
+    assert!(rt; !is_name(rt.alloc(), &borrowed, "example")?);
+    assert!(rt; !is_name(rt.alloc(), &borrowed, ".")?);
     Ok(())
 }
 
 #[test]
-fn octets_begin_with_no_name(rt: HostRuntime) -> Result<(), Fail> {
-    let alloc = rt.alloc();
-    let wires: [&[u8]; 4] = [&[], &[1, 97], &[2, 97, 0], &[192, 12]];
-    for wire in wires {
-        assert!(rt; NameRef::from_prefix(wire).is_none());
-    }
-    for (last, is_name) in [(61, true), (62, false), (64, false)] {
-        let mut octets = Vec::new(alloc);
-        for size in [63, 63, 63, last] {
-            octets.push(size)?;
-            for _ in 0..size {
-                octets.push(97)?;
-            }
-        }
-        octets.push(0)?;
-        assert_eq!(rt; NameRef::from_prefix(&octets).is_some(), is_name, "{last}");
-    }
+fn borrowed_names_are_kept(rt: HostRuntime) -> Result<(), Fail> {
+    let Some((borrowed, _)) = NameRef::from_prefix(b"\x01A\x07Example\x00\x01") else {
+        return Err(Fail::from("no name"));
+    };
+    let kept = borrowed.to_name(rt.alloc())?;
+    assert!(rt; kept == Name::parse(rt.alloc(), "a.eXample")?);
+    let text = format!(in rt.alloc(); "{kept}")?;
+    assert!(rt; text.as_str() == "A.Example.");
+    Ok(())
+}
+
+#[test]
+fn names_are_lent(rt: HostRuntime) -> Result<(), Fail> {
+    let Some((borrowed, _)) = NameRef::from_prefix(b"\x01A\x07Example\x00\x01") else {
+        return Err(Fail::from("no name"));
+    };
+    let kept = borrowed.to_name(rt.alloc())?;
+    let mut out = Vec::new(rt.alloc());
+    kept.as_name_ref().compose_canonical(&mut out)?;
+    assert!(rt; out.as_slice() == b"\x01a\x07example\x00".as_slice());
+    Ok(())
+}
+
+#[test]
+fn the_root_is_borrowed(rt: HostRuntime) -> Result<(), Fail> {
+    let Some((root, rest)) = NameRef::from_prefix(b"\x00\x00") else {
+        return Err(Fail::from("no name"));
+    };
+    assert!(rt; root.is(&Name::root(rt.alloc())) && rest.len() == 1 && root.label_count() == 1);
+    Ok(())
+}
+
+#[test]
+fn octets_begin_with_no_name(rt: HostRuntime) {
+    assert!(rt; NameRef::from_prefix(&[]).is_none());
+    assert!(rt; NameRef::from_prefix(&[1, 97]).is_none());
+    assert!(rt; NameRef::from_prefix(&[2, 97, 0]).is_none());
+    assert!(rt; NameRef::from_prefix(&[192, 12]).is_none());
+}
+
+/// Whether three labels of 63 octets and one of this size begin with a name.
+fn begins_with_name(alloc: Global, last: u8) -> Result<bool, Fail> {
     let mut octets = Vec::new(alloc);
-    octets.push(64)?;
-    for _ in 0..65 {
-        octets.push(0)?;
+    for size in [63, 63, 63, last] {
+        push_label(&mut octets, size, 97)?;
     }
+    octets.push(0)?;
+    Ok(NameRef::from_prefix(&octets).is_some())
+}
+
+#[test]
+fn octets_begin_with_names_up_to_the_limits(rt: HostRuntime) -> Result<(), Fail> {
+    assert!(rt; begins_with_name(rt.alloc(), 61)?);
+    assert!(rt; !begins_with_name(rt.alloc(), 62)?);
+    assert!(rt; !begins_with_name(rt.alloc(), 64)?);
+    Ok(())
+}
+
+#[test]
+fn a_long_label_of_zeros_is_no_name(rt: HostRuntime) -> Result<(), Fail> {
+    let mut octets = Vec::new(rt.alloc());
+    push_label(&mut octets, 64, 0)?;
+    octets.push(0)?;
     assert!(rt; NameRef::from_prefix(&octets).is_none());
     Ok(())
 }
 
 #[test]
 fn octets_are_ordered(rt: HostRuntime) -> Result<(), Fail> {
-    let alloc = rt.alloc();
-    let shorter = Octets::new([1, 2].to_vec(alloc)?);
-    let longer = Octets::from([1, 2, 0].to_vec(alloc)?);
+    let shorter = Octets::new([1, 2].to_vec(rt.alloc())?);
+    let longer = Octets::from([1, 2, 0].to_vec(rt.alloc())?);
     assert!(rt; shorter < longer && shorter != longer && !shorter.is_empty());
+    Ok(())
+}
+
+#[test]
+fn octets_are_copied(rt: HostRuntime) -> Result<(), Fail> {
+    let longer = Octets::from([1, 2, 0].to_vec(rt.alloc())?);
     let copy = longer.clone()?;
-    assert!(rt; copy == longer);
-    assert_eq!(rt; copy.len(), 3);
-    assert_eq!(rt; copy.into_vec().as_slice(), longer.as_slice());
+    assert!(rt; copy == longer && copy.len() == 3);
+    assert!(rt; copy.into_vec().as_slice() == longer.as_slice());
     Ok(())
 }
