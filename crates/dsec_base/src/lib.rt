@@ -7,6 +7,7 @@ mod laws;
 mod layout_tests;
 #[cfg(test)]
 mod layout_vectors;
+mod numbers;
 #[cfg(test)]
 mod tests;
 #[cfg(test)]
@@ -34,3 +35,7 @@ pub use dsec_wire::{
 };
 pub use dsec_zonefile::{Entry, InplaceError, Zonefile, ZonefileError};
 pub use laws::law_of_causes;
+pub use numbers::{
+    law_of_algorithm_numbers, law_of_class_numbers, law_of_digest_numbers,
+    law_of_dnssec_type_numbers, law_of_flags, law_of_rcode_numbers, law_of_type_numbers,
+};
