@@ -10,7 +10,6 @@ use dsec_name::NoMemory;
 use dsec_number::Rtype;
 use std::alloc::Global;
 use std::process::Abort;
-use std::test::Fail;
 
 /// The arguments of a check, and the verifier's answer.
 #[derive(Drop)]
@@ -102,16 +101,24 @@ impl Memo<StandIn> for Last {
     }
 }
 
-// What the address at www.example. comes to under a signature.
-fn state_of(
+// Whether this is what the address at www.example. comes to under a signature.
+fn comes_to(
     alloc: Global,
     signature: &[u8],
     seconds: u32,
     memo: &mut Last,
-) -> Result<ValidationState, Fail> {
-    let section = signed(alloc, &[signature])?;
-    let keys = [data_of(alloc, Rtype::DNSKEY, KEY)?];
-    Ok(checked(alloc, section, &keys, 1, seconds, memo)?.state)
+    want: ValidationState,
+) -> bool {
+    let Some(section) = signed(alloc, &[signature]) else {
+        return false;
+    };
+    let Some(key) = data_of(alloc, Rtype::DNSKEY, KEY) else {
+        return false;
+    };
+    match checked(alloc, section, &[key], 1, seconds, memo) {
+        Some(check) => check.state == want,
+        None => false,
+    }
 }
 
 /// Signatures and moments in turn, what comes of them, and how often an answer was given again until then. Another
@@ -124,24 +131,19 @@ const TURNS: [(&[u8], u32, ValidationState, u32); 5] = [
     (GOOD, 1001, ValidationState::Bogus, 1),
 ];
 
-fn assert_turns(
-    rt: &impl Abort,
-    memo: &mut Last,
-    rows: &[(&[u8], u32, ValidationState, u32)],
-) -> Result<(), Fail> {
+fn assert_turns(rt: &impl Abort, memo: &mut Last, rows: &[(&[u8], u32, ValidationState, u32)]) {
     for (signature, seconds, want, given) in rows {
-        let state = state_of(memo.alloc, signature, *seconds, memo)?;
-        assert!(rt; state == *want && memo.given == *given);
+        assert!(rt; comes_to(memo.alloc, signature, *seconds, memo, *want));
+        assert!(rt; memo.given == *given);
     }
-    Ok(())
 }
 
 #[test]
-fn an_answer_is_given_again(rt: HostRuntime) -> Result<(), Fail> {
+fn an_answer_is_given_again(rt: HostRuntime) {
     let mut memo = Last {
         alloc: rt.alloc(),
         answer: None,
         given: 0,
     };
-    assert_turns(&rt, &mut memo, &TURNS)
+    assert_turns(&rt, &mut memo, &TURNS);
 }

@@ -1,30 +1,42 @@
 //! Sections in groups: signatures, letters, duplicates and order.
 
 use super::*;
-use dsec_name::{Name, Octets};
+use dsec_name::{Name, NoMemory, Octets};
 use dsec_number::{Class, Rtype, Ttl};
 use dsec_wire::{Data, Record, Records};
 use std::alloc::Global;
-use std::process::Abort;
-use std::test::Fail;
-
-fn record_of(
-    alloc: Global,
-    owner: &str,
-    class: Class,
-    rtype: Rtype,
-    octets: &[u8],
-) -> Result<Record, Fail> {
-    if !Data::is_readable(rtype, octets) {
-        return Err(Fail::new("unreadable"));
-    }
-    let owner = Name::parse(alloc, owner)?;
-    let data = Data::new(rtype, Octets::new(Vec::from_slice(alloc, octets)?));
-    Ok(Record::new(owner, class, Ttl::from_secs(3600), data))
-}
 
 /// A record: its owner, class, type and data.
-type Row = (&'static str, Class, Rtype, &'static [u8]);
+type Row = (&'static str, u16, u16, &'static [u8]);
+
+const IN: u16 = 1;
+
+const CH: u16 = 3;
+
+const A: u16 = 1;
+
+const MX: u16 = 15;
+
+const AAAA: u16 = 28;
+
+const RRSIG: u16 = 46;
+
+const NSEC: u16 = 47;
+
+fn record_of(alloc: Global, owner: &str, class: u16, rtype: u16, octets: &[u8]) -> Option<Record> {
+    let rtype = Rtype::from_int(rtype);
+    if !Data::is_readable(rtype, octets) {
+        return None;
+    }
+    let Ok(owner) = Name::parse(alloc, owner) else {
+        return None;
+    };
+    let Ok(octets) = Vec::from_slice(alloc, octets) else {
+        return None;
+    };
+    let data = Data::new(rtype, Octets::new(octets));
+    Some(Record::new(owner, Class::from_int(class), Ttl::from_secs(3600), data))
+}
 
 const ADDRESS_1: &[u8] = b"\xc0\x00\x02\x01";
 
@@ -38,25 +50,33 @@ const OVER_MX: &[u8] =
     b"\x00\x0f\x08\x01\x00\x00\x0e\x10\x00\x00\x00\x09\x00\x00\x00\x01\x00\x07\x01z\x00\x05\x05";
 
 /// The groups of a section with these records.
-fn grouped(alloc: Global, rows: &[Row]) -> Result<GroupSet, Fail> {
+fn grouped(alloc: Global, rows: &[Row]) -> Option<GroupSet> {
     let mut section = Vec::new(alloc);
     for (owner, class, rtype, octets) in rows {
-        section.push(record_of(alloc, owner, *class, *rtype, octets)?)?;
+        let Some(record) = record_of(alloc, owner, *class, *rtype, octets) else {
+            return None;
+        };
+        if section.push(record).is_err() {
+            return None;
+        }
     }
-    Ok(groups(alloc, Records::new(section))?)
+    match groups(alloc, Records::new(section)) {
+        Ok(found) => Some(found),
+        Err(NoMemory) => None,
+    }
 }
 
 /// Whether the group at this index has the type and so many records and signatures, and whether it had a duplicate.
 fn is_like(
     found: &GroupSet,
     at: usize,
-    rtype: Rtype,
+    rtype: u16,
     counts: (usize, usize),
     duplicate: bool,
 ) -> bool {
     match found.as_slice().get(at) {
         Some(group) => {
-            group.rtype() == rtype
+            group.rtype() == Rtype::from_int(rtype)
                 && group.rr_set().len() == counts.0
                 && group.sig_set().len() == counts.1
                 && group.sig_set_len() == counts.1
@@ -66,92 +86,96 @@ fn is_like(
     }
 }
 
-fn has_class(found: &GroupSet, at: usize, class: Class) -> bool {
+fn has_class(found: &GroupSet, at: usize, class: u16) -> bool {
     match found.as_slice().get(at) {
-        Some(group) => group.class() == class,
+        Some(group) => group.class() == Class::from_int(class),
         None => false,
     }
 }
 
 /// Whether the group at this index is at the name.
-fn is_at(alloc: Global, found: &GroupSet, at: usize, name: &str) -> Result<bool, Fail> {
-    let name = Name::parse(alloc, name)?;
-    match found.as_slice().get(at) {
-        Some(group) => Ok(*group.owner() == name),
-        None => Ok(false),
+fn is_at(alloc: Global, found: &GroupSet, at: usize, name: &str) -> bool {
+    match (found.as_slice().get(at), Name::parse(alloc, name)) {
+        (Some(group), Ok(name)) => *group.owner() == name,
+        _ => false,
     }
 }
 
 /// Whether the owner of the group at this index is shown so.
-fn is_shown(alloc: Global, found: &GroupSet, at: usize, text: &str) -> Result<bool, Fail> {
-    match found.as_slice().get(at) {
-        Some(group) => Ok(format!(in alloc; "{}", group.owner())?.as_str() == text),
-        None => Ok(false),
+fn is_shown(alloc: Global, found: &GroupSet, at: usize, text: &str) -> bool {
+    let Some(group) = found.as_slice().get(at) else {
+        return false;
+    };
+    match format!(in alloc; "{}", group.owner()) {
+        Ok(shown) => shown.as_str() == text,
+        Err(_) => false,
     }
 }
 
-/// Asserts that there is one group, of addresses, with so many records, one signature and the owner as shown.
-fn assert_one(
-    rt: &impl Abort,
-    alloc: Global,
-    rows: &[Row],
-    records: usize,
-    owner: &str,
-) -> Result<(), Fail> {
-    let found = grouped(alloc, rows)?;
-    assert!(rt; found.len() == 1 && has_class(&found, 0, Class::IN));
-    assert!(rt; is_like(&found, 0, Rtype::A, (records, 1), false));
-    assert!(rt; is_at(alloc, &found, 0, "a.example.")? && is_shown(alloc, &found, 0, owner)?);
-    Ok(())
+/// Whether there is one group, of addresses, with so many records, one signature and the owner as shown.
+fn is_one(alloc: Global, rows: &[Row], records: usize, owner: &str) -> bool {
+    let Some(found) = grouped(alloc, rows) else {
+        return false;
+    };
+    found.len() == 1
+        && has_class(&found, 0, IN)
+        && is_like(&found, 0, A, (records, 1), false)
+        && is_at(alloc, &found, 0, "a.example.")
+        && is_shown(alloc, &found, 0, owner)
 }
 
 const SIGNED: [Row; 3] = [
-    ("A.Example.", Class::IN, Rtype::A, ADDRESS_1),
-    ("a.example.", Class::IN, Rtype::RRSIG, OVER_A),
-    ("a.example.", Class::IN, Rtype::A, ADDRESS_2),
+    ("A.Example.", IN, A, ADDRESS_1),
+    ("a.example.", IN, RRSIG, OVER_A),
+    ("a.example.", IN, A, ADDRESS_2),
 ];
 
 #[test]
-fn records_and_their_signature_make_a_group(rt: HostRuntime) -> Result<(), Fail> {
-    assert_one(&rt, rt.alloc(), &SIGNED, 2, "A.Example.")
+fn records_and_their_signature_make_a_group(rt: HostRuntime) {
+    assert!(rt; is_one(rt.alloc(), &SIGNED, 2, "A.Example."));
 }
 
 const SIGNATURE_FIRST: [Row; 2] = [
-    ("A.example.", Class::IN, Rtype::RRSIG, OVER_A),
-    ("a.EXAMPLE.", Class::IN, Rtype::A, ADDRESS_1),
+    ("A.example.", IN, RRSIG, OVER_A),
+    ("a.EXAMPLE.", IN, A, ADDRESS_1),
 ];
 
 #[test]
-fn the_owner_is_that_of_the_first_record(rt: HostRuntime) -> Result<(), Fail> {
-    assert_one(&rt, rt.alloc(), &SIGNATURE_FIRST, 1, "a.EXAMPLE.")
+fn the_owner_is_that_of_the_first_record(rt: HostRuntime) {
+    assert!(rt; is_one(rt.alloc(), &SIGNATURE_FIRST, 1, "a.EXAMPLE."));
 }
 
 const UNLIKE: [Row; 5] = [
-    ("b.", Class::IN, Rtype::A, ADDRESS_1),
-    ("b.", Class::CH, Rtype::A, ADDRESS_1),
-    ("a.", Class::IN, Rtype::A, ADDRESS_1),
-    ("b.", Class::IN, Rtype::AAAA, &[1; 16]),
-    ("B.", Class::IN, Rtype::A, ADDRESS_2),
+    ("b.", IN, A, ADDRESS_1),
+    ("b.", CH, A, ADDRESS_1),
+    ("a.", IN, A, ADDRESS_1),
+    ("b.", IN, AAAA, &[1; 16]),
+    ("B.", IN, A, ADDRESS_2),
 ];
 
-// In order of first arrival.
+/// Whether these are groups of their own, in order of first arrival.
+fn are_four(alloc: Global, rows: &[Row]) -> bool {
+    let Some(found) = grouped(alloc, rows) else {
+        return false;
+    };
+    found.len() == 4
+        && is_like(&found, 0, A, (2, 0), false)
+        && has_class(&found, 1, CH)
+        && is_at(alloc, &found, 2, "a.")
+        && is_like(&found, 3, AAAA, (1, 0), false)
+}
+
 #[test]
-fn other_classes_owners_and_types_make_other_groups(rt: HostRuntime) -> Result<(), Fail> {
-    let found = grouped(rt.alloc(), &UNLIKE)?;
-    assert!(rt; found.len() == 4);
-    assert!(rt; is_like(&found, 0, Rtype::A, (2, 0), false));
-    assert!(rt; has_class(&found, 1, Class::CH));
-    assert!(rt; is_at(rt.alloc(), &found, 2, "a.")?);
-    assert!(rt; is_like(&found, 3, Rtype::AAAA, (1, 0), false));
-    Ok(())
+fn other_classes_owners_and_types_make_other_groups(rt: HostRuntime) {
+    assert!(rt; are_four(rt.alloc(), &UNLIKE));
 }
 
 // Mail exchanges of preference 10 at `a.` and `A.`, and next names of a zone with the type A.
 const LETTERS: [Row; 4] = [
-    ("m.", Class::IN, Rtype::MX, b"\x00\x0a\x01a\x00"),
-    ("m.", Class::IN, Rtype::MX, b"\x00\x0a\x01A\x00"),
-    ("n.", Class::IN, Rtype::NSEC, b"\x01a\x00\x00\x01\x40"),
-    ("n.", Class::IN, Rtype::NSEC, b"\x01A\x00\x00\x01\x40"),
+    ("m.", IN, MX, b"\x00\x0a\x01a\x00"),
+    ("m.", IN, MX, b"\x00\x0a\x01A\x00"),
+    ("n.", IN, NSEC, b"\x01a\x00\x00\x01\x40"),
+    ("n.", IN, NSEC, b"\x01A\x00\x00\x01\x40"),
 ];
 
 /// Whether the data of the group's first record have this octet at this index.
@@ -165,38 +189,58 @@ fn has_octet(found: &GroupSet, group: usize, at: usize, want: u8) -> bool {
     }
 }
 
+/// Whether the exchanges are one record and the next names two.
+fn are_exchange_and_names(alloc: Global, rows: &[Row]) -> bool {
+    let Some(found) = grouped(alloc, rows) else {
+        return false;
+    };
+    found.len() == 2
+        && is_like(&found, 0, MX, (1, 0), true)
+        && has_octet(&found, 0, 3, b'a')
+        && is_like(&found, 1, NSEC, (2, 0), false)
+}
+
 // MX is one of the types whose names are signed in lower case (RFC 4034 6.2), NSEC isn't (RFC 6840 5.1).
 #[test]
-fn duplicates_are_told_by_canonical_data(rt: HostRuntime) -> Result<(), Fail> {
-    let found = grouped(rt.alloc(), &LETTERS)?;
-    assert!(rt; found.len() == 2);
-    assert!(rt; is_like(&found, 0, Rtype::MX, (1, 0), true) && has_octet(&found, 0, 3, b'a'));
-    assert!(rt; is_like(&found, 1, Rtype::NSEC, (2, 0), false));
-    Ok(())
+fn duplicates_are_told_by_canonical_data(rt: HostRuntime) {
+    assert!(rt; are_exchange_and_names(rt.alloc(), &LETTERS));
 }
 
 const ALONE: [Row; 3] = [
-    ("A.", Class::IN, Rtype::RRSIG, OVER_MX),
-    ("a.", Class::IN, Rtype::RRSIG, OVER_MX),
-    ("a.", Class::IN, Rtype::RRSIG, OVER_A),
+    ("A.", IN, RRSIG, OVER_MX),
+    ("a.", IN, RRSIG, OVER_MX),
+    ("a.", IN, RRSIG, OVER_A),
 ];
 
-#[test]
-fn signatures_alone_have_their_own_type(rt: HostRuntime) -> Result<(), Fail> {
-    let found = grouped(rt.alloc(), &ALONE)?;
-    assert!(rt; found.len() == 2);
-    assert!(rt; is_like(&found, 0, Rtype::RRSIG, (0, 1), true));
-    assert!(rt; is_shown(rt.alloc(), &found, 0, "A.")?);
-    Ok(())
+/// Whether the first group of two has no record, and one signature that came twice.
+fn are_alone(alloc: Global, rows: &[Row]) -> bool {
+    let Some(found) = grouped(alloc, rows) else {
+        return false;
+    };
+    found.len() == 2 && is_like(&found, 0, RRSIG, (0, 1), true) && is_shown(alloc, &found, 0, "A.")
 }
 
-/// Adds records of 200 types, each with the octet as its data.
-fn add_types(alloc: Global, found: &mut GroupSet, octet: u8) -> Result<(), Fail> {
-    for number in 0..200_u16 {
-        let rtype = Rtype::from_int(65_535 - number);
-        found.add(record_of(alloc, "a.", Class::IN, rtype, &[octet])?)?;
+#[test]
+fn signatures_alone_have_their_own_type(rt: HostRuntime) {
+    assert!(rt; are_alone(rt.alloc(), &ALONE));
+}
+
+/// Whether a record is added.
+fn is_added(alloc: Global, found: &mut GroupSet, owner: &str, rtype: u16, octets: &[u8]) -> bool {
+    match record_of(alloc, owner, IN, rtype, octets) {
+        Some(record) => found.add(record).is_ok(),
+        None => false,
     }
-    Ok(())
+}
+
+/// Whether records of 200 types are added, each with the octet as its data.
+fn are_added(alloc: Global, found: &mut GroupSet, octet: u8) -> bool {
+    for number in 0..200_u16 {
+        if !is_added(alloc, found, "a.", 65_535 - number, &[octet]) {
+            return false;
+        }
+    }
+    true
 }
 
 /// Whether the group at this index has the type and two records, and had no duplicate.
@@ -212,31 +256,31 @@ fn is_pair(all: &[Group], at: usize, rtype: u16) -> bool {
 }
 
 #[test]
-fn many_groups_stand_in_order_of_arrival(rt: HostRuntime) -> Result<(), Fail> {
+fn many_groups_stand_in_order_of_arrival(rt: HostRuntime) {
     let mut found = GroupSet::new(rt.alloc());
-    add_types(rt.alloc(), &mut found, 0)?;
-    add_types(rt.alloc(), &mut found, 1)?;
+    let are_all = are_added(rt.alloc(), &mut found, 0) && are_added(rt.alloc(), &mut found, 1);
     let all = found.into_vec();
-    assert!(rt; all.len() == 200 && is_pair(&all, 0, 65_535));
-    assert!(rt; is_pair(&all, 117, 65_418) && is_pair(&all, 199, 65_336));
-    Ok(())
+    assert!(rt; are_all && all.len() == 200);
+    assert!(rt;
+        is_pair(&all, 0, 65_535) && is_pair(&all, 117, 65_418) && is_pair(&all, 199, 65_336)
+    );
 }
 
-/// Adds an address.
-fn add_address(alloc: Global, found: &mut GroupSet, owner: &str, last: u8) -> Result<(), Fail> {
-    let octets = [192, 0, 2, last];
-    found.add(record_of(alloc, owner, Class::IN, Rtype::A, &octets)?)?;
-    Ok(())
+/// Whether 250 addresses are added.
+fn are_addresses(alloc: Global, found: &mut GroupSet) -> bool {
+    for last in 0..250_u8 {
+        if !is_added(alloc, found, "a.", A, &[192, 0, 2, last]) {
+            return false;
+        }
+    }
+    true
 }
 
 #[test]
-fn duplicates_are_found_among_many(rt: HostRuntime) -> Result<(), Fail> {
+fn duplicates_are_found_among_many(rt: HostRuntime) {
     let mut found = GroupSet::new(rt.alloc());
-    for last in 0..250_u8 {
-        add_address(rt.alloc(), &mut found, "a.", last)?;
-    }
-    assert!(rt; found.len() == 1 && is_like(&found, 0, Rtype::A, (250, 0), false));
-    add_address(rt.alloc(), &mut found, "A.", 17)?;
-    assert!(rt; found.len() == 1 && is_like(&found, 0, Rtype::A, (250, 0), true));
-    Ok(())
+    assert!(rt; are_addresses(rt.alloc(), &mut found));
+    assert!(rt; found.len() == 1 && is_like(&found, 0, A, (250, 0), false));
+    assert!(rt; is_added(rt.alloc(), &mut found, "A.", A, &[192, 0, 2, 17]));
+    assert!(rt; found.len() == 1 && is_like(&found, 0, A, (250, 0), true));
 }
