@@ -1,6 +1,7 @@
 //! One signature by one key, by the call that takes a record.
 
-use crate::check_tests::{ADDRESS, Counting, GOOD, KEY, address, data_of, plain, record_of};
+use crate::check_tests::{ADDRESS, GOOD, KEY, address, data_of, plain, record_of};
+use crate::trying_tests::Counting;
 use crate::{Group, groups};
 use dsec_crypto::StandIn;
 use dsec_name::{Name, NoMemory};

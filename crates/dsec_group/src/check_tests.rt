@@ -5,8 +5,7 @@ ghost use Rattle.std.specs.Prelude.{◌≡◌, ◌<◌};
 use crate::{
     Group, KeyCheck, Limits, Memo, NoMemo, Steps, ValidationState, check_with_keys, groups,
 };
-use dsec_base::Cause;
-use dsec_crypto::{StandIn, Verifier};
+use dsec_crypto::StandIn;
 use dsec_name::{Name, NoMemory, Octets};
 use dsec_number::{Class, Rtype, Timestamp, Ttl};
 use dsec_wire::{Data, Dnskey, Record, Records};
@@ -19,14 +18,14 @@ use std::sync::ledger::{Blank, Ledger};
 // A zone key of tag 1296, one without the zone flag and one of protocol 2, both of tag 1040.
 pub(crate) const KEY: &[u8] = b"\x01\x01\x03\x0d\x01\x02";
 
-const NO_ZONE_KEY: &[u8] = b"\x00\x01\x03\x0d\x01\x02";
+pub(crate) const NO_ZONE_KEY: &[u8] = b"\x00\x01\x03\x0d\x01\x02";
 
 const OTHER_PROTOCOL: &[u8] = b"\x01\x01\x02\x0d\x01\x02";
 
 pub(crate) const ADDRESS: &[u8] = b"\xc0\x00\x02\x01";
 
 // `example.` and `other.` on the wire.
-const ZONE: &[u8] = b"\x07Example\x00";
+pub(crate) const ZONE: &[u8] = b"\x07Example\x00";
 
 const OTHER: &[u8] = b"\x05other\x00";
 
@@ -53,10 +52,6 @@ const OF_THREE_LABELS: &[u8] = b"\x78\x21\x91\x60\x39\xe3\x15\xe7\x43\xc3\x5b\x4
 
 const OF_CLASS_CH: &[u8] = b"\xce\xfc\x64\x1d\xb2\xca\xea\xfa\x53\xdb\x1a\xbf\x98\x11\x65\x0a\
     \xf9\x36\x12\xbf\xef\x28\xf2\xa1\x9e\xb8\x77\x56\xf3\x24\x39\xaf";
-
-// Over one mail exchange of preference 10 by mx.example. at www.example.
-const OF_EXCHANGE: &[u8] = b"\xb9\x76\xe7\x49\xe0\x49\x45\xa5\x02\xa6\x05\x7d\x0c\xeb\x3e\xbf\
-    \xae\xb3\xf1\xb9\x2d\x9f\xdf\x8f\x33\x1e\x89\x86\x3d\x09\x75\xdf";
 
 // Over the address at *.w.example.
 const OF_WILDCARD: &[u8] = b"\xab\xda\x20\x8e\x4c\x04\xe2\x2d\xb7\x34\x3e\x20\x1c\x6a\xca\x1a\
@@ -116,7 +111,7 @@ fn push_signature(
 }
 
 // A record of such a signature, of class IN.
-fn signature(
+pub(crate) fn signature(
     alloc: Global,
     owner: &str,
     covered: Rtype,
@@ -195,7 +190,7 @@ pub(crate) fn checked(
 }
 
 // The check of the first group of a section at 500 seconds, with a limit of one bad signature.
-fn check(alloc: Global, section: Vec<Record>, key: &[u8]) -> Option<KeyCheck> {
+pub(crate) fn check(alloc: Global, section: Vec<Record>, key: &[u8]) -> Option<KeyCheck> {
     let Some(key) = data_of(alloc, Rtype::DNSKEY, key) else {
         return None;
     };
@@ -216,7 +211,7 @@ fn is_shown<T: Display>(alloc: Global, value: &Option<T>, want: Option<&str>) ->
 
 // What a check is to say.
 #[derive(Clone, Copy)]
-enum Want {
+pub(crate) enum Want {
     Secure,
     Expanded,
     Bad,
@@ -233,7 +228,7 @@ fn said(want: Want) -> (ValidationState, Option<&'static str>, Option<&'static s
     }
 }
 
-fn says(alloc: Global, check: Option<KeyCheck>, want: Want) -> bool {
+pub(crate) fn says(alloc: Global, check: Option<KeyCheck>, want: Want) -> bool {
     let Some(check) = check else {
         return false;
     };
@@ -272,7 +267,7 @@ const ROWS: [Row; 9] = [
 ];
 
 // Whether a record is there, and pushed.
-fn is_pushed(section: &mut Vec<Record>, record: Option<Record>) -> bool {
+pub(crate) fn is_pushed(section: &mut Vec<Record>, record: Option<Record>) -> bool {
     match record {
         Some(record) => section.push(record).is_ok(),
         None => false,
@@ -331,169 +326,4 @@ pub(crate) fn signed(alloc: Global, signatures: &[&[u8]]) -> Option<Vec<Record>>
         }
     }
     Some(section)
-}
-
-// What the good signature comes to under these keys, at a moment.
-fn good_checked(alloc: Global, keys: &[Data], seconds: u32) -> Option<KeyCheck> {
-    match signed(alloc, &[GOOD]) {
-        Some(section) => checked(alloc, section, keys, 1, seconds, &mut NoMemo),
-        None => None,
-    }
-}
-
-#[test]
-fn no_keys(rt: HostRuntime) {
-    assert!(rt;
-        says(
-            rt.alloc(),
-            good_checked(rt.alloc(), &[], 500),
-            Want::Unsigned
-        )
-    );
-}
-
-// How often a verifier's answer was asked for, and kept.
-#[derive(Drop)]
-pub(crate) struct Counting {
-    pub(crate) asked: u32,
-    pub(crate) kept: u32,
-}
-
-impl<V: Verifier> Memo<V> for Counting {
-    fn get_check(
-        &mut self,
-        _flags: u16,
-        _protocol: u8,
-        _algorithm: u8,
-        _key: &[u8],
-        _message: &[u8],
-        _signature: &[u8],
-    ) -> Result<Option<bool>, NoMemory> {
-        self.asked = self.asked.saturating_add(1);
-        Err(NoMemory)
-    }
-
-    fn put_check(
-        &mut self,
-        _flags: u16,
-        _protocol: u8,
-        _algorithm: u8,
-        _key: &[u8],
-        _message: &[u8],
-        _signature: &[u8],
-        _yes: bool,
-    ) -> Result<(), NoMemory> {
-        self.kept = self.kept.saturating_add(1);
-        Err(NoMemory)
-    }
-
-    fn get_hash(
-        &mut self,
-        _octets: &[u8],
-        _salt: &[u8],
-        _iterations: u16,
-    ) -> Result<Option<[u8; 20]>, NoMemory> {
-        Err(NoMemory)
-    }
-
-    fn put_hash(
-        &mut self,
-        _octets: &[u8],
-        _salt: &[u8],
-        _iterations: u16,
-        _hash: [u8; 20],
-    ) -> Result<(), NoMemory> {
-        Err(NoMemory)
-    }
-}
-
-// Four signatures of one key, the first two of them bad, under a memo that has no memory.
-fn two_bad_of_four(alloc: Global, max_bad: u8, memo: &mut Counting) -> Option<KeyCheck> {
-    let Some(section) = signed(alloc, &[b"first", b"second", GOOD, b"fourth"]) else {
-        return None;
-    };
-    let Some(other) = data_of(alloc, Rtype::DNSKEY, NO_ZONE_KEY) else {
-        return None;
-    };
-    let Some(key) = data_of(alloc, Rtype::DNSKEY, KEY) else {
-        return None;
-    };
-    checked(alloc, section, &[other, key], max_bad, 500, memo)
-}
-
-fn is_stopped(check: &KeyCheck) -> bool {
-    check.state == ValidationState::Bogus
-        && check.cause == Some(Cause::TooManyBadSignatures)
-        && check.signature.is_none()
-        && check.key.is_none()
-}
-
-// Whether the third signature is good, by the second key.
-fn is_third_good(check: &KeyCheck) -> bool {
-    check.state == ValidationState::Secure
-        && check.cause.is_none()
-        && check.signature == Some(2)
-        && check.key == Some(1)
-        && check.closest_encloser.is_none()
-}
-
-#[test]
-fn one_more_is_tried_than_may_be_bad(rt: HostRuntime) {
-    let mut memo = Counting { asked: 0, kept: 0 };
-    let is_so = match two_bad_of_four(rt.alloc(), 1, &mut memo) {
-        Some(check) => is_stopped(&check),
-        None => false,
-    };
-    assert!(rt; is_so && memo.asked == 2 && memo.kept == 2);
-}
-
-#[test]
-fn a_good_one_is_found_behind_bad_ones(rt: HostRuntime) {
-    let mut memo = Counting { asked: 0, kept: 0 };
-    let is_so = match two_bad_of_four(rt.alloc(), 2, &mut memo) {
-        Some(check) => is_third_good(&check),
-        None => false,
-    };
-    assert!(rt; is_so && memo.asked == 3);
-}
-
-// Whether the same mail exchange, twice, is secure under its signature.
-fn are_secure(alloc: Global, upper: &[u8], lower: &[u8]) -> bool {
-    let mut section = Vec::new(alloc);
-    let first = record_of(alloc, "WWW.example.", 1, Rtype::MX, upper);
-    if !is_pushed(&mut section, first) {
-        return false;
-    }
-    let second = record_of(alloc, "www.Example.", 1, Rtype::MX, lower);
-    if !is_pushed(&mut section, second) {
-        return false;
-    }
-    let signature = signature(alloc, "www.example.", Rtype::MX, 2, 1296, ZONE, OF_EXCHANGE);
-    is_pushed(&mut section, signature) && says(alloc, check(alloc, section, KEY), Want::Secure)
-}
-
-#[test]
-fn duplicates_are_signed_once(rt: HostRuntime) {
-    let upper: &[u8] = b"\x00\x0a\x02MX\x07Example\x00";
-    let lower: &[u8] = b"\x00\x0a\x02mx\x07example\x00";
-    assert!(rt; are_secure(rt.alloc(), upper, lower));
-}
-
-// Whether the good signature counts at this moment, or doesn't.
-fn counts_at(alloc: Global, seconds: u32, want: bool) -> bool {
-    let Some(key) = data_of(alloc, Rtype::DNSKEY, KEY) else {
-        return false;
-    };
-    match good_checked(alloc, &[key], seconds) {
-        Some(found) => (found.state == ValidationState::Secure) == want,
-        None => false,
-    }
-}
-
-#[test]
-fn periods(rt: HostRuntime) {
-    assert!(rt; counts_at(rt.alloc(), 0, true));
-    assert!(rt; counts_at(rt.alloc(), 1000, true));
-    assert!(rt; counts_at(rt.alloc(), 1001, false));
-    assert!(rt; counts_at(rt.alloc(), 4_294_967_295, false));
 }

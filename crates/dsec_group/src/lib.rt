@@ -31,3 +31,5 @@ mod check_tests;
 mod memo_tests;
 #[cfg(test)]
 mod tests;
+#[cfg(test)]
+mod trying_tests;

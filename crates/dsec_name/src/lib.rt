@@ -19,4 +19,6 @@ pub use octets::Octets;
 pub use text::octet_of_digits;
 
 #[cfg(test)]
+mod borrowed_tests;
+#[cfg(test)]
 mod tests;

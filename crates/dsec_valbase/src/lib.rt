@@ -36,4 +36,6 @@ pub use supported::{supported_algorithm, supported_digest};
 #[cfg(test)]
 mod key_tests;
 #[cfg(test)]
+mod link_tests;
+#[cfg(test)]
 mod tests;

@@ -3,32 +3,29 @@
 ghost use Rattle.std.specs.Prelude.{◌≡◌, IfOk};
 ghost use Rattle.dsec_spec.specs.Numbers.{RRSIG};
 
-use crate::admit::{admit_anchor_key, admit_set};
-use crate::admit_ds::admit_anchor_ds;
 use crate::bytes::signed_bytes;
 use crate::check::{is_signed, matches, may_sign};
-use crate::link::{Link, LinkKind, Links};
 use crate::record_set::RecordSet;
 use crate::rrsig_ext::RrsigExt;
-use crate::supported::{supported_algorithm, supported_digest};
 use dsec_crypto::{AlgorithmError, StandIn, TableVerifier, Verifier};
 use dsec_name::{Name, Octets};
-use dsec_number::{Class, DigestAlgorithm, Rtype, SecurityAlgorithm, Timestamp, Ttl};
+use dsec_number::{Class, Rtype, Timestamp, Ttl};
 use dsec_wire::{Data, Dnskey, Record, Rrsig};
 use std::alloc::Global;
 use std::process::Abort;
 use std::test::Fail;
 
-const KEY: &[u8] = b"\x01\x01\x03\x0d\x01\x02";
+pub(crate) const KEY: &[u8] = b"\x01\x01\x03\x0d\x01\x02";
 
-const ADDRESS: &[u8] = b"\xc0\x00\x02\x01";
+pub(crate) const ADDRESS: &[u8] = b"\xc0\x00\x02\x01";
 
 // What is signed of the DNSKEY set of `example.`, and the signature over it.
 const KEY_BYTES: &[u8] = b"\x00\x30\x0d\x01\x00\x00\x0e\x10\x00\x00\x03\xe8\x00\x00\x00\x00\x05\x10\
     \x07example\x00\
     \x07example\x00\x00\x30\x00\x01\x00\x00\x0e\x10\x00\x06\x01\x01\x03\x0d\x01\x02";
 
-const KEY_SIGNATURE: &[u8] = b"\xd1\xe2\xfd\xe8\x56\xa7\x39\x99\x6d\x32\x77\x78\x7d\x3a\x44\xa1\
+pub(crate) const KEY_SIGNATURE: &[u8] =
+    b"\xd1\xe2\xfd\xe8\x56\xa7\x39\x99\x6d\x32\x77\x78\x7d\x3a\x44\xa1\
     \x87\x82\xef\x12\x3b\x6d\x97\xb8\x9f\xe4\xbb\x25\x97\x1d\xd1\x72";
 
 // The same of the address of `www.example.`.
@@ -37,7 +34,8 @@ const ADDRESS_BYTES: &[u8] =
     \x07example\x00\
     \x03www\x07example\x00\x00\x01\x00\x01\x00\x00\x0e\x10\x00\x04\xc0\x00\x02\x01";
 
-const ADDRESS_SIGNATURE: &[u8] = b"\x57\x40\xff\x5d\x59\x63\x06\xbf\xe2\xc5\xc7\xbd\x74\xec\xe6\xc7\
+pub(crate) const ADDRESS_SIGNATURE: &[u8] =
+    b"\x57\x40\xff\x5d\x59\x63\x06\xbf\xe2\xc5\xc7\xbd\x74\xec\xe6\xc7\
     \x08\x2a\xf6\x19\xd5\x1f\x42\xff\xbb\x83\xf9\x74\xb9\xca\x90\x83";
 
 fn octets(alloc: Global, from: &[u8]) -> Result<Octets, Fail>
@@ -46,7 +44,7 @@ fn octets(alloc: Global, from: &[u8]) -> Result<Octets, Fail>
     Ok(Octets::new(Vec::from_slice(alloc, from)?))
 }
 
-fn data_of(alloc: Global, rtype: Rtype, from: &[u8]) -> Result<Data, Fail>
+pub(crate) fn data_of(alloc: Global, rtype: Rtype, from: &[u8]) -> Result<Data, Fail>
     ensures { IfOk result (λ made. made.rtype ≡ rtype) }
 {
     let octets = octets(alloc, from)?;
@@ -57,7 +55,12 @@ fn data_of(alloc: Global, rtype: Rtype, from: &[u8]) -> Result<Data, Fail>
 }
 
 // A record of class IN, whose TTL isn't the one that is signed.
-fn record_of(alloc: Global, owner: &str, rtype: Rtype, from: &[u8]) -> Result<Record, Fail>
+pub(crate) fn record_of(
+    alloc: Global,
+    owner: &str,
+    rtype: Rtype,
+    from: &[u8],
+) -> Result<Record, Fail>
     ensures { IfOk result (λ made. made.rtype ≡ rtype) }
 {
     let owner = Name::parse(alloc, owner)?;
@@ -66,7 +69,12 @@ fn record_of(alloc: Global, owner: &str, rtype: Rtype, from: &[u8]) -> Result<Re
 }
 
 // The data of an RRSIG record of `example.` by the key with the tag 1296, over 1000 seconds.
-fn rrsig_data(alloc: Global, covered: Rtype, labels: u8, signature: &[u8]) -> Result<Data, Fail>
+pub(crate) fn rrsig_data(
+    alloc: Global,
+    covered: Rtype,
+    labels: u8,
+    signature: &[u8],
+) -> Result<Data, Fail>
     ensures { IfOk result (λ made. made.rtype ≡ RRSIG) }
 {
     let mut from = Vec::new(alloc);
@@ -79,7 +87,12 @@ fn rrsig_data(alloc: Global, covered: Rtype, labels: u8, signature: &[u8]) -> Re
     data_of(alloc, Rtype::RRSIG, &from)
 }
 
-fn set_of(alloc: Global, owner: &str, rtype: Rtype, from: &[u8]) -> Result<RecordSet, Fail> {
+pub(crate) fn set_of(
+    alloc: Global,
+    owner: &str,
+    rtype: Rtype,
+    from: &[u8],
+) -> Result<RecordSet, Fail> {
     let record = record_of(alloc, owner, rtype, from)?;
     Ok(RecordSet::from_records(alloc, &record, &[])?)
 }
@@ -317,110 +330,4 @@ fn verifying(rt: HostRuntime) -> Result<(), Fail> {
         )?
     );
     Ok(())
-}
-
-fn first_link(alloc: Global, anchor: &[u8]) -> Result<Option<Link>, Fail> {
-    let anchor = record_of(alloc, "example.", Rtype::DNSKEY, anchor)?;
-    let keys = set_of(alloc, "Example.", Rtype::DNSKEY, KEY)?;
-    let rrsig = rrsig_data(alloc, Rtype::DNSKEY, 1, KEY_SIGNATURE)?;
-    let t = Timestamp::from_int(500);
-    Ok(admit_anchor_key::<TableVerifier>(alloc, &anchor, &keys, &rrsig, t)?)
-}
-
-fn last_link(alloc: Global, key: &[u8]) -> Result<Option<Link>, Fail> {
-    let zone = Name::parse(alloc, "example.")?;
-    let set = set_of(alloc, "www.example.", Rtype::A, ADDRESS)?;
-    let key = data_of(alloc, Rtype::DNSKEY, key)?;
-    let rrsig = rrsig_data(alloc, Rtype::A, 2, ADDRESS_SIGNATURE)?;
-    let t = Timestamp::from_int(500);
-    Ok(admit_set::<TableVerifier>(alloc, &zone, &key, &set, &rrsig, t)?)
-}
-
-// The DS data of the key under SHA-256.
-const DS: &[u8] = b"\x05\x10\x0d\x02\x2c\x64\x03\xbd\x20\x95\x61\x40\xd2\x02\xec\x36\
-    \x65\x55\xa5\xa9\x34\xd0\x5a\x03\x23\x3d\x69\xab\x38\x0a\x7e\xea\x4e\xee\x35\x25";
-
-fn first_ds_link(alloc: Global, anchor: &[u8]) -> Result<Option<Link>, Fail> {
-    let anchor = record_of(alloc, "example.", Rtype::DS, anchor)?;
-    let keys = set_of(alloc, "Example.", Rtype::DNSKEY, KEY)?;
-    let key = data_of(alloc, Rtype::DNSKEY, KEY)?;
-    let rrsig = rrsig_data(alloc, Rtype::DNSKEY, 1, KEY_SIGNATURE)?;
-    let t = Timestamp::from_int(500);
-    Ok(admit_anchor_ds::<TableVerifier>(alloc, &anchor, &keys, &key, &rrsig, t)?)
-}
-
-// Whether it is the key's link from its DS record.
-fn is_first_by_ds(link: &Link) -> bool {
-    link.kind() == LinkKind::AnchorDs && link.signing_key().as_slice() == KEY
-}
-
-#[test]
-fn ds_links(rt: HostRuntime) -> Result<(), Fail> {
-    let Some(link) = first_ds_link(rt.alloc(), DS)? else {
-        return Err(Fail::new("no first link"));
-    };
-    assert!(rt; is_first_by_ds(&link));
-    Ok(())
-}
-
-#[test]
-fn no_ds_link(rt: HostRuntime) -> Result<(), Fail> {
-    assert!(rt; first_ds_link(rt.alloc(), b"\x05\x10\x0d\x02\x2c")?.is_none());
-    Ok(())
-}
-
-fn links_of(alloc: Global, link: Link) -> Result<Links, Fail> {
-    let mut items = Vec::new(alloc);
-    items.push(link)?;
-    Ok(Links::new(items).clone()?)
-}
-
-/// The key tag of a link's signature.
-fn tag_in(link: &Link) -> u16 {
-    link.rrsig().key_tag
-}
-
-// Whether it is the key's link from its own record.
-fn is_first(link: &Link) -> bool {
-    link.kind() == LinkKind::AnchorKey
-        && link.via() == Some(link.signing_key())
-        && link.records().has_data(link.signing_key())
-        && tag_in(link) == 1296
-        && link
-            .rrsig_data()
-            .octets()
-            .as_slice()
-            .ends_with(KEY_SIGNATURE)
-}
-
-#[test]
-fn links(rt: HostRuntime) -> Result<(), Fail> {
-    let Some(link) = first_link(rt.alloc(), KEY)? else {
-        return Err(Fail::new("no first link"));
-    };
-    assert!(rt; is_first(&link));
-    assert!(rt; links_of(rt.alloc(), link)?.len() == 1);
-    assert!(rt; last_link(rt.alloc(), KEY)?.is_some());
-    Ok(())
-}
-
-#[test]
-fn no_links(rt: HostRuntime) -> Result<(), Fail> {
-    let stranger: &[u8] = b"\x01\x01\x03\x0d\x01\x03";
-    assert!(rt; first_link(rt.alloc(), stranger)?.is_none());
-    assert!(rt; last_link(rt.alloc(), stranger)?.is_none());
-    Ok(())
-}
-
-// Whether the algorithm and the digest of this number are supported where these say so.
-fn are_supported(number: u8) -> bool {
-    supported_algorithm(SecurityAlgorithm::from_int(number)) == [5, 7, 8, 10, 13].contains(&number)
-        && supported_digest(DigestAlgorithm::from_int(number)) == [1, 2, 4].contains(&number)
-}
-
-#[test]
-fn supported(rt: HostRuntime) {
-    for number in 0..=255 {
-        assert!(rt; are_supported(number));
-    }
 }
