@@ -2,6 +2,7 @@
 
 ghost use Rattle.std.specs.Prelude.{◌≡◌, ◌≤◌, ◌⊎◌, None, Some, Contains, IfOk, IsErrOf};
 ghost use Rattle.dsec_spec.specs.Outside.{HasNoReply, IsReplyOf, Rose, risen};
+ghost use Rattle.dsec_outside.specs.Faults.{CountsFailure};
 
 use crate::replies::Replies;
 use crate::upstream::{AskError, Upstream};
@@ -68,7 +69,15 @@ impl<'a> Upstream for FixedUpstream<'a> {
 
     ghost asked = { λ upstream. upstream.asked };
 
-    fn ask(&mut self, alloc: Global, _name: &Name, _rtype: Rtype) -> Result<Vec<u8>, AskError> {
+    fn ask(&mut self, alloc: Global, name: &Name, rtype: Rtype) -> Result<Vec<u8>, AskError>
+        ensures fixed { IfOk result (λ reply. reply.items ≡ self.old.reply.now) }
+        ensures reply { IfOk result (λ reply. IsReplyOf None name.now rtype reply.items) }
+        ensures same_reply { self.new.reply.now ≡ self.old.reply.now }
+        ensures later { 0 ≤ 0 }
+        ensures failed { IsErrOf result AskError.Failed → Rose 0 0 }
+        ensures counts { CountsFailure 0 0 result }
+        ensures counted { self.new.asked ≡ risen self.old.asked }
+    {
         self.asked = self.asked.saturating_add(1);
         Ok(self.reply.to_vec(alloc)?)
     }
@@ -104,6 +113,7 @@ impl<'a, U: Upstream> Upstream for FailingUpstream<'a, U> {
         ensures reply { IfOk result (λ reply. IsReplyOf None name.now rtype reply.items) }
         ensures later { self.old.faults ≤ self.new.faults }
         ensures failed { IsErrOf result AskError.Failed → Rose self.old.faults self.new.faults }
+        ensures counts { CountsFailure self.old.faults self.new.faults result }
         ensures counted { self.new.asked ≡ risen self.old.asked }
     {
         let fails = self.failing.contains(&self.asked);

@@ -4,6 +4,7 @@ ghost use Rattle.std.specs.Prelude.{◌≡◌, ◌<◌, ◌≤◌, ◌↔◌, �
 ghost use Rattle.std.specs.Io.{ReadsAtMost};
 ghost use Rattle.std.specs.Io.KnownBytes.{ReadConsumes, WriteAppends};
 ghost use Rattle.dsec_spec.specs.Outside.{HasCause, risen};
+ghost use Rattle.dsec_outside.specs.Faults.{CountsFault};
 
 use crate::sink::Sink;
 use crate::source::{Failed, Source};
@@ -49,6 +50,7 @@ impl<'a> Source for FailingSource<'a> {
         ensures bound { ReadsAtMost result buffer.new }
         ensures octets { ReadConsumes (Some self.old.rest.now) (Some self.new.rest.now) result buffer.new }
         ensures cause { HasCause self.old.faults self.new.faults result }
+        ensures counts { CountsFault self.old.faults self.new.faults result }
         ensures as_listed { IsErr result ↔ Contains self.old.failing.now self.old.calls }
         ensures counted { self.new.calls ≡ risen self.old.calls }
         ensures same_list { self.new.failing.now ≡ self.old.failing.now }
@@ -96,6 +98,7 @@ impl Sink for OctetsSink {
         ensures whole { IfOk result (λ count. count ≡ length octets.now) }
         ensures octets { WriteAppends (Some self.old.octets.items) (Some self.new.octets.items) result octets.now }
         ensures cause { HasCause self.old.faults self.new.faults result }
+        ensures counts { CountsFault self.old.faults self.new.faults result }
     {
         if self.octets.extend_from_slice(octets).is_ok() {
             return Ok(octets.len());
@@ -131,6 +134,7 @@ impl<'a> Sink for FailingSink<'a> {
         ensures piece { IfOk result (λ count. count ≡ min (length octets.now) self.old.piece) }
         ensures octets { WriteAppends (Some self.old.octets.items) (Some self.new.octets.items) result octets.now }
         ensures cause { HasCause self.old.faults self.new.faults result }
+        ensures counts { CountsFault self.old.faults self.new.faults result }
         ensures as_listed { Contains self.old.failing.now self.old.calls ⊎ (self.old.piece ≡ 0) → IsErr result }
         ensures counted { self.new.calls ≡ risen self.old.calls }
         ensures same_list { self.new.failing.now ≡ self.old.failing.now }

@@ -3,6 +3,7 @@
 ghost use Rattle.std.specs.Prelude.{◌<◌, ◌≤◌, List, ℕ, Option, length, IfOk};
 ghost use Rattle.std.specs.Io.KnownBytes.{WriteAppends};
 ghost use Rattle.dsec_spec.specs.Outside.{HasCause};
+ghost use Rattle.dsec_outside.specs.Faults.{CountsFault};
 
 use crate::source::Failed;
 
@@ -19,5 +20,6 @@ pub trait Sink {
         ensures bound { IfOk result (λ n. n ≤ length octets.now) }
         ensures progress { IfOk result (λ n. 0 < length octets.now → 0 < n) }
         ensures octets { WriteAppends (written self.old) (written self.new) result octets.now }
-        ensures cause { HasCause (faults self.old) (faults self.new) result };
+        ensures cause { HasCause (faults self.old) (faults self.new) result }
+        ensures counts { CountsFault (faults self.old) (faults self.new) result };
 }

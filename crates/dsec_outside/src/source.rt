@@ -4,6 +4,7 @@ ghost use Rattle.std.specs.Prelude.{List, ℕ, Option};
 ghost use Rattle.std.specs.Io.{ReadsAtMost};
 ghost use Rattle.std.specs.Io.KnownBytes.{ReadConsumes};
 ghost use Rattle.dsec_spec.specs.Outside.{HasCause};
+ghost use Rattle.dsec_outside.specs.Faults.{CountsFault};
 
 use thiserror::Error;
 
@@ -25,5 +26,6 @@ pub trait Source {
     fn read(&mut self, buffer: &mut [u8]) -> Result<usize, Failed>
         ensures bound { ReadsAtMost result buffer.new }
         ensures octets { ReadConsumes (left self.old) (left self.new) result buffer.new }
-        ensures cause { HasCause (faults self.old) (faults self.new) result };
+        ensures cause { HasCause (faults self.old) (faults self.new) result }
+        ensures counts { CountsFault (faults self.old) (faults self.new) result };
 }

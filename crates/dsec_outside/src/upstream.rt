@@ -2,6 +2,7 @@
 
 ghost use Rattle.std.specs.Prelude.{◌≡◌, ◌≤◌, ℕ, Option, IfOk, IsErrOf};
 ghost use Rattle.dsec_spec.specs.Outside.{HasNoReply, IsReplyOf, Rose, Table, risen};
+ghost use Rattle.dsec_outside.specs.Faults.{CountsFailure};
 ghost use Rattle.dsec_outside.specs.declared.upstream.AskError.TheVariants.{NoMemory};
 
 use dsec_name::Name;
@@ -54,5 +55,6 @@ pub trait Upstream {
         ensures no_reply { IsErrOf result AskError.Failed → HasNoReply (table self.old) name.now rtype }
         ensures later { faults self.old ≤ faults self.new }
         ensures failed { IsErrOf result AskError.Failed → Rose (faults self.old) (faults self.new) }
+        ensures counts { CountsFailure (faults self.old) (faults self.new) result }
         ensures counted { asked self.new ≡ risen (asked self.old) };
 }

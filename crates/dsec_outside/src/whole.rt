@@ -3,6 +3,7 @@
 ghost use Rattle.std.specs.Prelude.{◌≡◌, ◌+◌, ◌≤◌, length, IfOk, IsErrOf, OnErr, OnOk};
 ghost use Rattle.std.specs.Io.KnownBytes.{Appends, Consumes, IsAtEnd};
 ghost use Rattle.dsec_spec.specs.Outside.{Rose, SentFront};
+ghost use Rattle.dsec_outside.specs.Faults.{CountsFault, CountsReads};
 ghost use Rattle.dsec_outside.specs.Limit.{limit};
 ghost use Rattle.dsec_outside.specs.declared.whole.Stop.TheVariants.{Memory};
 
@@ -49,6 +50,7 @@ impl<T: Drop> From<AllocFailed<T>> for Stop {
 pub fn read_all<S: Source>(alloc: Global, source: &mut S) -> Result<Vec<u8>, Stop>
     ensures later { S.faults source.old ≤ S.faults source.new }
     ensures read { IsErrOf result Stop.Read → Rose (S.faults source.old) (S.faults source.new) }
+    ensures counts { CountsReads (S.faults source.old) (S.faults source.new) result }
     ensures taken { IfOk result (λ all. Consumes (S.left source.old) (S.left source.new) all.items) }
     ensures whole { IfOk result (λ all. length all.items ≤ limit → IsAtEnd (S.left source.new)) }
     ensures bound { IfOk result (λ all. length all.items ≤ limit + PIECE) }
@@ -71,6 +73,7 @@ pub fn read_all<S: Source>(alloc: Global, source: &mut S) -> Result<Vec<u8>, Sto
 pub fn write_all<K: Sink>(sink: &mut K, octets: &[u8]) -> Result<(), Failed>
     ensures later { K.faults sink.old ≤ K.faults sink.new }
     ensures failed { OnErr result (Rose (K.faults sink.old) (K.faults sink.new)) }
+    ensures counts { CountsFault (K.faults sink.old) (K.faults sink.new) result }
     ensures sent { OnOk result (Appends (K.written sink.old) (K.written sink.new) octets.now) }
     ensures front { SentFront (K.written sink.old) (K.written sink.new) octets.now }
 {

@@ -1,10 +1,10 @@
-use Rattle.std.proofs.Common.{length, ◌-◌, ◌≤◌}
+use Rattle.std.proofs.Common.{length, ◌-◌, ◌≤◌, ◌≡◌}
 use Rattle.std.specs.Io.KnownBytes.{Consumes}
 use Rattle.dsec_outside.proofs.whole.read_all.Given as goal
 
 abbrev pub invariant-loop-piece : goal.invariant-loop-piece
 invariant-loop-piece g l =
-    (g.S.Source.faults l.fn.source ≤ g.S.Source.faults l.source)
+    (g.S.Source.faults l.source ≡ g.S.Source.faults l.fn.source)
     × (length l.all.items ≤ 16781312)
     × Consumes (g.S.Source.left l.fn.source) (g.S.Source.left l.source) l.all.items
 

@@ -1,7 +1,7 @@
-use Rattle.std.proofs.Common.{arith}
+use Rattle.std.proofs.Common.{arith, ◌∙◌}
 use Rattle.dsec_outside.proofs.Sending.{more_sent}
 use Rattle.dsec_outside.proofs.whole.write_all.Goals as goal
 
 pub loop-at-preserved : goal.loop-at-preserved
 loop-at-preserved g c =
-    (omega (arith, c.loop-at.invariant.0, c.in_ok-count.ensures.cause.later), omega (arith, c.in_ok-count.ensures.bound, c.loop-at-test.true), more_sent _ _ _ _ _ _ c.loop-at.invariant.2 c.in_ok-count.ensures.octets)
+    (c.in_ok-count.ensures.counts ∙ c.loop-at.invariant.0, omega (arith, c.in_ok-count.ensures.bound, c.loop-at-test.true), more_sent _ _ _ _ _ _ c.loop-at.invariant.2 c.in_ok-count.ensures.octets)
