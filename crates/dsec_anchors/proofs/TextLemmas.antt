@@ -15,7 +15,7 @@ use Rattle.dsec_zonefile.specs.declared.entry.Entry.TheVariants as entries
 use Rattle.dsec_zonefile.specs.declared.error.ZonefileError.{ZonefileError}
 use Rattle.dsec_zonefile.specs.declared.error.ZonefileError.TheVariants as zone
 use Rattle.dsec_zonefile.proofs.AllEntries.{one_reading}
-use Rattle.dsec_anchors.specs.Texts.{added, anchors_in, error_of, is_from_outside, record_in, records_among, records_left, start_of, wants_memory}
+use Rattle.dsec_anchors.specs.Texts.{CountsReads, added, anchors_in, error_of, is_from_outside, record_in, records_among, records_left, start_of, wants_memory}
 use Rattle.dsec_anchors.specs.Texts as texts
 use Rattle.dsec_anchors.specs.declared.error.AnchorError.{AnchorError}
 use Rattle.dsec_anchors.specs.declared.error.AnchorError.TheVariants.{InplaceError, ReadError, NoMemory}
@@ -116,6 +116,14 @@ never_by false line reader e = never_among (reading reader).entries (reading rea
 -- no text says that a read failed
 pub never_read : (default : Option ℕ) (text : List ℕ) → anchors_in default text ≡ Err ReadError → ⊥
 never_read default text e = never_by (nat_lt limit (length text)) (line_past text) (start_of default text) e
+
+-- no read fails while a text is understood
+pub none_failed : (before now : ℕ) (default : Option ℕ) (text : List ℕ) (result : Records) → now ≡ before → Gives wants_memory (λ (anchors : List Record). anchors) result (anchors_in default text)
+    → CountsReads before now result
+none_failed before now default text (Ok records) e gives = e
+none_failed before now default text (Err (InplaceError error)) e gives = e
+none_failed before now default text (Err ReadError) e gives = absurd (never_read default text gives)
+none_failed before now default text (Err NoMemory) e gives = e
 
 -- what doesn't come of a text may come of less
 more_free : (result defined : Records) → Gives wants_memory (λ (anchors : List Record). anchors) result defined → Gives is_from_outside (λ (anchors : List Record). anchors) result defined

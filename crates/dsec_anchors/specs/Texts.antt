@@ -1,5 +1,6 @@
 -- Trust anchors in zone text (RFC 1035 5.1).
-use Rattle.std.specs.Prelude.{ℕ, nat_lt, List, ◌++◌, length, filter_map, Bool, true, false, Option, Some, None, Result, Ok, Err, if◌then◌else◌}
+use Rattle.std.specs.Prelude.{◌≡◌, ℕ, nat_lt, List, ◌++◌, length, filter_map, Bool, true, false, Option, Some, None, Result, Ok, Err, if◌then◌else◌}
+use Rattle.dsec_spec.specs.Outside.{risen}
 use Rattle.dsec_spec.specs.Records.{Record}
 use Rattle.dsec_outside.specs.Limit.{limit, line_past}
 use Rattle.dsec_zonefile.specs.Entries.{Reader}
@@ -23,6 +24,14 @@ abbrev pub is_from_outside : AnchorError → Bool
 is_from_outside NoMemory = true
 is_from_outside ReadError = true
 is_from_outside (InplaceError error) = false
+
+-- how the faults of a source are counted while its text is read: a read that failed counts as one; a refusal and want of
+-- memory are no faults of the source
+abbrev pub CountsReads : {T : Type 0} → ℕ → ℕ → Result T AnchorError → Type 0
+CountsReads before now (Ok anchors) = now ≡ before
+CountsReads before now (Err ReadError) = now ≡ risen before
+CountsReads before now (Err (InplaceError error)) = now ≡ before
+CountsReads before now (Err NoMemory) = now ≡ before
 
 -- an error of zone text
 abbrev pub error_of : ZonefileError → AnchorError

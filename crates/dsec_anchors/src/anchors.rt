@@ -8,7 +8,7 @@ ghost use Rattle.dsec_spec.specs.Numbers.{IN};
 ghost use Rattle.dsec_spec.specs.Outside.{Rose};
 ghost use Rattle.dsec_spec.specs.Reading.{Gives};
 ghost use Rattle.dsec_anchors.specs.Anchors.{anchor_view, anchors_at};
-ghost use Rattle.dsec_anchors.specs.Texts.{added, anchors_in, is_from_outside, wants_memory};
+ghost use Rattle.dsec_anchors.specs.Texts.{CountsReads, added, anchors_in, is_from_outside, wants_memory};
 
 use crate::error::AnchorError;
 use crate::island::island_owner;
@@ -88,6 +88,7 @@ impl TrustAnchors {
     ) -> Result<TrustAnchors, AnchorError>
         ensures later { S.faults source.old ≤ S.faults source.new }
         ensures read { IsErrOf result AnchorError.ReadError → Rose (S.faults source.old) (S.faults source.new) }
+        ensures counts { CountsReads (S.faults source.old) (S.faults source.new) result }
         ensures text { IfSome (S.left source.old) (λ all. Gives is_from_outside (λ anchors. anchors) result (anchors_in None all)) }
     {
         match read_all(alloc, source) {
