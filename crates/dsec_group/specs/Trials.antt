@@ -1,5 +1,5 @@
 -- Candidates tried in order, and how many more may be tried after them.
-use Rattle.std.specs.Prelude.{◌≡◌, ℕ, ◌-◌, ◌==◌, List, length, take, find, filter, map, slice_get, Bool, Option, Some, None, if◌then◌else◌}
+use Rattle.std.specs.Prelude.{◌≡◌, ℕ, ◌+◌, ◌-◌, ◌<◌, ◌==◌, List, length, take, find, filter, map, slice_get, Bool, Option, Some, None, if◌then◌else◌}
 use Rattle.dsec_spec.specs.Records.{Record, Key}
 use Rattle.dsec_spec.specs.Accepts.{Accepts}
 use Rattle.dsec_spec.specs.Groups.{Group, set_in}
@@ -44,12 +44,13 @@ abbrev pub AreTries : List Record → List Key → Tries → Trial (Record × Ke
 AreTries signatures keys (Tries.Good i j) trial = (r : Record) × (key : Key) × (slice_get signatures i ≡ Some r) × (slice_get keys j ≡ Some key) × (trial ≡ found (r, key))
 AreTries signatures keys (Tries.Left more) trial = trial ≡ left more
 
--- where a signature was that of no key, what holds of how many more may be tried
-abbrev pub KeysLeave : KeyTries → (ℕ → Type 0) → Type 0
-KeysLeave (KeyTries.Good j) P = Unit {0}
-KeysLeave (KeyTries.Left more) P = P more
+-- The steps that trying a signature with keys took, where so many were there to be taken: one at least where it was a key's, and
+-- else all but those that are left.
+abbrev pub KeysSpend : ℕ → ℕ → ℕ → KeyTries → Type 0
+KeysSpend before now room (KeyTries.Good j) = before < now
+KeysSpend before now room (KeyTries.Left more) = now + more ≡ before + room
 
 -- the same of all signatures
-abbrev pub TriesLeave : Tries → (ℕ → Type 0) → Type 0
-TriesLeave (Tries.Good i j) P = Unit {0}
-TriesLeave (Tries.Left more) P = P more
+abbrev pub TriesSpend : ℕ → ℕ → ℕ → Tries → Type 0
+TriesSpend before now room (Tries.Good i j) = before < now
+TriesSpend before now room (Tries.Left more) = now + more ≡ before + room

@@ -4,7 +4,7 @@ ghost use Rattle.std.specs.Prelude.{◌≡◌, ◌≤◌, ◌+◌, IfOk, map};
 ghost use Rattle.dsec_spec.specs.Names.{place};
 ghost use Rattle.dsec_spec.specs.Numbers.{RRSIG};
 ghost use Rattle.dsec_wire.specs.Views.{key_view};
-ghost use Rattle.dsec_group.specs.Trials.{AreKeyTries, AreTries, KeysLeave, TriesLeave, key_trial, pair_trial};
+ghost use Rattle.dsec_group.specs.Trials.{AreKeyTries, AreTries, KeysSpend, TriesSpend, key_trial, pair_trial};
 
 use crate::cached::{check_signature, names_key};
 use crate::group::Group;
@@ -49,8 +49,9 @@ pub fn try_all<V: Verifier, L: Ledger>(
 ) -> Result<Tries, NoMemory>
     ensures tries { IfOk result (λ tries. AreTries group.now.signatures (map key_view keys.now) tries
         (pair_trial V.accepts group.now (place zone.now) t room group.now.signatures (map key_view keys.now))) }
+    ensures later { steps.old ≤ steps.new }
     ensures bound { steps.new ≤ steps.old + room }
-    ensures spent { IfOk result (λ tries. TriesLeave tries (λ more. steps.new + more ≤ steps.old + room)) }
+    ensures spent { IfOk result (λ tries. TriesSpend steps.old steps.new room tries) }
 {
     let signatures = group.sig_set();
     let mut left = room;
@@ -79,8 +80,9 @@ fn try_signature<V: Verifier, L: Ledger>(
     requires { sig.now.rtype ≡ RRSIG }
     ensures tries { IfOk result (λ tries. AreKeyTries sig.now (map key_view keys.now) tries
         (key_trial V.accepts group.now (place zone.now) t room sig.now (map key_view keys.now))) }
+    ensures later { steps.old ≤ steps.new }
     ensures bound { steps.new ≤ steps.old + room }
-    ensures spent { IfOk result (λ tries. KeysLeave tries (λ more. steps.new + more ≤ steps.old + room)) }
+    ensures spent { IfOk result (λ tries. KeysSpend steps.old steps.new room tries) }
 {
     let Some(rrsig) = sig.rdata().rrsig() else {
         return Ok(KeyTries::Left(room));

@@ -1,9 +1,9 @@
-use Rattle.std.proofs.Common.{◌+◌, ◌≤◌, map, subst, arith}
+use Rattle.std.proofs.Common.{map, subst, arith}
 use Rattle.dsec_spec.specs.Groups.{set_in}
 use Rattle.dsec_spec.specs.Names.{place}
 use Rattle.dsec_spec.specs.Trying.{pair_matches, pair_signs}
 use Rattle.dsec_wire.specs.Views.{key_view}
-use Rattle.dsec_group.specs.Trials.{AreKeyTries, AreTries, KeysLeave, key_trial, pair_trial}
+use Rattle.dsec_group.specs.Trials.{AreKeyTries, AreTries, KeysSpend, key_trial, pair_trial}
 use Rattle.dsec_group.specs.declared.tries.Tries.{Tries}
 use Rattle.dsec_group.proofs.IndexLaws.{there_is}
 use Rattle.dsec_group.proofs.TrialLaws.{signature_bad, signature_good}
@@ -19,9 +19,11 @@ loop-index-preserved g c =
     let whole = pair_trial g.V.Verifier.accepts c.args.group.now zone c.args.t c.args.room rs keys in
     let there = there_is rs c.loop-index.index r r c.loop-index-test.true c.index-signatures-index.is in
     let bad = subst (λ x. AreKeyTries r keys x (key_trial g.V.Verifier.accepts c.args.group.now zone c.args.t c.loop-index.left r keys)) c.in-Left.is c.in_ok-key.ensures.tries in
-    let spent = subst (λ x. KeysLeave x (λ more. c.try_signature.new.steps + more ≤ c.loop-index.steps + c.loop-index.left)) c.in-Left.is c.in_ok-key.ensures.spent in (
+    let spent = subst (KeysSpend c.loop-index.steps c.try_signature.new.steps c.loop-index.left) c.in-Left.is c.in_ok-key.ensures.spent in
+    let later = c.in_ok-key.ensures.later in (
       signature_bad good (pair_matches zone) whole rs keys c.loop-index.index c.loop-index.left r c.in-Left.more there bad c.loop-index.invariant.0,
       omega (arith, spent, c.loop-index.invariant.1),
+      omega (arith, spent, later, c.loop-index.invariant.2),
     )
 
 pub returns-in-Good-clause-tries : goal.returns-in-Good-clause-tries

@@ -8,4 +8,5 @@ abbrev pub invariant-loop-index : goal.invariant-loop-index
 invariant-loop-index g l =
     (pair_trial g.V.Verifier.accepts l.group (place l.zone) l.t l.room l.signatures (map key_view l.keys)
     ≡ pair_trial g.V.Verifier.accepts l.group (place l.zone) l.t l.left (drop l.index l.signatures) (map key_view l.keys))
-    × (l.steps + l.left ≤ l.fn.steps + l.room)
+    × (l.steps + l.left ≡ l.fn.steps + l.room)
+    × (l.left ≤ l.room)

@@ -26,11 +26,13 @@ loop-index-preserved g c =
             (signs_read g.V.Verifier.accepts (set_in c.args.group.now) c.args.sig.now sig key zone c.args.t read ∙ sym w.in_ok-check_signature.ensures ∙ w.if-branch.false)
             (omega (arith, w.left-is, w.if-left-eq0.false)) c.loop-index.invariant.0,
         omega (arith, c.loop-index.invariant.1, w.steps-is, w.left-is, w.tick.ensures, w.if-left-eq0.false),
+        omega (arith, c.loop-index.invariant.2, w.left-is, w.if-left-eq0.false),
       )
       | else-names_key w ↦ (
         rw w.left-is (key_skipped good (pair_matches zone) whole c.args.sig.now (map key_view c.args.keys.now) c.loop-index.index c.loop-index.left key there
             (matches_read c.args.sig.now sig key zone read ∙ sym c.names_key.ensures ∙ w.if-names_key.false) c.loop-index.invariant.0),
         omega (arith, c.loop-index.invariant.1, w.steps-is, w.left-is),
+        omega (arith, c.loop-index.invariant.2, w.left-is),
       )
     ]
 

@@ -8,4 +8,5 @@ abbrev pub invariant-loop-index : goal.invariant-loop-index
 invariant-loop-index g l =
     (key_trial g.V.Verifier.accepts l.group (place l.zone) l.t l.room l.sig (map key_view l.keys)
     ≡ key_trial g.V.Verifier.accepts l.group (place l.zone) l.t l.left l.sig (drop l.index (map key_view l.keys)))
-    × (l.steps + l.left ≤ l.fn.steps + l.room)
+    × (l.steps + l.left ≡ l.fn.steps + l.room)
+    × (l.left ≤ l.room)
