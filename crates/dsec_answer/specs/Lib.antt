@@ -2,3 +2,4 @@ pub mod Setting
 pub mod Outcomes
 pub mod Words
 pub mod Headline
+pub mod Counting

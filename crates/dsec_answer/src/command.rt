@@ -4,6 +4,7 @@ ghost use Rattle.std.specs.Prelude.{◌≡◌, ◌≤◌, ◌↔◌, ◌⊎◌, 
 ghost use Rattle.std.specs.Io.KnownBytes.{Appends};
 ghost use Rattle.dsec_crypto.specs.StandIn.{stand_in};
 ghost use Rattle.dsec_spec.specs.Outside.{Rose};
+ghost use Rattle.dsec_answer.specs.Counting.{counted_at};
 ghost use Rattle.dsec_answer.specs.Words.{IsValidate, usage};
 ghost use Rattle.dsec_answer.specs.Headline.{Answered, Done, RefusedAt, Refuses, WentOut};
 
@@ -36,6 +37,8 @@ pub fn run<S: Source, K: Sink>(alloc: Global, words: &[String], source: &mut S, 
     ensures first { result ≡ 3 → IfSome (S.left source.old) (λ content. RefusedAt content (K.written sink.old) (K.written sink.new)) }
     ensures read { result ≡ 4 → Rose (S.faults source.old) (S.faults source.new) }
     ensures write { result ≡ 5 → Rose (K.faults sink.old) (K.faults sink.new) }
+    ensures reads { S.faults source.new ≡ counted_at 4 result (S.faults source.old) }
+    ensures writes { K.faults sink.new ≡ counted_at 5 result (K.faults sink.old) }
     ensures front { WentOut stand_in (map (λ w. string_bytes w) words.now) (S.left source.old) (S.left source.new) (K.written sink.old) (K.written sink.new) }
     ensures statuses { (result ≡ 0) ⊎ ((result ≡ 2) ⊎ ((result ≡ 3) ⊎ ((result ≡ 4) ⊎ ((result ≡ 5) ⊎ (result ≡ 6))))) }
 {
@@ -59,6 +62,8 @@ pub fn run_by<V: Verifier, S: Source, K: Sink>(
     ensures first { result ≡ 3 → IfSome (S.left source.old) (λ content. RefusedAt content (K.written sink.old) (K.written sink.new)) }
     ensures read { result ≡ 4 → Rose (S.faults source.old) (S.faults source.new) }
     ensures write { result ≡ 5 → Rose (K.faults sink.old) (K.faults sink.new) }
+    ensures reads { S.faults source.new ≡ counted_at 4 result (S.faults source.old) }
+    ensures writes { K.faults sink.new ≡ counted_at 5 result (K.faults sink.old) }
     ensures front { WentOut V.accepts (map (λ w. string_bytes w) words.now) (S.left source.old) (S.left source.new) (K.written sink.old) (K.written sink.new) }
     ensures statuses { (result ≡ 0) ⊎ ((result ≡ 2) ⊎ ((result ≡ 3) ⊎ ((result ≡ 4) ⊎ ((result ≡ 5) ⊎ (result ≡ 6))))) }
 {

@@ -4,6 +4,7 @@ ghost use Rattle.std.specs.Prelude.{◌≡◌, ◌≤◌, IfOk, OnOk, IsErrOf};
 ghost use Rattle.std.specs.Io.KnownBytes.{Appends};
 ghost use Rattle.dsec_spec.specs.Outside.{Rose, SentFront};
 ghost use Rattle.dsec_outcome.specs.Texts.{outcome_text};
+ghost use Rattle.dsec_answer.specs.Counting.{CountsWrites};
 ghost use Rattle.dsec_answer.specs.Outcomes.{answer_text, outcome_of};
 ghost use Rattle.dsec_answer.specs.declared.judging.Halt.TheVariants.{Memory};
 
@@ -38,6 +39,7 @@ impl From<NoMemory> for Halt {
 pub fn send<K: Sink>(sink: &mut K, octets: &[u8]) -> Result<(), Halt>
     ensures later { K.faults sink.old ≤ K.faults sink.new }
     ensures write { IsErrOf result Halt.Write → Rose (K.faults sink.old) (K.faults sink.new) }
+    ensures counts { CountsWrites (K.faults sink.old) (K.faults sink.new) result }
     ensures only { IsErrOf result Halt.Memory → ⊥ }
     ensures sent { OnOk result (Appends (K.written sink.old) (K.written sink.new) octets.now) }
     ensures front { SentFront (K.written sink.old) (K.written sink.new) octets.now }
@@ -98,6 +100,7 @@ pub fn judge_all<V: Verifier, K: Sink>(
 ) -> Result<(), Halt>
     ensures later { K.faults sink.old ≤ K.faults sink.new }
     ensures write { IsErrOf result Halt.Write → Rose (K.faults sink.old) (K.faults sink.new) }
+    ensures counts { CountsWrites (K.faults sink.old) (K.faults sink.new) result }
     ensures sent { OnOk result (Appends (K.written sink.old) (K.written sink.new) (answer_text V.accepts context.old.anchors context.old.limits upstream.old.replies items.now)) }
     ensures front { SentFront (K.written sink.old) (K.written sink.new) (answer_text V.accepts context.old.anchors context.old.limits upstream.old.replies items.now) }
 {

@@ -3,6 +3,7 @@
 ghost use Rattle.std.specs.Prelude.{◌≡◌, ◌≤◌, ◌⊎◌, IfOk, OnOk, IsErrOf};
 ghost use Rattle.std.specs.Io.KnownBytes.{Appends};
 ghost use Rattle.dsec_spec.specs.Outside.{Rose, SentFront};
+ghost use Rattle.dsec_answer.specs.Counting.{CountsWrites, counted_at, status_in};
 ghost use Rattle.dsec_answer.specs.Headline.{Answered, RefusedAt, SentFor};
 ghost use Rattle.dsec_answer.specs.Outcomes.{script_text};
 ghost use Rattle.dsec_answer.specs.Words.{refused_text, word_text};
@@ -20,6 +21,7 @@ use std::alloc::Global;
 pub fn status_of(halt: Halt) -> u8
     ensures values { (result ≡ 5) ⊎ (result ≡ 6) }
     ensures write { result ≡ 5 → halt ≡ Halt.Write }
+    ensures exact { result ≡ status_in halt }
 {
     match halt {
         Halt::Write => 5,
@@ -35,6 +37,7 @@ fn judge_script<V: Verifier, K: Sink>(
 ) -> Result<(), Halt>
     ensures later { K.faults sink.old ≤ K.faults sink.new }
     ensures write { IsErrOf result Halt.Write → Rose (K.faults sink.old) (K.faults sink.new) }
+    ensures counts { CountsWrites (K.faults sink.old) (K.faults sink.new) result }
     ensures sent { OnOk result (Appends (K.written sink.old) (K.written sink.new) (script_text V.accepts script)) }
     ensures front { SentFront (K.written sink.old) (K.written sink.new) (script_text V.accepts script) }
 {
@@ -87,6 +90,7 @@ fn refusal(alloc: Global, refused: Refused) -> Result<Vec<u8>, NoMemory>
 fn refuse<K: Sink>(alloc: Global, refused: Refused, sink: &mut K) -> Result<(), Halt>
     ensures later { K.faults sink.old ≤ K.faults sink.new }
     ensures write { IsErrOf result Halt.Write → Rose (K.faults sink.old) (K.faults sink.new) }
+    ensures counts { CountsWrites (K.faults sink.old) (K.faults sink.new) result }
     ensures sent { OnOk result (Appends (K.written sink.old) (K.written sink.new) (refused_text refused)) }
     ensures front { SentFront (K.written sink.old) (K.written sink.new) (refused_text refused) }
 {
@@ -98,6 +102,7 @@ fn refuse<K: Sink>(alloc: Global, refused: Refused, sink: &mut K) -> Result<(), 
 pub fn answer<V: Verifier, K: Sink>(alloc: Global, content: &[u8], sink: &mut K) -> u8
     ensures later { K.faults sink.old ≤ K.faults sink.new }
     ensures write { result ≡ 5 → Rose (K.faults sink.old) (K.faults sink.new) }
+    ensures counts { K.faults sink.new ≡ counted_at 5 result (K.faults sink.old) }
     ensures done { result ≡ 0 → Answered V.accepts content.now (K.written sink.old) (K.written sink.new) }
     ensures refused { result ≡ 3 → RefusedAt content.now (K.written sink.old) (K.written sink.new) }
     ensures front { SentFor V.accepts content.now (K.written sink.old) (K.written sink.new) }

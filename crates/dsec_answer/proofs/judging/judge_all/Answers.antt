@@ -9,7 +9,7 @@ use Rattle.dsec_answer.proofs.AnswerLoop.{no_texts, one_more, stopped, stopped_w
 use Rattle.dsec_answer.proofs.judging.judge_all.Goals as goal
 
 pub loop-item-init : goal.loop-item-init
-loop-item-init g c = (omega arith, refl, refl, refl, subst (Appends _ _) (sym no_texts) (Appends-nil _))
+loop-item-init g c = (refl, refl, refl, refl, subst (Appends _ _) (sym no_texts) (Appends-nil _))
 
 pub returns-in_err-out-clause-front : goal.returns-in_err-out-clause-front
 returns-in_err-out-clause-front g c =
@@ -36,7 +36,7 @@ loop-item-preserved g c =
     rw (sym inv.2, sym inv.3, sym c.item-item.is) c.in_ok-out.ensures.exact in
     let sent : Appends (g.K.Sink.written c.loop-item.sink) (g.K.Sink.written c.send.new.sink) (outcome_text c.loop-item.index (f (get_or c.args.items.now c.loop-item.item-index c.item-item.result))) =
     subst (Appends (g.K.Sink.written c.loop-item.sink) (g.K.Sink.written c.send.new.sink)) (c.deref.ensures.value ∙ text) c.in_ok-send.ensures.sent in (
-      omega (arith, inv.0, c.in_ok-send.ensures.later),
+      c.in_ok-send.ensures.counts ∙ inv.0,
       omega (arith, inv.1),
       c.in_ok-out.ensures.same_context ∙ inv.2,
       c.in_ok-out.ensures.same_table ∙ inv.3,

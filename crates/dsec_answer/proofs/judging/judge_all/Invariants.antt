@@ -5,7 +5,7 @@ use Rattle.dsec_answer.proofs.judging.judge_all.Given as goal
 
 abbrev pub invariant-loop-item : goal.invariant-loop-item
 invariant-loop-item g l =
-    (g.K.Sink.faults l.fn.sink ≤ g.K.Sink.faults l.sink)
+    (g.K.Sink.faults l.sink ≡ g.K.Sink.faults l.fn.sink)
     × (l.index ≡ l.item-index)
     × (l.context ≡ l.fn.context)
     × (l.upstream.replies ≡ l.fn.upstream.replies)
