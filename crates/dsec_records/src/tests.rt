@@ -103,10 +103,11 @@ fn other_keys(rt: HostRuntime) -> Result<(), Fail> {
 #[test]
 fn key_without_octets(rt: HostRuntime) -> Result<(), Fail> {
     let alloc = rt.alloc();
-    let data = Data::new(
-        Rtype::DNSKEY,
-        Octets::new(Vec::from_slice(alloc, &[1, 1, 3, 13])?),
-    );
+    let octets = Octets::new(Vec::from_slice(alloc, &[1, 1, 3, 13])?);
+    if !Data::is_readable(Rtype::DNSKEY, octets.as_slice()) {
+        return Err(Fail::new("unreadable"));
+    }
+    let data = Data::new(Rtype::DNSKEY, octets);
     let record = Record::new(
         Name::parse(alloc, "example.")?,
         Class::IN,
