@@ -1,6 +1,6 @@
 //! Zone text, read entry by entry.
 
-ghost use Rattle.std.specs.Prelude.{◌≡◌, ◌≤◌, ◌++◌, [], None, Some, OnErr, OnOk, drop, length};
+ghost use Rattle.std.specs.Prelude.{◌≡◌, ◌≤◌, ◌+◌, ◌++◌, [], None, Some, OnErr, OnOk, drop, length};
 ghost use Rattle.dsec_zonefile.specs.Entries.{Answers};
 ghost use Rattle.dsec_zonefile.specs.Setting.{at_first};
 
@@ -104,7 +104,7 @@ impl Zonefile {
 pub(crate) fn give_up_read(text: &mut Vec<u8>, at: &mut usize)
     requires { at.old ≤ length text.old.items }
     ensures left { drop at.new text.new.items ≡ drop at.old text.old.items }
-    ensures within { at.new ≤ length text.new.items }
+    ensures half { at.new + at.new ≤ length text.new.items }
 {
     if *at > text.len() - *at {
         text.drain(..*at);

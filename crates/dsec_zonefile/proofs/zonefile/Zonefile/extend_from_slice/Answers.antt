@@ -1,4 +1,4 @@
-use Rattle.std.proofs.Common.{◌≡◌, ◌≤◌, ◌++◌, ◌+◌, ◌-◌, ◌<◌, ◌^◌, ℕ, List, length, drop, arith, ap, sym, ◌∙◌}
+use Rattle.std.proofs.Common.{◌≡◌, ◌-◌, ℕ, List, length, drop, arith, ap, sym, ◌∙◌}
 use Rattle.std.proofs.lemmas.List.{length-append, length-drop}
 use Rattle.dsec_zonefile.proofs.zonefile.Zonefile.extend_from_slice.Goals as goal
 
@@ -10,16 +10,16 @@ pub invariant_of-self : goal.invariant_of-self
 invariant_of-self c =
     let rest = same_left c.give_up_read.new.text.items c.self.inside.text.items c.give_up_read.new.at c.self.inside.place.at c.give_up_read.ensures.left in
     let size = ap length c.in_err-extend_from_slice.ensures.items in
-    let within = c.give_up_read.ensures.within in
+    let half = c.give_up_read.ensures.half in
     let before = c.self.invariant in
-    (omega (arith, size, within), omega (arith, size, within, rest, before.0, before.1))
+    (omega (arith, size, half), omega (arith, size, half, rest, before.0, before.1))
 
 pub invariant_of-self-2 : goal.invariant_of-self-2
 invariant_of-self-2 c =
     let rest = same_left c.give_up_read.new.text.items c.self.inside.text.items c.give_up_read.new.at c.self.inside.place.at c.give_up_read.ensures.left in
     let size = ap length c.in_ok-extend_from_slice.ensures.items ∙ length-append c.give_up_read.new.text.items c.args.more.now in
-    let within = c.give_up_read.ensures.within in
+    let half = c.give_up_read.ensures.half in
     let before = c.self.invariant in
     let room = c.if-more-self.false in
     let all = c.len.ensures in
-    (omega (arith, size, within), omega (arith, size, within, rest, before.0, before.1, room, all))
+    (omega (arith, size, half), omega (arith, size, half, rest, before.0, before.1, room, all))
