@@ -54,3 +54,11 @@ KeysSpend before now room (KeyTries.Left more) = now + more ≡ before + room
 abbrev pub TriesSpend : ℕ → ℕ → ℕ → Tries → Type 0
 TriesSpend before now room (Tries.Good i j) = before < now
 TriesSpend before now room (Tries.Left more) = now + more ≡ before + room
+
+-- The steps that trying pairs took, where so many were there to be taken: one at least where a pair is good; none where there was no
+-- pair; one at least, and not all, where each pair was tried; and all where there are as many pairs or more.
+abbrev pub TriedSpends : {P : Type 0} → ℕ → ℕ → ℕ → Tried P → Type 0
+TriedSpends before now room (good p) = before < now
+TriedSpends before now room nothing = now ≡ before
+TriedSpends before now room all_bad = (before < now) × (now < before + room)
+TriedSpends before now room too_many_bad = now ≡ before + room

@@ -8,7 +8,7 @@ ghost use Rattle.dsec_spec.specs.Records.{rrsig_of};
 ghost use Rattle.dsec_spec.specs.Trying.{checked};
 ghost use Rattle.dsec_wire.specs.Views.{key_view};
 ghost use Rattle.dsec_group.specs.Checks.{IsCheck, cause_of, encloser_by};
-ghost use Rattle.dsec_group.specs.Trials.{comes_to, left};
+ghost use Rattle.dsec_group.specs.Trials.{TriedSpends, comes_to, left};
 ghost use Rattle.dsec_group.specs.declared.state.ValidationState.TheVariants.{Bogus, Secure};
 
 use crate::group::Group;
@@ -57,7 +57,10 @@ pub fn check_with_keys<V: Verifier, L: Ledger>(
 ) -> Result<KeyCheck, NoMemory>
     ensures checked { IfOk result (λ check. IsCheck group.now (map key_view keys.now) check
         (checked V.accepts group.now (place zone.now) (map key_view keys.now) (limits.now.max_bad_signatures + 1) t)) }
+    ensures later { steps.old ≤ steps.new }
     ensures bound { steps.new ≤ steps.old + (limits.now.max_bad_signatures + 1) }
+    ensures spent { IfOk result (λ check. TriedSpends steps.old steps.new (limits.now.max_bad_signatures + 1)
+        (checked V.accepts group.now (place zone.now) (map key_view keys.now) (limits.now.max_bad_signatures + 1) t)) }
 {
     let room = u16::from(limits.max_bad_signatures) + 1;
     match try_all::<V, L>(alloc, group, zone, keys, room, t, memo, steps)? {
