@@ -1,11 +1,10 @@
 -- Lemmas for the top calls.
-use Rattle.std.proofs.Common.{◌≡◌, ◌↔◌, ℕ, List, [], ◌∷◌, ◌++◌, ◌<◌, ◌≤◌, ◌+◌, length, get_or, Option, Some, None, Result, Ok, Err, IfSome, IsTrue, map, Bool, true, false, refl, sym, ap, ◌∙◌, subst, append-nil, arith}
+use Rattle.std.proofs.Common.{◌≡◌, ◌↔◌, ℕ, List, [], ◌∷◌, ◌<◌, ◌≤◌, length, get_or, Option, Some, None, Result, Ok, Err, IfSome, IsTrue, map, Bool, true, false, refl, sym, ap, ◌∙◌, subst, arith}
 use Rattle.std.specs.Prelude.{nat_lt, bytes_eq}
 use Rattle.std.specs.Bool.{OnFalse}
 use Rattle.std.specs.Io.KnownBytes.{Consumes, IsAtEnd}
 use Rattle.std.proofs.KnownBytes.{Consumes-whole}
-use Rattle.std.proofs.lemmas.Bool.{lt-ltb, ltb-true, ltb-false}
-use Rattle.std.proofs.lemmas.List.{take-append-le, length-append}
+use Rattle.std.proofs.lemmas.Bool.{ltb-false}
 use Rattle.std.proofs.lemmas.Slice.Eq.{bytes_eq-Decides}
 use Rattle.dsec_script.specs.declared.script.Script.{Script}
 use Rattle.dsec_script.specs.declared.error.Word.TheVariants as words

@@ -1,4 +1,4 @@
-use Rattle.std.proofs.Common.{◌≡◌, ◌≤◌, take}
+use Rattle.std.proofs.Common.{◌≡◌, take}
 use Rattle.std.specs.Io.KnownBytes.{Appends}
 use Rattle.dsec_answer.specs.Outcomes.{answer_text}
 use Rattle.dsec_answer.proofs.judging.judge_all.Given as goal
