@@ -4,8 +4,6 @@
 mod anchors;
 mod error;
 mod island;
-#[cfg(test)]
-mod tests;
 mod text;
 
 pub use anchors::{AnchorRecords, TrustAnchor, TrustAnchors};

@@ -8,6 +8,3 @@ mod script;
 
 pub use command::{run, run_by};
 pub use context::ValidationContext;
-
-#[cfg(test)]
-mod tests;

@@ -3,15 +3,7 @@
 
 mod cause;
 mod laws;
-#[cfg(test)]
-mod layout_tests;
-#[cfg(test)]
-mod layout_vectors;
 mod numbers;
-#[cfg(test)]
-mod tests;
-#[cfg(test)]
-mod view_tests;
 
 pub use cause::Cause;
 pub use dsec_builder::{

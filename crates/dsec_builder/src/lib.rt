@@ -8,8 +8,6 @@ mod items;
 mod laws;
 mod octets;
 mod sections;
-#[cfg(test)]
-mod tests;
 
 pub use builder::{MessageBuilder, QuestionBuilder};
 pub use error::PushError;

@@ -14,6 +14,3 @@ pub use iterated::ih;
 pub use stand_in::StandIn;
 pub use table::TableVerifier;
 pub use verifier::{By, Verifier};
-
-#[cfg(test)]
-mod tests;

@@ -22,14 +22,3 @@ pub use set::{GroupSet, groups};
 pub use state::ValidationState;
 pub use steps::Steps;
 pub use tries::{Tries, try_all};
-
-#[cfg(test)]
-mod cached_tests;
-#[cfg(test)]
-mod check_tests;
-#[cfg(test)]
-mod memo_tests;
-#[cfg(test)]
-mod tests;
-#[cfg(test)]
-mod trying_tests;

@@ -17,8 +17,3 @@ pub use name::Name;
 pub use name_ref::NameRef;
 pub use octets::Octets;
 pub use text::octet_of_digits;
-
-#[cfg(test)]
-mod borrowed_tests;
-#[cfg(test)]
-mod tests;

@@ -9,8 +9,6 @@ mod limits;
 mod rcode;
 mod rtype;
 mod serial;
-#[cfg(test)]
-mod tests;
 mod timestamp;
 mod ttl;
 mod word;

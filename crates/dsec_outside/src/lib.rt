@@ -9,8 +9,6 @@ mod replies;
 mod sink;
 mod source;
 mod std_io;
-#[cfg(test)]
-mod tests;
 mod upstream;
 mod whole;
 

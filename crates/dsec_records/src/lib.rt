@@ -12,6 +12,3 @@ pub use bind::parse_from_bind;
 pub use display::{BindDisplay, display_as_bind};
 pub use error::ParseDnskeyTextError;
 pub use laws::law_of_bind_text;
-
-#[cfg(test)]
-mod tests;

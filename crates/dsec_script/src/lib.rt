@@ -11,10 +11,3 @@ mod text;
 pub use error::{Refused, ScriptError, Word};
 pub use items::{Item, Items};
 pub use script::{Script, read_script};
-
-#[cfg(test)]
-mod more_vectors;
-#[cfg(test)]
-mod tests;
-#[cfg(test)]
-mod vectors;

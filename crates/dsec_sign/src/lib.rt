@@ -4,6 +4,3 @@
 mod stand_in_key;
 
 pub use stand_in_key::StandInKey;
-
-#[cfg(test)]
-mod tests;

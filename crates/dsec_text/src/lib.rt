@@ -11,6 +11,3 @@ mod word;
 pub use laws::{law_of_first_lines, law_of_lines, law_of_tokens, law_of_words};
 pub use line::{BadLine, Found, Line, LineError, Span, first_line};
 pub use word::Word;
-
-#[cfg(test)]
-mod tests;

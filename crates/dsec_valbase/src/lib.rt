@@ -32,10 +32,3 @@ pub use record_set::RecordSet;
 pub use rrsig_ext::RrsigExt;
 pub use shown::Shown;
 pub use supported::{supported_algorithm, supported_digest};
-
-#[cfg(test)]
-mod key_tests;
-#[cfg(test)]
-mod link_tests;
-#[cfg(test)]
-mod tests;

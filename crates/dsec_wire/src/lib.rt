@@ -24,10 +24,6 @@ mod rrsig;
 mod sections;
 mod soa;
 mod target;
-#[cfg(test)]
-mod tests;
-#[cfg(test)]
-mod vectors;
 
 pub use data::Data;
 pub use dnskey::Dnskey;

@@ -8,6 +8,3 @@ mod word;
 pub use digits::number;
 pub use error::ReadError;
 pub use word::{is_word, read_base64, read_class, read_hex, read_name, read_rtype};
-
-#[cfg(test)]
-mod tests;

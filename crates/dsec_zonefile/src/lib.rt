@@ -12,13 +12,7 @@ mod line;
 mod place;
 mod setting;
 mod step;
-#[cfg(test)]
-mod tests;
-#[cfg(test)]
-mod vectors;
 mod word;
-#[cfg(test)]
-mod written;
 mod zonefile;
 
 pub use entry::Entry;

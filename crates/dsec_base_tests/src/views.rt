@@ -1,0 +1,210 @@
+//! What the views find in data, field by field.
+
+use crate::layouts::data_of;
+use dsec_base::{Data, Dnskey, Ds, Name, NameRef, Nsec, Nsec3, Nsec3param, Opt, Rrsig, Rtype, Soa};
+use std::alloc::Global;
+use std::test::Fail;
+
+/// `NS.EXAMPLE.`
+const NAME: &str = "024e53074558414d504c4500";
+
+const SOA: &str =
+    "024e53074558414d504c45000a486f73746d6173746572074558414d504c45000102030400001c2000000e10001275000000012c";
+
+const DS: &str = "0e1d0f023aa5ab37efce57f737fc1627013fee07bdf241bd10f3b1964ab55c78e79a304b";
+
+const KEY: &str = "0101030f974d96a22d224bc01adb915091477d44ccd91c9a41a11430010117d52c59240e";
+
+const SIGNATURE: &str = "00010d0200000e10659200806567d7001234015a074558414d504c4500a1b2c3d4";
+
+const NSEC: &str = "04486f7374074558414d504c45000006400100000003";
+
+const NSEC3: &str =
+    "0101000c04aabbccdd14174eb2409fe28bcb4887a1836f957f0a8425e27b000722010000000290";
+
+const NSEC3PARAM: &str = "0100000c04aabbccdd";
+
+const OPTIONS: &str = "000f00080012616263646566000a0000000b";
+
+/// The digest, the key and the hash of the vectors.
+const DIGEST: &[u8] = &[
+    0x3a, 0xa5, 0xab, 0x37, 0xef, 0xce, 0x57, 0xf7, 0x37, 0xfc, 0x16, 0x27, 0x01, 0x3f, 0xee, 0x07,
+    0xbd, 0xf2, 0x41, 0xbd, 0x10, 0xf3, 0xb1, 0x96, 0x4a, 0xb5, 0x5c, 0x78, 0xe7, 0x9a, 0x30, 0x4b,
+];
+
+const PUBLIC_KEY: &[u8] = &[
+    0x97, 0x4d, 0x96, 0xa2, 0x2d, 0x22, 0x4b, 0xc0, 0x1a, 0xdb, 0x91, 0x50, 0x91, 0x47, 0x7d, 0x44,
+    0xcc, 0xd9, 0x1c, 0x9a, 0x41, 0xa1, 0x14, 0x30, 0x01, 0x01, 0x17, 0xd5, 0x2c, 0x59, 0x24, 0x0e,
+];
+
+const HASH: &[u8] = &[
+    0x17, 0x4e, 0xb2, 0x40, 0x9f, 0xe2, 0x8b, 0xcb, 0x48, 0x87, 0xa1, 0x83, 0x6f, 0x95, 0x7f, 0x0a,
+    0x84, 0x25, 0xe2, 0x7b,
+];
+
+/// Data, and how many views find something in them.
+const VECTORS: [(Rtype, &str, usize); 13] = [
+    (Rtype::SOA, SOA, 1),
+    (Rtype::CNAME, NAME, 1),
+    (Rtype::DNAME, NAME, 1),
+    (Rtype::NS, NAME, 0),
+    (Rtype::DS, DS, 1),
+    (Rtype::DNSKEY, KEY, 1),
+    (Rtype::CDS, DS, 0),
+    (Rtype::RRSIG, SIGNATURE, 1),
+    (Rtype::NSEC, NSEC, 1),
+    (Rtype::NSEC3, NSEC3, 1),
+    (Rtype::NSEC3PARAM, NSEC3PARAM, 1),
+    (Rtype::OPT, OPTIONS, 1),
+    (Rtype::A, OPTIONS, 0),
+];
+
+/// Whether the name is this one.
+fn is(alloc: Global, name: NameRef<'_>, text: &str) -> Result<bool, Fail> {
+    match Name::parse(alloc, text) {
+        Ok(want) => Ok(name.is(&want)),
+        Err(_) => Ok(false),
+    }
+}
+
+/// How many views find something in the data.
+fn views(rdata: &Data) -> usize {
+    let found = [
+        rdata.soa().is_some(),
+        rdata.cname().is_some(),
+        rdata.dname().is_some(),
+        rdata.ds().is_some(),
+        rdata.dnskey().is_some(),
+        rdata.rrsig().is_some(),
+        rdata.nsec().is_some(),
+        rdata.nsec3().is_some(),
+        rdata.nsec3param().is_some(),
+        rdata.opt().is_some(),
+    ];
+    found.iter().filter(|is_found| **is_found).count()
+}
+
+fn says_soa(alloc: Global, soa: &Soa<'_>) -> Result<bool, Fail> {
+    let mname = is(alloc, soa.mname, "ns.example.")?;
+    let rname = is(alloc, soa.rname, "hostmaster.example.")?;
+    let times = (
+        soa.refresh.as_secs(),
+        soa.retry.as_secs(),
+        soa.expire.as_secs(),
+    );
+    let others = (soa.serial.to_int(), soa.minimum.as_secs());
+    Ok(mname && rname && times == (7200, 3600, 1_209_600) && others == (0x0102_0304, 300))
+}
+
+fn says_ds(ds: &Ds<'_>) -> bool {
+    let numbers = (ds.key_tag, ds.algorithm.to_int(), ds.digest_type.to_int());
+    numbers == (3613, 15, 2) && ds.digest == DIGEST
+}
+
+fn says_dnskey(key: &Dnskey<'_>) -> bool {
+    let numbers = (key.flags, key.protocol, key.algorithm.to_int());
+    numbers == (257, 3, 15) && key.public_key == PUBLIC_KEY
+}
+
+fn says_rrsig(alloc: Global, rrsig: &Rrsig<'_>) -> Result<bool, Fail> {
+    let signer = is(alloc, rrsig.signer_name, "z.example.")?;
+    Ok(signer && rrsig.key_tag == 4660 && rrsig.signature == [0xa1, 0xb2, 0xc3, 0xd4].as_slice())
+}
+
+fn says_nsec(alloc: Global, nsec: &Nsec<'_>) -> Result<bool, Fail> {
+    let next_name = is(alloc, nsec.next_name, "host.example.")?;
+    Ok(next_name && nsec.types == [0, 6, 0x40, 1, 0, 0, 0, 3].as_slice())
+}
+
+fn says_nsec3(nsec3: &Nsec3<'_>) -> bool {
+    let numbers = (nsec3.hash_algorithm.to_int(), nsec3.flags, nsec3.iterations);
+    numbers == (1, 1, 12)
+        && nsec3.salt == [0xaa, 0xbb, 0xcc, 0xdd].as_slice()
+        && nsec3.next_owner == HASH
+        && nsec3.types == [0, 7, 0x22, 1, 0, 0, 0, 2, 0x90].as_slice()
+}
+
+fn says_nsec3param(nsec3param: &Nsec3param<'_>) -> bool {
+    let (flags, iterations) = (nsec3param.flags, nsec3param.iterations);
+    let numbers = (nsec3param.hash_algorithm.to_int(), flags, iterations);
+    numbers == (1, 0, 12) && nsec3param.salt == [0xaa, 0xbb, 0xcc, 0xdd].as_slice()
+}
+
+/// Whether the view of the data says what its vector does.
+fn says(alloc: Global, rdata: &Data) -> Result<bool, Fail> {
+    if let Some(soa) = rdata.soa() {
+        return says_soa(alloc, &soa);
+    }
+    if let Some(cname) = rdata.cname() {
+        return is(alloc, cname.cname, "ns.example.");
+    }
+    if let Some(dname) = rdata.dname() {
+        return is(alloc, dname.dname, "ns.example.");
+    }
+    if let Some(rrsig) = rdata.rrsig() {
+        return says_rrsig(alloc, &rrsig);
+    }
+    if let Some(nsec) = rdata.nsec() {
+        return says_nsec(alloc, &nsec);
+    }
+    Ok(says_octets(rdata))
+}
+
+/// The same of the views without names.
+fn says_octets(rdata: &Data) -> bool {
+    if let Some(ds) = rdata.ds() {
+        return says_ds(&ds);
+    }
+    if let Some(key) = rdata.dnskey() {
+        return says_dnskey(&key) && key.key_tag() == 3613;
+    }
+    if let Some(nsec3) = rdata.nsec3() {
+        return says_nsec3(&nsec3);
+    }
+    if let Some(nsec3param) = rdata.nsec3param() {
+        return says_nsec3param(&nsec3param);
+    }
+    match rdata.opt() {
+        Some(opt) => opt.options.len() == 18,
+        None => false,
+    }
+}
+
+#[test]
+fn each_view(rt: HostRuntime) -> Result<(), Fail> {
+    let alloc = rt.alloc();
+    for (rtype, text, count) in VECTORS {
+        let Some(rdata) = data_of(alloc, rtype, text)? else {
+            return Ok(assert!(rt; false, "{text}"));
+        };
+        assert_eq!(rt; views(&rdata), count, "{text}");
+        let is_said = says(alloc, &rdata)?;
+        assert_eq!(rt; is_said, count == 1, "{text}");
+    }
+    Ok(())
+}
+
+/// Whether the first option is of this code, has these octets, and these are left after it.
+fn first_is(options: &[u8], code: u16, octets: &[u8], left: &[u8]) -> bool {
+    match (Opt { options }).first_option() {
+        Some((option, rest)) => option.code == code && option.octets == octets && rest == left,
+        None => false,
+    }
+}
+
+#[test]
+fn first_options(rt: HostRuntime) {
+    assert!(rt;
+        first_is(
+            &[0, 15, 0, 2, 0, 6, 0, 10, 0, 0],
+            15,
+            &[0, 6],
+            &[0, 10, 0, 0]
+        )
+    );
+    assert!(rt; first_is(&[1, 10, 0, 0, 255], 266, &[], &[255]));
+    for text in ["", "\0", "\0\n\0", "\0\n\0\x02a"] {
+        let options = text.as_bytes();
+        assert!(rt; (Opt { options }).first_option().is_none(), "{text}");
+    }
+}

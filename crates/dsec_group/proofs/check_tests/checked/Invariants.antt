@@ -1,4 +1,0 @@
-use Rattle.dsec_group.proofs.check_tests.checked.Given as goal
-
-abbrev pub ghosts-check_by : goal.ghosts-check_by
-ghosts-check_by g a = record { name = a.blank.name; parts = a.blank.parts }

@@ -1,6 +1,0 @@
-use Rattle.dsec_spec.specs.Numbers.{DNSKEY}
-use Rattle.dsec_valbase.specs.Sets.{AreRecordsOf}
-use Rattle.dsec_valbase.proofs.key_tests.keys_of.Given as goal
-
-abbrev pub invariant-loop-hexed : goal.invariant-loop-hexed
-invariant-loop-hexed l = AreRecordsOf DNSKEY l.made.items
