@@ -95,17 +95,13 @@ fn known_digests(rt: HostRuntime) {
     for (digest_type, message, want) in vectors {
         for size in 1..60 {
             let digest = digest_of_pieces(digest_type, message, size);
-            assert_eq!(rt;
-                hex_of(digest.as_ref()).as_str(),
-                want,
-                "in pieces of {size}"
-            );
+            assert!(rt; hex_of(digest.as_ref()).as_str() == want);
             let of_type = match digest {
                 Digest::Sha1(_) => DigestType::Sha1,
                 Digest::Sha256(_) => DigestType::Sha256,
                 Digest::Sha384(_) => DigestType::Sha384,
             };
-            assert_eq!(rt; of_type, digest_type);
+            assert!(rt; of_type == digest_type);
         }
     }
 }
@@ -143,7 +139,7 @@ fn known_owner_hashes(rt: HostRuntime) {
         (b"abc", b"", 0, "a9993e364706816aba3e25717850c26c9cd0d89d"),
     ];
     for (name, salt, iterations, want) in vectors {
-        assert_eq!(rt; hex_of(&ih(name, salt, iterations)).as_str(), want);
+        assert!(rt; hex_of(&ih(name, salt, iterations)).as_str() == want);
     }
 }
 
@@ -191,30 +187,18 @@ fn answer<V: Verifier>(key: &[u8], message: &[u8], signature: &[u8]) -> Result<(
 fn accepts_these_alone<V: Verifier>(rt: &impl Abort, alloc: Global) -> Result<(), Fail> {
     let bad = Err(AlgorithmError::BadSig);
     for row in signed_messages() {
-        assert_eq!(rt; answer::<V>(row.key, row.message, row.signature), Ok(()));
+        assert!(rt; answer::<V>(row.key, row.message, row.signature) == Ok(()));
         for place in 0..row.key.len() {
             let key = altered(alloc, row.key, place)?;
-            assert_eq!(rt;
-                answer::<V>(&key, row.message, row.signature),
-                bad,
-                "key, {place}"
-            );
+            assert!(rt; answer::<V>(&key, row.message, row.signature) == bad);
         }
         for place in 0..row.message.len() {
             let message = altered(alloc, row.message, place)?;
-            assert_eq!(rt;
-                answer::<V>(row.key, &message, row.signature),
-                bad,
-                "message, {place}"
-            );
+            assert!(rt; answer::<V>(row.key, &message, row.signature) == bad);
         }
         for place in 0..row.signature.len() {
             let signature = altered(alloc, row.signature, place)?;
-            assert_eq!(rt;
-                answer::<V>(row.key, row.message, &signature),
-                bad,
-                "signature, {place}"
-            );
+            assert!(rt; answer::<V>(row.key, row.message, &signature) == bad);
         }
     }
     Ok(())
@@ -237,15 +221,15 @@ fn the_stand_in_reads_the_whole_key(rt: HostRuntime) {
     for row in signed_messages() {
         for flags in [0, 1, 256, 258, 385, 33025] {
             let result = StandIn::verify(flags, 3, 13, row.key, row.message, row.signature);
-            assert_eq!(rt; result, bad, "flags {flags}");
+            assert!(rt; result == bad);
         }
         for protocol in [0, 1, 2, 4, 131, 255] {
             let result = StandIn::verify(257, protocol, 13, row.key, row.message, row.signature);
-            assert_eq!(rt; result, bad, "protocol {protocol}");
+            assert!(rt; result == bad);
         }
         for algorithm in [0, 5, 8, 12, 14, 255] {
             let result = StandIn::verify(257, 3, algorithm, row.key, row.message, row.signature);
-            assert_eq!(rt; result, bad, "algorithm {algorithm}");
+            assert!(rt; result == bad);
         }
     }
 }
@@ -254,7 +238,7 @@ fn the_stand_in_reads_the_whole_key(rt: HostRuntime) {
 fn the_table_reads_no_flags(rt: HostRuntime) {
     for row in signed_messages() {
         let result = TableVerifier::verify(0, 0, 255, row.key, row.message, row.signature);
-        assert_eq!(rt; result, Ok(()));
+        assert!(rt; result == Ok(()));
     }
 }
 
@@ -264,21 +248,12 @@ fn text<E: Error + Drop>(error: E) -> InlineText<96> {
 
 #[test]
 fn errors_are_named(rt: HostRuntime) {
-    assert_eq!(rt;
-        text(AlgorithmError::Unsupported).as_str(),
-        "unsupported algorithm"
-    );
-    assert_eq!(rt; text(AlgorithmError::BadSig).as_str(), "bad signature");
-    assert_eq!(rt; text(AlgorithmError::InvalidData).as_str(), "invalid data");
-    assert_eq!(rt;
-        text(FromDnskeyError::UnsupportedAlgorithm).as_str(),
-        "unsupported algorithm"
-    );
-    assert_eq!(rt;
-        text(FromDnskeyError::UnsupportedProtocol).as_str(),
-        "unsupported protocol"
-    );
-    assert_eq!(rt; text(FromDnskeyError::InvalidKey).as_str(), "malformed key");
+    assert!(rt; text(AlgorithmError::Unsupported).as_str() == "unsupported algorithm");
+    assert!(rt; text(AlgorithmError::BadSig).as_str() == "bad signature");
+    assert!(rt; text(AlgorithmError::InvalidData).as_str() == "invalid data");
+    assert!(rt; text(FromDnskeyError::UnsupportedAlgorithm).as_str() == "unsupported algorithm");
+    assert!(rt; text(FromDnskeyError::UnsupportedProtocol).as_str() == "unsupported protocol");
+    assert!(rt; text(FromDnskeyError::InvalidKey).as_str() == "malformed key");
 }
 
 // Compiles for what is all three; an `Rc` is none of them.
@@ -289,5 +264,5 @@ fn copies<T: Copy + Send + Sync>(value: T) -> (T, T) {
 #[test]
 fn a_name_of_a_type_takes_no_space(rt: HostRuntime) {
     let _both: (By<Rc<u8>>, By<Rc<u8>>) = copies(By::new());
-    assert_eq!(rt; size_of::<By<Rc<u8>>>(), 0);
+    assert!(rt; size_of::<By<Rc<u8>>>() == 0);
 }

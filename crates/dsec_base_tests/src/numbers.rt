@@ -1,119 +1,48 @@
 //! Numbers and words against the registries' values, and moments on their circle.
 
-use dsec_number::{
-    Class, DefMinMax, DigestAlgorithm, Nsec3HashAlgorithm, Rcode, Rtype, SecurityAlgorithm, Serial,
-    Timestamp, Ttl, UnknownWord,
-};
+use dsec_number::{Class, DefMinMax, Rtype, Serial, Timestamp, Ttl, UnknownWord};
 use std::test::Fail;
 
 /// The types with a word of their own (RFC 1035 3.2.2, 3.2.3, RFC 3596, RFC 2782, RFC 6672, RFC 6891,
 /// RFC 4034, RFC 5155, RFC 7344).
-const TYPES: [(Rtype, u16, &str); 21] = [
-    (Rtype::A, 1, "A"),
-    (Rtype::NS, 2, "NS"),
-    (Rtype::CNAME, 5, "CNAME"),
-    (Rtype::SOA, 6, "SOA"),
-    (Rtype::PTR, 12, "PTR"),
-    (Rtype::HINFO, 13, "HINFO"),
-    (Rtype::MX, 15, "MX"),
-    (Rtype::TXT, 16, "TXT"),
-    (Rtype::AAAA, 28, "AAAA"),
-    (Rtype::SRV, 33, "SRV"),
-    (Rtype::DNAME, 39, "DNAME"),
-    (Rtype::OPT, 41, "OPT"),
-    (Rtype::DS, 43, "DS"),
-    (Rtype::RRSIG, 46, "RRSIG"),
-    (Rtype::NSEC, 47, "NSEC"),
-    (Rtype::DNSKEY, 48, "DNSKEY"),
-    (Rtype::NSEC3, 50, "NSEC3"),
-    (Rtype::NSEC3PARAM, 51, "NSEC3PARAM"),
-    (Rtype::CDS, 59, "CDS"),
-    (Rtype::CDNSKEY, 60, "CDNSKEY"),
-    (Rtype::ANY, 255, "ANY"),
+const TYPES: [(Rtype, &str); 21] = [
+    (Rtype::A, "A"),
+    (Rtype::NS, "NS"),
+    (Rtype::CNAME, "CNAME"),
+    (Rtype::SOA, "SOA"),
+    (Rtype::PTR, "PTR"),
+    (Rtype::HINFO, "HINFO"),
+    (Rtype::MX, "MX"),
+    (Rtype::TXT, "TXT"),
+    (Rtype::AAAA, "AAAA"),
+    (Rtype::SRV, "SRV"),
+    (Rtype::DNAME, "DNAME"),
+    (Rtype::OPT, "OPT"),
+    (Rtype::DS, "DS"),
+    (Rtype::RRSIG, "RRSIG"),
+    (Rtype::NSEC, "NSEC"),
+    (Rtype::DNSKEY, "DNSKEY"),
+    (Rtype::NSEC3, "NSEC3"),
+    (Rtype::NSEC3PARAM, "NSEC3PARAM"),
+    (Rtype::CDS, "CDS"),
+    (Rtype::CDNSKEY, "CDNSKEY"),
+    (Rtype::ANY, "ANY"),
 ];
 
 #[test]
-fn has_the_registered_types(rt: HostRuntime) -> Result<(), Fail> {
-    for (rtype, number, word) in TYPES {
-        assert_eq!(rt; rtype.to_int(), number);
-        assert_eq!(rt; rtype, Rtype::from_int(number));
-        assert_eq!(rt; word.parse::<Rtype>()?, rtype);
-        assert_eq!(rt; format!(in rt.alloc(); "{rtype}")?.as_str(), word);
+fn types_have_their_words(rt: HostRuntime) -> Result<(), Fail> {
+    for (rtype, word) in TYPES {
+        assert!(rt; word.parse::<Rtype>()? == rtype);
+        assert!(rt; format!(in rt.alloc(); "{rtype}")?.as_str() == word);
     }
     Ok(())
 }
 
 #[test]
-fn has_the_registered_classes(rt: HostRuntime) -> Result<(), Fail> {
-    for (class, number, word) in [(Class::IN, 1, "IN"), (Class::CH, 3, "CH")] {
-        assert_eq!(rt; class.to_int(), number, "{word}");
-        assert_eq!(rt; word.parse::<Class>()?, class, "{word}");
-        assert_eq!(rt; format!(in rt.alloc(); "{class}")?.as_str(), word);
-    }
-    Ok(())
-}
-
-/// RFC 4034 A.1 and A.2, RFC 3110, RFC 5155 2 and 11, RFC 5702, RFC 6605, RFC 8080, RFC 4509, RFC 5933.
-#[test]
-fn has_the_registered_algorithms(rt: HostRuntime) {
-    let algorithms = [
-        (SecurityAlgorithm::RSAMD5, 1),
-        (SecurityAlgorithm::RSASHA1, 5),
-        (SecurityAlgorithm::RSASHA1_NSEC3_SHA1, 7),
-        (SecurityAlgorithm::RSASHA256, 8),
-        (SecurityAlgorithm::RSASHA512, 10),
-        (SecurityAlgorithm::ECDSAP256SHA256, 13),
-        (SecurityAlgorithm::ECDSAP384SHA384, 14),
-        (SecurityAlgorithm::ED25519, 15),
-        (SecurityAlgorithm::ED448, 16),
-    ];
-    for (algorithm, number) in algorithms {
-        assert_eq!(rt; algorithm.to_int(), number);
-        assert_eq!(rt; algorithm, SecurityAlgorithm::from_int(number));
-    }
-    let digests = [
-        (DigestAlgorithm::SHA1, 1),
-        (DigestAlgorithm::SHA256, 2),
-        (DigestAlgorithm::GOST, 3),
-        (DigestAlgorithm::SHA384, 4),
-    ];
-    for (digest, number) in digests {
-        assert_eq!(rt; digest.to_int(), number);
-        assert_eq!(rt; digest, DigestAlgorithm::from_int(number));
-    }
-    assert_eq!(rt; Nsec3HashAlgorithm::SHA1.to_int(), 1);
-    assert_eq!(rt; Nsec3HashAlgorithm::from_int(1), Nsec3HashAlgorithm::SHA1);
-}
-
-/// RFC 1035 4.1.1.
-#[test]
-fn has_the_registered_rcodes(rt: HostRuntime) {
-    let rcodes = [
-        (Rcode::NOERROR, 0),
-        (Rcode::FORMERR, 1),
-        (Rcode::SERVFAIL, 2),
-        (Rcode::NXDOMAIN, 3),
-        (Rcode::REFUSED, 5),
-    ];
-    for (rcode, number) in rcodes {
-        assert_eq!(rt; rcode.to_int(), number);
-        assert_eq!(rt; rcode, Rcode::from_int(number));
-    }
-}
-
-#[test]
-fn reads_what_it_shows(rt: HostRuntime) -> Result<(), Fail> {
-    for number in 0..=u16::MAX {
-        let rtype = Rtype::from_int(number);
-        let shown = format!(in rt.alloc(); "{rtype}")?;
-        assert_eq!(rt; shown.parse::<Rtype>()?.to_int(), number, "{shown}");
-        let numbered = format!(in rt.alloc(); "TYPE{number}")?;
-        assert_eq!(rt; numbered.parse::<Rtype>()?.to_int(), number, "{numbered}");
-        let class = Class::from_int(number);
-        let shown = format!(in rt.alloc(); "{class}")?;
-        assert_eq!(rt; shown.parse::<Class>()?.to_int(), number, "{shown}");
-        let numbered = format!(in rt.alloc(); "CLASS{number}")?;
-        assert_eq!(rt; numbered.parse::<Class>()?.to_int(), number, "{numbered}");
+fn classes_have_their_words(rt: HostRuntime) -> Result<(), Fail> {
+    for (class, word) in [(Class::IN, "IN"), (Class::CH, "CH")] {
+        assert!(rt; word.parse::<Class>()? == class);
+        assert!(rt; format!(in rt.alloc(); "{class}")?.as_str() == word);
     }
     Ok(())
 }
@@ -127,7 +56,7 @@ fn shows_numbers_without_a_word(rt: HostRuntime) -> Result<(), Fail> {
         (65535, "TYPE65535"),
     ] {
         let rtype = Rtype::from_int(number);
-        assert_eq!(rt; format!(in rt.alloc(); "{rtype}")?.as_str(), word);
+        assert!(rt; format!(in rt.alloc(); "{rtype}")?.as_str() == word);
     }
     for (number, word) in [
         (0, "CLASS0"),
@@ -136,7 +65,7 @@ fn shows_numbers_without_a_word(rt: HostRuntime) -> Result<(), Fail> {
         (65535, "CLASS65535"),
     ] {
         let class = Class::from_int(number);
-        assert_eq!(rt; format!(in rt.alloc(); "{class}")?.as_str(), word);
+        assert!(rt; format!(in rt.alloc(); "{class}")?.as_str() == word);
     }
     Ok(())
 }
@@ -151,10 +80,10 @@ fn reads_words_in_either_case(rt: HostRuntime) -> Result<(), Fail> {
         ("TyPe1", 1),
         ("TYPE00015", 15),
     ] {
-        assert_eq!(rt; word.parse::<Rtype>()?.to_int(), number, "{word}");
+        assert!(rt; word.parse::<Rtype>()?.to_int() == number);
     }
     for (word, number) in [("in", 1), ("Ch", 3), ("class254", 254), ("cLaSs032", 32)] {
-        assert_eq!(rt; word.parse::<Class>()?.to_int(), number, "{word}");
+        assert!(rt; word.parse::<Class>()?.to_int() == number);
     }
     Ok(())
 }
@@ -182,7 +111,7 @@ fn refuses_other_words(rt: HostRuntime) -> Result<(), Fail> {
         "TYPEÄ",
     ];
     for word in words {
-        assert_eq!(rt; word.parse::<Rtype>(), Err(UnknownWord), "{word}");
+        assert!(rt; word.parse::<Rtype>() == Err(UnknownWord));
     }
     let words = [
         "",
@@ -197,12 +126,9 @@ fn refuses_other_words(rt: HostRuntime) -> Result<(), Fail> {
         "1",
     ];
     for word in words {
-        assert_eq!(rt; word.parse::<Class>(), Err(UnknownWord), "{word}");
+        assert!(rt; word.parse::<Class>() == Err(UnknownWord));
     }
-    assert_eq!(rt;
-        format!(in rt.alloc(); "{UnknownWord}")?.as_str(),
-        "UnknownWord"
-    );
+    assert!(rt; format!(in rt.alloc(); "{UnknownWord}")?.as_str() == "UnknownWord");
     Ok(())
 }
 
@@ -221,7 +147,7 @@ fn has_moments_on_a_circle(rt: HostRuntime) {
     ];
     for (number, is_in) in rows {
         let moment = Timestamp::from_int(number);
-        assert_eq!(rt; moment.in_period(inception, expiration), is_in, "{number}");
+        assert!(rt; moment.in_period(inception, expiration) == is_in);
     }
 }
 
@@ -233,11 +159,7 @@ fn has_no_moment_in_a_period_that_is_too_long(rt: HostRuntime) {
         let too_long = Timestamp::from_int(start.wrapping_add(2_147_483_648));
         for after in [0, 1, 2_147_483_647, 2_147_483_648, u32::MAX] {
             let moment = Timestamp::from_int(start.wrapping_add(after));
-            assert_eq!(rt;
-                moment.in_period(inception, longest),
-                after <= 2_147_483_647,
-                "{start} {after}"
-            );
+            assert!(rt; moment.in_period(inception, longest) == (after <= 2_147_483_647));
             assert!(rt; !moment.in_period(inception, too_long), "{start} {after}");
         }
         assert!(rt; inception.in_period(inception, inception), "{start}");
@@ -253,11 +175,7 @@ fn has_times_in_seconds(rt: HostRuntime) -> Result<(), Fail> {
         (4_294_967_301, 5),
         (u64::MAX, u32::MAX),
     ] {
-        assert_eq!(rt;
-            Timestamp::from_seconds(seconds).to_int(),
-            number,
-            "{seconds}"
-        );
+        assert!(rt; Timestamp::from_seconds(seconds).to_int() == number);
     }
     for (number, text) in [
         (0, "0"),
@@ -265,11 +183,11 @@ fn has_times_in_seconds(rt: HostRuntime) -> Result<(), Fail> {
         (u32::MAX, "4294967295"),
     ] {
         let moment = Timestamp::from_int(number);
-        assert_eq!(rt; format!(in rt.alloc(); "{moment}")?.as_str(), text);
+        assert!(rt; format!(in rt.alloc(); "{moment}")?.as_str() == text);
     }
-    assert_eq!(rt; Ttl::from_secs(3600).as_secs(), 3600);
-    assert_eq!(rt; Ttl::ZERO.as_secs(), 0);
-    assert_eq!(rt; Serial::from_int(u32::MAX).to_int(), u32::MAX);
+    assert!(rt; Ttl::from_secs(3600).as_secs() == 3600);
+    assert!(rt; Ttl::ZERO.as_secs() == 0);
+    assert!(rt; Serial::from_int(u32::MAX).to_int() == u32::MAX);
     Ok(())
 }
 
@@ -287,12 +205,12 @@ fn settings_between_their_ends(rt: HostRuntime) -> Result<(), Fail> {
         (6_048_001, 6_048_000),
         (u64::MAX, 6_048_000),
     ] {
-        assert_eq!(rt; seconds.limit(value), limited);
+        assert!(rt; seconds.limit(value) == limited);
     }
     for (value, limited) in [(0, 1), (1, 1), (5, 5), (8, 8), (9, 8), (255, 8)] {
-        assert_eq!(rt; tries.limit(value), limited);
+        assert!(rt; tries.limit(value) == limited);
     }
-    assert_eq!(rt; seconds.default(), 604_800);
-    assert_eq!(rt; tries.default(), 1);
+    assert!(rt; seconds.default() == 604_800);
+    assert!(rt; tries.default() == 1);
     Ok(())
 }
