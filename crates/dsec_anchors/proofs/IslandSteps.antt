@@ -5,12 +5,7 @@ use Rattle.std.proofs.lemmas.List.{drop_all}
 use Rattle.dsec_spec.specs.Names.{Place, place, is_below}
 use Rattle.dsec_spec.specs.Records.{Record}
 use Rattle.dsec_spec.specs.Islands.{longer, longest}
-
--- what stands at an index, and after it
-pub drop_here : {A : Type 0} (xs : List A) (i : ℕ) (x : A) → i < length xs → x ≡ get_or xs i x → drop i xs ≡ x ∷ drop (suc i) xs
-drop_here [] i x below is = absurd (omega (arith, below))
-drop_here (y ∷ ys) zero x below is = ap (λ z. z ∷ ys) (sym is)
-drop_here (y ∷ ys) (suc i) x below is = drop_here ys i x (omega (arith, below)) is
+use Rattle.dsec_spec.proofs.ListLemmas.{drop_here}
 
 -- the longest of the anchors from an index on, at or above a name
 abbrev pub best_from : List Record → Place → ℕ → Option Place

@@ -5,8 +5,8 @@ use Rattle.std.proofs.KnownBytes.{Appends-trans}
 use Rattle.std.proofs.Math.Seq.{take-append_seam}
 use Rattle.std.proofs.lemmas.List.{take_more, take-append-drop, length-take-le, length-map, map-append}
 use Rattle.dsec_spec.specs.Outside.{SentFront}
-use Rattle.dsec_outcome.specs.Outcomes.{Outcome}
-use Rattle.dsec_outcome.specs.Texts.{outcome_text}
+use Rattle.dsec_answer.specs.Told.{Outcome}
+use Rattle.dsec_answer.specs.Texts.{outcome_text}
 use Rattle.dsec_answer.specs.Outcomes.{texts_from}
 
 texts_append : (index : ℕ) (xs ys : List Outcome) → texts_from index (xs ++ ys) ≡ texts_from index xs ++ texts_from (index + length xs) ys

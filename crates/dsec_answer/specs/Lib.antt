@@ -1,4 +1,6 @@
 pub mod Setting
+pub mod Told
+pub mod Texts
 pub mod Outcomes
 pub mod Words
 pub mod Headline

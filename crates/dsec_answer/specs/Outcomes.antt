@@ -9,8 +9,8 @@ use Rattle.dsec_judge.specs.declared.error.Error.TheVariants.{ShortMessage}
 use Rattle.dsec_judge.specs.Verdicts.{verdict}
 use Rattle.dsec_judge.specs.PlainAnswers.{IsPlainAnswer}
 use Rattle.dsec_judge.specs.Judged.{world_of, key_reply, told_result, SoundIfSecure}
-use Rattle.dsec_outcome.specs.Outcomes.{Outcome}
-use Rattle.dsec_outcome.specs.Texts.{outcome_text}
+use Rattle.dsec_answer.specs.Told.{Outcome}
+use Rattle.dsec_answer.specs.Texts.{outcome_text}
 use Rattle.dsec_script.specs.declared.items.Item.{Item}
 use Rattle.dsec_script.specs.declared.script.Script.{Script}
 use Rattle.dsec_answer.specs.Setting.{default_limits}

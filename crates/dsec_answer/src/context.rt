@@ -10,11 +10,11 @@ ghost use Rattle.dsec_judge.specs.Judged.{JudgedAs, SoundIfSecure, key_reply, re
 ghost use Rattle.dsec_judge.specs.PlainAnswers.{IsPlainAnswer};
 ghost use Rattle.dsec_answer.specs.Setting.{OkOrNoMemory, default_limits};
 
+use dsec_anchors::TrustAnchors;
 use dsec_crypto::{By, Verifier};
 use dsec_group::Limits;
 use dsec_judge::{Error, Verdict, judge};
 use dsec_outside::Upstream;
-use dsec_valbase::TrustAnchors;
 use dsec_wire::Message;
 use std::alloc::Global;
 use std::marker::Model;

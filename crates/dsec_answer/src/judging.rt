@@ -3,16 +3,17 @@
 ghost use Rattle.std.specs.Prelude.{◌≡◌, ◌≤◌, IfOk, OnOk, IsErrOf};
 ghost use Rattle.std.specs.Io.KnownBytes.{Appends};
 ghost use Rattle.dsec_spec.specs.Outside.{Rose, SentFront};
-ghost use Rattle.dsec_outcome.specs.Texts.{outcome_text};
+ghost use Rattle.dsec_answer.specs.Texts.{outcome_text};
 ghost use Rattle.dsec_answer.specs.Counting.{CountsWrites};
 ghost use Rattle.dsec_answer.specs.Outcomes.{answer_text, outcome_of};
 ghost use Rattle.dsec_answer.specs.declared.judging.Halt.TheVariants.{Memory};
 
 use crate::context::ValidationContext;
+use crate::outcome::Outcome;
+use crate::texts::text;
 use dsec_crypto::Verifier;
 use dsec_judge::Error;
 use dsec_name::NoMemory;
-use dsec_outcome::{Outcome, text};
 use dsec_outside::{Failed, Sink, TableUpstream, write_all};
 use dsec_script::Item;
 use dsec_wire::Message;

@@ -1,10 +1,14 @@
-//! Validation of messages, and the program's commands over a source and a sink.
+//! Validation of messages, what is written for their outcomes, and the program's commands over a source and a sink.
 #![tactic(auto)]
 
 mod command;
 mod context;
 mod judging;
+mod outcome;
 mod script;
+mod texts;
 
 pub use command::{run, run_by};
 pub use context::ValidationContext;
+pub use outcome::Outcome;
+pub use texts::text;

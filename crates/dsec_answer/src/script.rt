@@ -10,11 +10,11 @@ ghost use Rattle.dsec_answer.specs.Words.{refused_text, word_text};
 
 use crate::context::ValidationContext;
 use crate::judging::{Halt, judge_all, send};
+use dsec_anchors::TrustAnchors;
 use dsec_crypto::Verifier;
 use dsec_name::NoMemory;
 use dsec_outside::{Sink, TableUpstream};
 use dsec_script::{Refused, Script, ScriptError, Word, read_script};
-use dsec_valbase::TrustAnchors;
 use std::alloc::Global;
 
 /// The status of a halt.

@@ -1,1 +1,1 @@
-pub mod Causes
+pub use Rattle.dsec_cause.specs.Causes

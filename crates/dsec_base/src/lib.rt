@@ -1,19 +1,16 @@
-//! The ground that the validator and the signer stand on.
+//! The ground that the validator and the signer stand on, as one crate: it passes on what the crates below make public.
 #![tactic(auto)]
 
-mod cause;
-mod laws;
-mod numbers;
-
-pub use cause::Cause;
 pub use dsec_builder::{
     AdditionalBuilder, AnswerBuilder, AuthorityBuilder, MessageBuilder, PushError, QuestionBuilder,
     law_of_built_messages,
 };
+pub use dsec_cause::{Cause, law_of_causes};
 pub use dsec_name::{Name, NameError, NameRef, NoMemory, Octets};
 pub use dsec_number::{
     Class, DefMinMax, DigestAlgorithm, Nsec3HashAlgorithm, Rcode, Rtype, SecurityAlgorithm, Serial,
-    Timestamp, Ttl, UnknownWord,
+    Timestamp, Ttl, UnknownWord, law_of_algorithm_numbers, law_of_class_numbers,
+    law_of_digest_numbers, law_of_dnssec_type_numbers, law_of_rcode_numbers, law_of_type_numbers,
 };
 pub use dsec_outside::{
     AskError, Failed, FailingSink, FailingSource, FailingUpstream, FixedUpstream, LIMIT,
@@ -23,11 +20,6 @@ pub use dsec_outside::{
 pub use dsec_wire::{
     Cname, Data, Dname, Dnskey, Ds, EdnsOption, Header, Message, MessageError, Nsec, Nsec3,
     Nsec3param, Opt, Question, Questions, Record, Records, Rrsig, Sections, ShortMessage, Soa,
-    read_name,
+    law_of_flags, read_name,
 };
 pub use dsec_zonefile::{Entry, InplaceError, Zonefile, ZonefileError};
-pub use laws::law_of_causes;
-pub use numbers::{
-    law_of_algorithm_numbers, law_of_class_numbers, law_of_digest_numbers,
-    law_of_dnssec_type_numbers, law_of_flags, law_of_rcode_numbers, law_of_type_numbers,
-};

@@ -1,4 +1,4 @@
-//! Tests of names, numbers, text, octets, messages and scripts, by what the crates below `dsec_valbase` make public.
+//! Tests of names, numbers, text, octets, messages and scripts, by what the crates below `dsec_link` make public.
 #![tactic(auto)]
 
 #[cfg(test)]

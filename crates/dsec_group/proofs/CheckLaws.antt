@@ -18,9 +18,9 @@ use Rattle.dsec_spec.proofs.SignedTests.{NamesKey, names_key_decides, signs_deci
 use Rattle.dsec_wire.specs.TypedData.{TypedData, data_of}
 use Rattle.dsec_wire.specs.Views.{rrsig_in}
 use Rattle.dsec_group.specs.Checks.{IsOfKey, IsSignedBy}
-use Rattle.dsec_valbase.specs.Sets.{AreOf}
-use Rattle.dsec_valbase.specs.Tests.{MaySign, Names}
-use Rattle.dsec_valbase.proofs.SignedTests.{signed_by_tests}
+use Rattle.dsec_link.specs.Sets.{AreOf}
+use Rattle.dsec_link.specs.Tests.{MaySign, Names}
+use Rattle.dsec_link.proofs.SignedTests.{signed_by_tests}
 
 -- the tests of the code and of the definition are one
 pub names_is : (sig : Rrsig) (key : Key) (zone : Place) (b : Bool) → (IsTrue b ↔ Names sig key zone) → b ≡ names_key zone sig key

@@ -1,7 +1,7 @@
 -- What a group comes to under the keys of a zone (RFC 4035 5.3).
 use Rattle.std.specs.Prelude.{◌≡◌, ℕ, List, slice_get, Option, Some, None}
-use Rattle.dsec_base.specs.declared.cause.Cause.{Cause}
-use Rattle.dsec_base.specs.declared.cause.Cause.TheVariants.{NoSignature, BadSignature, TooManyBadSignatures}
+use Rattle.dsec_cause.specs.declared.cause.Cause.{Cause}
+use Rattle.dsec_cause.specs.declared.cause.Cause.TheVariants.{NoSignature, BadSignature, TooManyBadSignatures}
 use Rattle.dsec_spec.specs.Accepts.{Accepts}
 use Rattle.dsec_spec.specs.Groups.{Group, set_in}
 use Rattle.dsec_spec.specs.KeyTag.{key_tag as tag_of}
@@ -10,7 +10,7 @@ use Rattle.dsec_spec.specs.Numbers.{RRSIG}
 use Rattle.dsec_spec.specs.Records.{Record, Key, Rrsig, rrsig_of}
 use Rattle.dsec_spec.specs.Signed.{Signed}
 use Rattle.dsec_spec.specs.Trying.{Tried, good, nothing, all_bad, too_many_bad}
-use Rattle.dsec_valbase.specs.Signing.{encloser_of}
+use Rattle.dsec_link.specs.Signing.{encloser_of}
 use Rattle.dsec_group.specs.declared.check.KeyCheck.{KeyCheck}
 use Rattle.dsec_group.specs.declared.state.ValidationState.{ValidationState}
 use Rattle.dsec_group.specs.declared.state.ValidationState.TheVariants.{Secure, Bogus}

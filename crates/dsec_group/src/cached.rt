@@ -11,9 +11,9 @@ ghost use Rattle.dsec_group.specs.Checks.{IsOfKey, IsSignedBy};
 use crate::group::Group;
 use crate::memo::Memo;
 use dsec_crypto::Verifier;
+use dsec_link::{RecordSet, matches, may_sign, signed_bytes};
 use dsec_name::{Name, NoMemory};
 use dsec_number::Timestamp;
-use dsec_valbase::{RecordSet, matches, may_sign, signed_bytes};
 use dsec_wire::{Data, Dnskey, Record, Rrsig};
 use std::alloc::Global;
 

@@ -14,13 +14,13 @@ use Rattle.dsec_spec.specs.Groups.{Group, set_in}
 use Rattle.dsec_spec.specs.Trying.{pairs, pair_matches, pair_signs}
 use Rattle.dsec_group.specs.Trials.{Trial, found, left, found_or, trial, pair_trial}
 use Rattle.dsec_group.proofs.TrialLaws.{trial_none, trial_append, then_on}
-use Rattle.dsec_base.specs.declared.cause.Cause.{Cause}
-use Rattle.dsec_base.specs.declared.cause.Cause.TheVariants.{NoSignature, BadSignature}
+use Rattle.dsec_cause.specs.declared.cause.Cause.{Cause}
+use Rattle.dsec_cause.specs.declared.cause.Cause.TheVariants.{NoSignature, BadSignature}
 use Rattle.dsec_judge.specs.Admission.{Admitted, admitted_by, matching, matching_at, cause_at, cause_by, first_cause}
 use Rattle.dsec_judge.specs.Findings.{anchor_signs}
 use Rattle.dsec_judge.specs.AnchorTrials.{pairs_trial, anchor_trial, IsAnchorTry, earlier, key_cause}
 use Rattle.dsec_judge.specs.declared.admit.AnchorTry.TheVariants as one
-use Rattle.dsec_anchors.proofs.IslandSteps.{drop_here}
+use Rattle.dsec_spec.proofs.ListLemmas.{drop_here}
 
 -- a trial of what comes of a list by a function
 abbrev pub trial_map : {A P : Type 0} → (A → P) → Trial A → Trial P

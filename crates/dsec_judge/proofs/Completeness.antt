@@ -27,8 +27,8 @@ use Rattle.dsec_spec.proofs.NamesBelow.{not_strictly_itself}
 use Rattle.dsec_spec.proofs.IslandLemmas.{island_is}
 use Rattle.dsec_wire.specs.declared.sections.Sections.{Sections}
 use Rattle.dsec_wire.specs.MessageSections.{sections_of}
-use Rattle.dsec_base.specs.declared.cause.Cause.{Cause}
-use Rattle.dsec_base.specs.declared.cause.Cause.TheVariants.{NotBuilt}
+use Rattle.dsec_cause.specs.declared.cause.Cause.{Cause}
+use Rattle.dsec_cause.specs.declared.cause.Cause.TheVariants.{NotBuilt}
 use Rattle.dsec_judge.specs.declared.error.Error.{Error}
 use Rattle.dsec_judge.specs.Admission.{Admitted, admission, admitted, admitted_by, cause_at, ds_in, first_cause, matching, matching_at, own_key, spoken_of}
 use Rattle.dsec_judge.specs.Findings.{World, keys_of, is_key_set_at, key_set_in, anchor_signs, anchored_link, key_set_by, key_set_of, key_set_at, set_link, finding_by, finding_under, target_of, finding_from, island_of, finding}

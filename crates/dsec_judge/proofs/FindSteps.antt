@@ -13,7 +13,7 @@ use Rattle.dsec_spec.specs.Groups.{Group}
 use Rattle.dsec_spec.specs.Islands.{island, looked_for_at, longest, signers, target}
 use Rattle.dsec_spec.proofs.IslandLemmas.{from_longest}
 use Rattle.dsec_spec.proofs.Members.{from_filter}
-use Rattle.dsec_base.specs.declared.cause.Cause.TheVariants.{RrsigWithoutRrset}
+use Rattle.dsec_cause.specs.declared.cause.Cause.TheVariants.{RrsigWithoutRrset}
 use Rattle.dsec_judge.specs.declared.asking.Asked.{Asked}
 use Rattle.dsec_judge.specs.declared.finding.Finding.{Finding}
 use Rattle.dsec_judge.specs.declared.finding.Finding.TheVariants.{Insecure}

@@ -23,7 +23,7 @@ use Rattle.dsec_spec.proofs.Members.{first_in, later_in, in_more, not_in_none, f
 use Rattle.dsec_spec.proofs.SignedTests.{signs_decides}
 use Rattle.dsec_spec.proofs.IslandLemmas.{island_is}
 use Rattle.dsec_spec.proofs.NamesBelow.{strictly_below_trans}
-use Rattle.dsec_base.specs.declared.cause.Cause.{Cause}
+use Rattle.dsec_cause.specs.declared.cause.Cause.{Cause}
 use Rattle.dsec_judge.specs.Admission.{Admitted, matching_at, cause_at, first_cause}
 use Rattle.dsec_judge.specs.Findings.{World, says_key, keys_of, data_of, is_key_set_at, key_set_in, anchor_signs, anchored_link, key_set_by, key_set_under, key_set_of, key_set_at, set_link, finding_by, finding_under, target_of, finding_from, island_of, finding}
 use Rattle.dsec_judge.specs.declared.key_set.KeySet.{KeySet}
@@ -241,7 +241,7 @@ from_finding w group links last e = by_records (length group.records == 0) refl 
 
     by_target : (top : Place) → length group.records ≢ 0 → island_of w.anchors group ≡ Some top → (keys : chain.Link) → HoldsKeys w top keys
         → (b : Bool) → same_place (target_of group (Some top)) top ≡ b
-        → cond b (finding_by group keys (tried_over w group top (pairs group.signatures (keys_of keys.records.datas)))) (bogus Rattle.dsec_base.specs.declared.cause.Cause.TheVariants.NotBuilt) ≡ shown links last → IsShown w group links last
+        → cond b (finding_by group keys (tried_over w group top (pairs group.signatures (keys_of keys.records.datas)))) (bogus Rattle.dsec_cause.specs.declared.cause.Cause.TheVariants.NotBuilt) ≡ shown links last → IsShown w group links last
     by_target top some island keys holds true f g = by_tried top some island keys holds ((same_place_decides (target_of group (Some top)) top).0 f) (tried_over w group top (pairs group.signatures (keys_of keys.records.datas))) refl g
     by_target top some island keys holds false f g = absurd cc
 
@@ -253,7 +253,7 @@ from_finding w group links last e = by_records (length group.records == 0) refl 
     by_island some None f g = absurd cc
     by_island some (Some top) f g = by_keys top some f (key_set_at w top) refl g
 
-    by_records : (b : Bool) → (length group.records == 0) ≡ b → cond b (insecure Rattle.dsec_base.specs.declared.cause.Cause.TheVariants.RrsigWithoutRrset) (finding_from w group (island_of w.anchors group)) ≡ shown links last → IsShown w group links last
+    by_records : (b : Bool) → (length group.records == 0) ≡ b → cond b (insecure Rattle.dsec_cause.specs.declared.cause.Cause.TheVariants.RrsigWithoutRrset) (finding_from w group (island_of w.anchors group)) ≡ shown links last → IsShown w group links last
     by_records true f g = absurd cc
     by_records false f g = by_island (eqb-false (length group.records) 0 f) (island_of w.anchors group) refl g
 

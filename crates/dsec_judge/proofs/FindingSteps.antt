@@ -13,8 +13,8 @@ use Rattle.dsec_spec.specs.Trying.{Tried, good, nothing, all_bad, too_many_bad}
 use Rattle.dsec_spec.specs.Chain as chain
 use Rattle.dsec_wire.specs.TypedData.{TypedData}
 use Rattle.dsec_wire.specs.Views.{dnskey_in}
-use Rattle.dsec_valbase.specs.Sets.{AreOf, octets_of}
-use Rattle.dsec_base.specs.declared.cause.Cause.{Cause}
+use Rattle.dsec_link.specs.Sets.{AreOf, octets_of}
+use Rattle.dsec_cause.specs.declared.cause.Cause.{Cause}
 use Rattle.dsec_group.specs.declared.check.KeyCheck.{KeyCheck}
 use Rattle.dsec_group.specs.Checks.{IsCheck}
 use Rattle.dsec_judge.specs.declared.finding.Finding.TheVariants.{Shown, Bogus}

@@ -10,8 +10,8 @@ use Rattle.dsec_spec.specs.Outside.{Table}
 use Rattle.dsec_spec.specs.Groups.{groups_of}
 use Rattle.dsec_wire.specs.declared.sections.Sections.{Sections}
 use Rattle.dsec_wire.specs.MessageSections.{sections_of}
-use Rattle.dsec_base.specs.declared.cause.Cause.{Cause}
-use Rattle.dsec_base.specs.declared.cause.Cause.TheVariants.{NotBuilt}
+use Rattle.dsec_cause.specs.declared.cause.Cause.{Cause}
+use Rattle.dsec_cause.specs.declared.cause.Cause.TheVariants.{NotBuilt}
 use Rattle.dsec_group.specs.declared.limits.Limits.{Limits}
 use Rattle.dsec_judge.specs.declared.error.Error.{Error}
 use Rattle.dsec_judge.specs.declared.error.Error.TheVariants as errors

@@ -14,8 +14,8 @@ use Rattle.dsec_spec.specs.Trying.{nothing, all_bad, too_many_bad}
 use Rattle.dsec_spec.proofs.ReadingLemmas.{from_bind}
 use Rattle.dsec_wire.specs.declared.sections.Sections.{Sections}
 use Rattle.dsec_wire.specs.MessageSections.{sections_of, sections_and_place}
-use Rattle.dsec_base.specs.declared.cause.Cause.{Cause}
-use Rattle.dsec_base.specs.declared.cause.Cause.TheVariants.{NoSignature, TooManyBadSignaturesForDnskey}
+use Rattle.dsec_cause.specs.declared.cause.Cause.{Cause}
+use Rattle.dsec_cause.specs.declared.cause.Cause.TheVariants.{NoSignature, TooManyBadSignaturesForDnskey}
 use Rattle.dsec_group.specs.Trials.{Trial, found, left, comes_to}
 use Rattle.dsec_group.proofs.TrialLaws.{trial_comes}
 use Rattle.dsec_judge.specs.declared.key_set.KeySet.TheVariants.{Held, Unheld}

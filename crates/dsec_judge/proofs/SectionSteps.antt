@@ -8,7 +8,7 @@ use Rattle.dsec_spec.specs.Records.{Record}
 use Rattle.dsec_spec.specs.Accepts.{Accepts}
 use Rattle.dsec_spec.specs.Outside.{Table}
 use Rattle.dsec_spec.specs.Groups.{Group, firsts}
-use Rattle.dsec_base.specs.declared.cause.Cause.{Cause}
+use Rattle.dsec_cause.specs.declared.cause.Cause.{Cause}
 use Rattle.dsec_judge.specs.declared.asking.Asked.{Asked}
 use Rattle.dsec_judge.specs.declared.finding.Finding.{Finding}
 use Rattle.dsec_judge.specs.declared.found.Found.{Found}

@@ -19,8 +19,8 @@ use Rattle.dsec_spec.proofs.IslandLemmas.{island_is}
 use Rattle.dsec_spec.proofs.AnsweringLemmas.{at_question, leads_nowhere, no_expansion}
 use Rattle.dsec_wire.specs.declared.sections.Sections.{Sections}
 use Rattle.dsec_wire.specs.MessageSections.{sections_of, sections_and_place}
-use Rattle.dsec_base.specs.declared.cause.Cause.{Cause}
-use Rattle.dsec_base.specs.declared.cause.Cause.TheVariants.{NotBuilt}
+use Rattle.dsec_cause.specs.declared.cause.Cause.{Cause}
+use Rattle.dsec_cause.specs.declared.cause.Cause.TheVariants.{NotBuilt}
 use Rattle.dsec_judge.specs.Findings.{World, keys_of, finding, set_link}
 use Rattle.dsec_judge.specs.declared.finding.Finding.{Finding}
 use Rattle.dsec_judge.specs.declared.finding.Finding.TheVariants.{Shown as shown, Insecure as insecure, Bogus as bogus, Indeterminate as indeterminate}

@@ -11,7 +11,7 @@ use Rattle.dsec_spec.specs.Islands.{is_usable, target}
 use Rattle.dsec_spec.proofs.CanonicalNames.{same_place_decides}
 use Rattle.dsec_spec.proofs.NamesBelow.{not_strictly_itself}
 use Rattle.dsec_spec.proofs.SignedTests.{strictly_below_decides}
-use Rattle.dsec_anchors.proofs.IslandSteps.{drop_here}
+use Rattle.dsec_spec.proofs.ListLemmas.{drop_here}
 
 -- the island itself is usable
 pub island_usable : (from top signer : Place) → is_below from top ≡ true → signer ≡ top → is_usable (Some top) from signer ≡ true

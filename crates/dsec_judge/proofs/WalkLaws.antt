@@ -6,7 +6,7 @@ use Rattle.std.proofs.lemmas.List.{append-nil}
 use Rattle.dsec_spec.specs.Names.{Place, same_place}
 use Rattle.dsec_spec.specs.Groups.{Group, firsts}
 use Rattle.dsec_spec.proofs.CanonicalNames.{same_place_decides}
-use Rattle.dsec_base.specs.declared.cause.Cause.{Cause}
+use Rattle.dsec_cause.specs.declared.cause.Cause.{Cause}
 use Rattle.dsec_group.proofs.FirstLaws.{firsts_more}
 use Rattle.dsec_judge.specs.Findings.{World, finding}
 use Rattle.dsec_judge.specs.Asking.{with_place, with_island}

@@ -8,8 +8,8 @@ use Rattle.dsec_spec.specs.Records.{Record, Key, key_of, Ds, ds_of}
 use Rattle.dsec_spec.specs.KeySearch.{KeySearch, found_at, not_found, too_many, first_key}
 use Rattle.dsec_spec.specs.Groups.{Group, set_in}
 use Rattle.dsec_spec.specs.Trying.{pair_matches}
-use Rattle.dsec_base.specs.declared.cause.Cause.{Cause}
-use Rattle.dsec_base.specs.declared.cause.Cause.TheVariants.{NoSignature, BadSignature, TooManyDnskeysForDs}
+use Rattle.dsec_cause.specs.declared.cause.Cause.{Cause}
+use Rattle.dsec_cause.specs.declared.cause.Cause.TheVariants.{NoSignature, BadSignature, TooManyDnskeysForDs}
 
 -- a DNSKEY anchor admits its own key, where the set has its data
 abbrev pub own_key : Option ℕ → KeySearch

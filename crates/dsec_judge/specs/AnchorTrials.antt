@@ -5,8 +5,8 @@ use Rattle.dsec_spec.specs.Accepts.{Accepts}
 use Rattle.dsec_spec.specs.KeySearch.{KeySearch}
 use Rattle.dsec_spec.specs.Groups.{Group}
 use Rattle.dsec_group.specs.Trials.{Trial, found, left, trial}
-use Rattle.dsec_base.specs.declared.cause.Cause.{Cause}
-use Rattle.dsec_base.specs.declared.cause.Cause.TheVariants.{NoSignature, BadSignature, TooManyBadSignaturesForDnskey}
+use Rattle.dsec_cause.specs.declared.cause.Cause.{Cause}
+use Rattle.dsec_cause.specs.declared.cause.Cause.TheVariants.{NoSignature, BadSignature, TooManyBadSignaturesForDnskey}
 use Rattle.dsec_judge.specs.Admission.{Admitted, admitted_by, matching, matching_at, cause_by, cause_at, first_cause}
 use Rattle.dsec_judge.specs.Findings.{anchor_signs}
 use Rattle.dsec_judge.specs.declared.admit.AnchorTry.{AnchorTry}

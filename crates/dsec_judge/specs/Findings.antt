@@ -16,8 +16,8 @@ use Rattle.dsec_judge.specs.declared.key_set.KeySet.{KeySet}
 use Rattle.dsec_judge.specs.declared.key_set.KeySet.TheVariants.{Held as held, Unheld as unheld}
 use Rattle.dsec_judge.specs.declared.finding.Finding.{Finding}
 use Rattle.dsec_judge.specs.declared.finding.Finding.TheVariants.{Shown as shown, Insecure as insecure, Bogus as bogus, Indeterminate as indeterminate}
-use Rattle.dsec_base.specs.declared.cause.Cause.{Cause}
-use Rattle.dsec_base.specs.declared.cause.Cause.TheVariants.{RrsigWithoutRrset, NoTrustAnchor, NoSignature, BadSignature, TooManyBadSignatures, TooManyBadSignaturesForDnskey, NoDnskeyForAnchor, NotBuilt}
+use Rattle.dsec_cause.specs.declared.cause.Cause.{Cause}
+use Rattle.dsec_cause.specs.declared.cause.Cause.TheVariants.{RrsigWithoutRrset, NoTrustAnchor, NoSignature, BadSignature, TooManyBadSignatures, TooManyBadSignaturesForDnskey, NoDnskeyForAnchor, NotBuilt}
 
 -- What judging goes by: the signatures that are accepted, the anchors, how many matching pairs of a signature and a key are tried of a set,
 -- the moment, and the reply to the question for the DNSKEY set at an anchor's place, if there is one.

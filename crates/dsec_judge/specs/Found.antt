@@ -2,7 +2,7 @@
 use Rattle.std.specs.Prelude.{◌≡◌, List, [], ◌∷◌, ◌++◌, map, filter_map}
 use Rattle.dsec_spec.specs.Numbers.{DNSKEY}
 use Rattle.dsec_spec.specs.Groups.{Group}
-use Rattle.dsec_base.specs.declared.cause.Cause.{Cause}
+use Rattle.dsec_cause.specs.declared.cause.Cause.{Cause}
 use Rattle.dsec_judge.specs.Findings.{World, finding}
 use Rattle.dsec_judge.specs.Verdicts.{bogus_cause}
 use Rattle.dsec_judge.specs.declared.found.Found.{Found}

@@ -9,8 +9,8 @@ use Rattle.dsec_spec.specs.Sound.{Why, IsSound}
 use Rattle.dsec_group.specs.declared.limits.Limits.{Limits}
 use Rattle.dsec_group.specs.declared.state.ValidationState.{ValidationState}
 use Rattle.dsec_group.specs.declared.state.ValidationState.TheVariants as states
-use Rattle.dsec_valbase.specs.Shown.{ShownSet}
-use Rattle.dsec_base.specs.declared.cause.Cause.{Cause}
+use Rattle.dsec_link.specs.Shown.{ShownSet}
+use Rattle.dsec_cause.specs.declared.cause.Cause.{Cause}
 use Rattle.dsec_judge.specs.declared.error.Error.{Error}
 use Rattle.dsec_judge.specs.declared.error.Error.TheVariants as errors
 pub use Rattle.dsec_judge.specs.Asking.{key_reply}

@@ -1,7 +1,7 @@
 -- Parts of a verdict as they are told.
 use Rattle.std.specs.Prelude.{◌≡◌, ℕ, Result, Ok, Err}
 use Rattle.std.specs.Bool.{OnFalse}
-use Rattle.dsec_base.specs.declared.cause.Cause.{Cause}
+use Rattle.dsec_cause.specs.declared.cause.Cause.{Cause}
 use Rattle.dsec_judge.specs.Judged.{Told, told_of, told_result, wants_memory}
 use Rattle.dsec_judge.specs.Verdicts.{Judgement, Verdict, is_bogus}
 use Rattle.dsec_judge.specs.declared.error.Error.{Error}

@@ -13,8 +13,8 @@ use Rattle.dsec_spec.specs.Answering.{is_at_question, leads_on, is_expansion}
 use Rattle.dsec_spec.specs.Sound.{Why}
 use Rattle.dsec_wire.specs.declared.sections.Sections.{Sections}
 use Rattle.dsec_wire.specs.MessageSections.{sections_of}
-use Rattle.dsec_base.specs.declared.cause.Cause.{Cause}
-use Rattle.dsec_base.specs.declared.cause.Cause.TheVariants.{NotBuilt}
+use Rattle.dsec_cause.specs.declared.cause.Cause.{Cause}
+use Rattle.dsec_cause.specs.declared.cause.Cause.TheVariants.{NotBuilt}
 use Rattle.dsec_judge.specs.Findings.{World, finding, island_of}
 use Rattle.dsec_judge.specs.declared.finding.Finding.{Finding}
 use Rattle.dsec_judge.specs.declared.finding.Finding.TheVariants.{Shown as shown, Insecure as insecure, Bogus as bogus, Indeterminate as indeterminate}

@@ -4,13 +4,13 @@ ghost use Rattle.std.specs.Prelude.{◌≡◌, Some, position};
 ghost use Rattle.std.specs.Str.{bytes_eq};
 ghost use Rattle.dsec_spec.specs.Numbers.{DNSKEY};
 ghost use Rattle.dsec_wire.specs.DataViews.{ds_view};
-ghost use Rattle.dsec_valbase.specs.KeySearches.{search_view};
+ghost use Rattle.dsec_link.specs.KeySearches.{search_view};
 ghost use Rattle.dsec_judge.specs.Admission.{admission as admission_of, own_key, spoken_of};
 
 use crate::target::is_same;
 use dsec_group::Group;
+use dsec_link::{KeySearch, first_key_for};
 use dsec_number::{Class, Rtype};
-use dsec_valbase::{KeySearch, first_key_for};
 use dsec_wire::{Ds, Record};
 
 /// How many keys with the algorithm and tag of a DS anchor are tried: keys can be made to have one tag.

@@ -10,12 +10,12 @@ ghost use Rattle.dsec_judge.specs.AnchorTrials.{AreAnchorTries, IsAnchorTry, Try
 ghost use Rattle.dsec_judge.specs.Admission.{admission as admission_of, key_in};
 
 use crate::admission::admission;
-use dsec_base::Cause;
+use dsec_cause::Cause;
 use dsec_crypto::Verifier;
 use dsec_group::{Group, NoMemo, Steps, Tries, try_all};
+use dsec_link::KeySearch;
 use dsec_name::NoMemory;
 use dsec_number::Timestamp;
-use dsec_valbase::KeySearch;
 use dsec_wire::{Dnskey, Record};
 use std::alloc::Global;
 use std::sync::ledger::Ledger;

@@ -10,7 +10,7 @@ ghost use Rattle.dsec_judge.specs.declared.asking.Asked as declared;
 
 use crate::key_set::{KeySet, key_set_in};
 use crate::target::is_same;
-use dsec_base::Cause;
+use dsec_cause::Cause;
 use dsec_crypto::Verifier;
 use dsec_group::Steps;
 use dsec_name::{Name, NoMemory};

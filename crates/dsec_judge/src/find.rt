@@ -18,13 +18,13 @@ use crate::island::parent_for;
 use crate::key_set::KeySet;
 use crate::target::is_signed_at_island;
 use dsec_anchors::island_owner;
-use dsec_base::Cause;
+use dsec_cause::Cause;
 use dsec_crypto::Verifier;
 use dsec_group::{Group, Limits};
+use dsec_link::Link;
 use dsec_name::{Name, NoMemory};
 use dsec_number::Timestamp;
 use dsec_outside::Upstream;
-use dsec_valbase::Link;
 use dsec_wire::Record;
 use std::alloc::Global;
 

@@ -10,12 +10,12 @@ ghost use Rattle.dsec_judge.specs.Findings.{data_of, finding_by, keys_of as keys
 ghost use Rattle.dsec_judge.specs.declared.finding.Finding.TheVariants.{Shown};
 
 use crate::keys::{first_saying, keys_of};
-use dsec_base::Cause;
+use dsec_cause::Cause;
 use dsec_crypto::Verifier;
 use dsec_group::{Group, Limits, NoMemo, Steps, check_with_keys, set_of};
+use dsec_link::{Link, LinkKind, Links};
 use dsec_name::{Name, NoMemory, Octets};
 use dsec_number::Timestamp;
-use dsec_valbase::{Link, LinkKind, Links};
 use dsec_wire::{Data, Dnskey, Record};
 use std::alloc::Global;
 use std::marker::Brand;

@@ -12,7 +12,7 @@ ghost use Rattle.dsec_judge.specs.declared.asking.Asked as declared;
 use crate::asking::Asked;
 use crate::find::find;
 use crate::finding::Finding;
-use dsec_base::Cause;
+use dsec_cause::Cause;
 use dsec_crypto::Verifier;
 use dsec_group::{Group, Limits};
 use dsec_name::NoMemory;

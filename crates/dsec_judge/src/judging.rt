@@ -21,13 +21,13 @@ use crate::found::Found;
 use crate::question::{is_any_leading_on, is_bare_alias, is_no_error};
 use crate::sections::{BothFound, find_both};
 use crate::verdict::Verdict;
-use dsec_base::Cause;
+use dsec_anchors::TrustAnchors;
+use dsec_cause::Cause;
 use dsec_crypto::Verifier;
 use dsec_group::{Group, Limits, groups};
 use dsec_name::NoMemory;
 use dsec_number::{Rtype, Timestamp};
 use dsec_outside::Upstream;
-use dsec_valbase::TrustAnchors;
 use dsec_wire::{Message, MessageError, Question, Record, Sections};
 use std::alloc::Global;
 

@@ -3,7 +3,7 @@
 ghost use Rattle.std.specs.Prelude.{◌≡◌, IfOk, Some, find, map};
 ghost use Rattle.std.specs.Option.{option_map};
 ghost use Rattle.dsec_spec.specs.Numbers.{DNSKEY};
-ghost use Rattle.dsec_valbase.specs.Sets.{AreOf, octets_of};
+ghost use Rattle.dsec_link.specs.Sets.{AreOf, octets_of};
 ghost use Rattle.dsec_wire.specs.Views.{dnskey_in, key_view};
 ghost use Rattle.dsec_judge.specs.Findings.{keys_of as keys_in, says_key};
 

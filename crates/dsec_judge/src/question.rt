@@ -13,9 +13,9 @@ ghost use Rattle.dsec_spec.specs.Messages.{rcode_of};
 use crate::target::{is_same, is_strictly_below};
 use dsec_anchors::island_owner;
 use dsec_group::Group;
+use dsec_link::Link;
 use dsec_name::{Name, NoMemory};
 use dsec_number::{Rcode, Rtype};
-use dsec_valbase::Link;
 use dsec_wire::{Message, Question, Record};
 use std::alloc::Global;
 

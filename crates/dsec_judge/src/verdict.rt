@@ -1,9 +1,9 @@
 //! Verdicts on messages (RFC 4033 5, RFC 4035 4.3).
 
-use dsec_base::Cause;
+use dsec_cause::Cause;
 use dsec_crypto::Verifier;
 use dsec_group::ValidationState;
-use dsec_valbase::Shown;
+use dsec_link::Shown;
 
 /// What a message is judged to be.
 #[derive(Drop)]

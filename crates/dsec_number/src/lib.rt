@@ -7,6 +7,7 @@ mod error;
 mod laws;
 mod limits;
 mod rcode;
+mod registered;
 mod rtype;
 mod serial;
 mod timestamp;
@@ -19,6 +20,10 @@ pub use error::UnknownWord;
 pub use laws::{law_of_classes, law_of_types};
 pub use limits::DefMinMax;
 pub use rcode::Rcode;
+pub use registered::{
+    law_of_algorithm_numbers, law_of_class_numbers, law_of_digest_numbers,
+    law_of_dnssec_type_numbers, law_of_rcode_numbers, law_of_type_numbers,
+};
 pub use rtype::Rtype;
 pub use serial::Serial;
 pub use timestamp::Timestamp;

@@ -6,8 +6,8 @@ ghost use Rattle.dsec_wire.specs.Views.{key_view};
 
 use arrayvec::ArrayVec;
 use dsec_crypto::FromDnskeyError;
+use dsec_link::supported_algorithm;
 use dsec_number::SecurityAlgorithm;
-use dsec_valbase::supported_algorithm;
 use dsec_wire::Dnskey;
 use std::marker::Model;
 

@@ -27,3 +27,4 @@ pub mod Members
 pub mod IslandLemmas
 pub mod AnsweringLemmas
 pub mod OutsideLaws
+pub mod ListLemmas

@@ -1,14 +1,15 @@
 //! Verdicts on single messages, over upstreams that answer and that fail.
 
 use crate::vectors::*;
+use dsec_anchors::TrustAnchors;
 use dsec_answer::ValidationContext;
 use dsec_crypto::StandIn;
 use dsec_group::{Limits, ValidationState};
 use dsec_judge::{Error, Verdict};
+use dsec_link::LinkKind;
 use dsec_name::{Name, Octets};
 use dsec_number::{Class, Rtype, Ttl};
 use dsec_outside::{FailingUpstream, Replies, TableUpstream, Upstream};
-use dsec_valbase::{LinkKind, TrustAnchors};
 use dsec_wire::{Data, Message, Record, ShortMessage};
 use std::alloc::Global;
 use std::process::Abort;

@@ -3,12 +3,12 @@
 
 ghost use Rattle.std.specs.Prelude.{◌≡◌, IfOk};
 ghost use Rattle.dsec_spec.specs.Numbers.{DNSKEY};
-ghost use Rattle.dsec_valbase.specs.Sets.{AreRecordsOf};
+ghost use Rattle.dsec_link.specs.Sets.{AreRecordsOf};
 
 use dsec_crypto::AlgorithmError;
+use dsec_link::{DnskeyExt, DsExt, KeySearch, first_key_for};
 use dsec_name::{Name, Octets};
 use dsec_number::{Class, DigestAlgorithm, Rtype, Ttl};
-use dsec_valbase::{DnskeyExt, DsExt, KeySearch, first_key_for};
 use dsec_wire::{Data, Record};
 use std::alloc::Global;
 use std::process::Abort;

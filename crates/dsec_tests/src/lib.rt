@@ -22,6 +22,8 @@ mod links;
 #[cfg(test)]
 mod memos;
 #[cfg(test)]
+mod outcomes;
+#[cfg(test)]
 mod runs;
 #[cfg(test)]
 mod signatures;

@@ -4,12 +4,12 @@ use crate::signatures::{
     ADDRESS, ADDRESS_SIGNATURE, KEY, KEY_SIGNATURE, data_of, record_of, rrsig_data, set_of,
 };
 use dsec_crypto::TableVerifier;
-use dsec_name::Name;
-use dsec_number::{DigestAlgorithm, Rtype, SecurityAlgorithm, Timestamp};
-use dsec_valbase::{
+use dsec_link::{
     Link, LinkKind, Links, admit_anchor_ds, admit_anchor_key, admit_set, supported_algorithm,
     supported_digest,
 };
+use dsec_name::Name;
+use dsec_number::{DigestAlgorithm, Rtype, SecurityAlgorithm, Timestamp};
 use std::alloc::Global;
 use std::test::Fail;
 

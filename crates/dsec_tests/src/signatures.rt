@@ -4,9 +4,9 @@ ghost use Rattle.std.specs.Prelude.{◌≡◌, IfOk};
 ghost use Rattle.dsec_spec.specs.Numbers.{RRSIG};
 
 use dsec_crypto::{AlgorithmError, StandIn, TableVerifier, Verifier};
+use dsec_link::{RecordSet, RrsigExt, is_signed, matches, may_sign, signed_bytes};
 use dsec_name::{Name, Octets};
 use dsec_number::{Class, Rtype, Timestamp, Ttl};
-use dsec_valbase::{RecordSet, RrsigExt, is_signed, matches, may_sign, signed_bytes};
 use dsec_wire::{Data, Dnskey, Record, Rrsig};
 use std::alloc::Global;
 use std::process::Abort;

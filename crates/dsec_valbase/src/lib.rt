@@ -1,34 +1,11 @@
-//! Record sets, the octets that signatures are over, one signature's check, and links of chains (RFC 4034 3.1.8, RFC 4035 5.3).
+//! What validation stands on, as one crate: it passes on what `dsec_link` and `dsec_anchors` make public.
 #![tactic(auto)]
 
-mod admit;
-mod admit_ds;
-mod bytes;
-mod canonical;
-mod check;
-mod dnskey_ext;
-mod ds_ext;
-mod key_digest;
-mod key_search;
-mod key_size;
-mod link;
-mod record_set;
-mod rrsig_ext;
-mod shown;
-mod signing;
-mod supported;
-mod verified;
-
-pub use admit::{admit_anchor_key, admit_set};
-pub use admit_ds::admit_anchor_ds;
-pub use bytes::signed_bytes;
-pub use check::{is_signed, matches, may_sign};
-pub use dnskey_ext::DnskeyExt;
-pub use ds_ext::DsExt;
-pub use dsec_anchors::{AnchorError, AnchorRecords, TrustAnchor, TrustAnchors};
-pub use key_search::{KeySearch, first_key_for};
-pub use link::{Link, LinkKind, Links};
-pub use record_set::RecordSet;
-pub use rrsig_ext::RrsigExt;
-pub use shown::Shown;
-pub use supported::{supported_algorithm, supported_digest};
+pub use dsec_anchors::{
+    AnchorError, AnchorRecords, TrustAnchor, TrustAnchors, island_owner, read_anchors,
+};
+pub use dsec_link::{
+    DnskeyExt, DsExt, KeySearch, Link, LinkKind, Links, RecordSet, RrsigExt, Shown,
+    admit_anchor_ds, admit_anchor_key, admit_set, first_key_for, is_signed, matches, may_sign,
+    push_link, signed_bytes, supported_algorithm, supported_digest,
+};

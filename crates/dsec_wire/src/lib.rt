@@ -30,7 +30,7 @@ pub use dnskey::Dnskey;
 pub use ds::Ds;
 pub use edns::{EdnsOption, Opt};
 pub use error::{MessageError, ShortMessage};
-pub use header::Header;
+pub use header::{Header, law_of_flags};
 pub use layout::{Form, Item, Tail, written_form};
 pub use lists::{Questions, Records};
 pub use message::Message;

@@ -2,7 +2,7 @@ use Rattle.std.proofs.Common.{◌≡◌, arith, sym, subst, get_or, refl, ◌∙
 use Rattle.std.specs.Io.KnownBytes.{Appends}
 use Rattle.std.proofs.KnownBytes.{Appends-nil, Appends-trans}
 use Rattle.dsec_spec.specs.Outside.{SentFront}
-use Rattle.dsec_outcome.specs.Texts.{outcome_text}
+use Rattle.dsec_answer.specs.Texts.{outcome_text}
 use Rattle.dsec_script.specs.declared.items.Item.{Item}
 use Rattle.dsec_answer.specs.Outcomes.{outcome_of}
 use Rattle.dsec_answer.proofs.AnswerLoop.{no_texts, one_more, stopped, stopped_within}

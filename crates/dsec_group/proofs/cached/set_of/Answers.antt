@@ -1,5 +1,5 @@
 use Rattle.std.proofs.Common.{refl}
-use Rattle.dsec_valbase.proofs.SetLemmas.{octets_of-data_of}
+use Rattle.dsec_link.proofs.SetLemmas.{octets_of-data_of}
 use Rattle.dsec_group.proofs.CheckLaws.{all_copied, copies_typed}
 use Rattle.dsec_group.proofs.cached.set_of.Goals as goal
 

@@ -1,5 +1,5 @@
 use Rattle.std.proofs.Common.{◌≡◌, ◌++◌, map, drop}
-use Rattle.dsec_valbase.specs.Sets.{octets_of}
+use Rattle.dsec_link.specs.Sets.{octets_of}
 use Rattle.dsec_wire.specs.Views.{key_view}
 use Rattle.dsec_judge.specs.Findings.{keys_of}
 use Rattle.dsec_judge.proofs.keys.keys_of.Given as goal

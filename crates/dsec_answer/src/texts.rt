@@ -1,0 +1,176 @@
+//! What is written for an outcome.
+
+ghost use Rattle.std.specs.Prelude.{◌≡◌, ◌++◌, IfOk, OnOk, Ok, Err};
+ghost use Rattle.std.specs.List.{flat_map};
+ghost use Rattle.std.specs.Option.{option_map};
+ghost use Rattle.dsec_link.specs.LinkTexts.{link_line};
+ghost use Rattle.dsec_answer.specs.Texts.{cause_text, error_line, error_text, outcome_text, state_text, status_text, verdict_line, why_lines};
+ghost use Rattle.dsec_judge.specs.Judged.{reason, told_by};
+
+use crate::outcome::Outcome;
+use dsec_cause::Cause;
+use dsec_crypto::Verifier;
+use dsec_group::ValidationState;
+use dsec_judge::{Error, Verdict, Why};
+use dsec_link::{Link, push_link};
+use dsec_name::NoMemory;
+use dsec_word::push_number;
+use std::alloc::Global;
+
+/// What is written for the outcome of the message of an index: a line of its own, and after a verdict `Secure` a
+/// line for each link of what shows it.
+pub fn text<V: Verifier>(
+    alloc: Global,
+    index: u64,
+    outcome: &Outcome<V>,
+) -> Result<Vec<u8>, NoMemory>
+    ensures { IfOk result (λ text. text.items ≡ outcome_text index outcome.now) }
+{
+    match outcome.as_result() {
+        Ok(verdict) => verdict_text(alloc, index, verdict),
+        Err(error) => refusal_text(alloc, index, error),
+    }
+}
+
+/// What is written for a verdict.
+fn verdict_text<V: Verifier>(
+    alloc: Global,
+    index: u64,
+    verdict: &Verdict<V>,
+) -> Result<Vec<u8>, NoMemory>
+    ensures { IfOk result (λ text. text.items ≡ outcome_text index (Ok (told_by verdict.now.state verdict.now.ede (option_map (λ why. reason why.group why.shown) verdict.now.why) verdict.now.questions))) }
+{
+    let mut out = Vec::new(alloc);
+    push_verdict(
+        alloc,
+        &mut out,
+        index,
+        verdict.state,
+        verdict.ede,
+        verdict.questions,
+    )?;
+    push_why(alloc, &mut out, index, &verdict.why)?;
+    Ok(out)
+}
+
+/// What is written for an error.
+fn refusal_text(alloc: Global, index: u64, error: Error) -> Result<Vec<u8>, NoMemory>
+    ensures { IfOk result (λ text. text.items ≡ outcome_text index (Err error)) }
+{
+    let mut out = Vec::new(alloc);
+    push_error(alloc, &mut out, index, error)?;
+    Ok(out)
+}
+
+/// Adds the line of a verdict.
+#[tactic(auto, unfolding(crate::specs::Texts::verdict_line))]
+fn push_verdict(
+    alloc: Global,
+    out: &mut Vec<u8>,
+    index: u64,
+    state: ValidationState,
+    ede: Option<Cause>,
+    questions: usize,
+) -> Result<(), NoMemory>
+    ensures { OnOk result (out.new.items ≡ out.old.items ++ verdict_line index state ede questions) }
+{
+    push_status(alloc, out, index, state)?;
+    push_cause(alloc, out, ede)?;
+    out.extend_from_slice(b" questions=")?;
+    push_number(alloc, out, questions as u64)?;
+    out.push(b'\n')?;
+    Ok(())
+}
+
+/// Adds a message's index and status.
+#[tactic(auto, unfolding(crate::specs::Texts::status_text))]
+fn push_status(
+    alloc: Global,
+    out: &mut Vec<u8>,
+    index: u64,
+    state: ValidationState,
+) -> Result<(), NoMemory>
+    ensures { OnOk result (out.new.items ≡ out.old.items ++ status_text index state) }
+{
+    push_number(alloc, out, index)?;
+    out.extend_from_slice(b" ")?;
+    out.extend_from_slice(state_word(state).as_bytes())?;
+    out.extend_from_slice(b" ")?;
+    Ok(())
+}
+
+/// The word of a security status.
+fn state_word(state: ValidationState) -> &'static str
+    ensures { result.now ≡ state_text state }
+{
+    match state {
+        ValidationState::Secure => "Secure",
+        ValidationState::Insecure => "Insecure",
+        ValidationState::Bogus => "Bogus",
+        ValidationState::Indeterminate => "Indeterminate",
+    }
+}
+
+/// Adds a cause's code and text.
+fn push_cause(alloc: Global, out: &mut Vec<u8>, ede: Option<Cause>) -> Result<(), NoMemory>
+    ensures { OnOk result (out.new.items ≡ out.old.items ++ cause_text ede) }
+{
+    let Some(cause) = ede else {
+        out.extend_from_slice(b"- \"\"")?;
+        return Ok(());
+    };
+    push_number(alloc, out, u64::from(cause.code()))?;
+    out.extend_from_slice(b" \"")?;
+    out.extend_from_slice(cause.text().as_bytes())?;
+    out.extend_from_slice(b"\"")?;
+    Ok(())
+}
+
+/// Adds the lines of what shows a verdict, where something does.
+fn push_why<V: Verifier>(
+    alloc: Global,
+    out: &mut Vec<u8>,
+    index: u64,
+    why: &Option<Why<V>>,
+) -> Result<(), NoMemory>
+    ensures { OnOk result (out.new.items ≡ out.old.items ++ why_lines index (option_map (λ why. reason why.group why.shown) why.now)) }
+{
+    match why {
+        Some(why) => push_links(alloc, out, index, why.shown.links().as_slice()),
+        None => Ok(()),
+    }
+}
+
+/// Adds the lines of links.
+fn push_links(alloc: Global, out: &mut Vec<u8>, index: u64, links: &[Link]) -> Result<(), NoMemory>
+    ensures { OnOk result (out.new.items ≡ out.old.items ++ flat_map (λ link. link_line index link) links.now) }
+{
+    for link in links {
+        push_link(alloc, out, index, link)?;
+    }
+    Ok(())
+}
+
+/// Adds the line of an error.
+#[tactic(auto, unfolding(crate::specs::Texts::error_line))]
+fn push_error(alloc: Global, out: &mut Vec<u8>, index: u64, error: Error) -> Result<(), NoMemory>
+    ensures { OnOk result (out.new.items ≡ out.old.items ++ error_line index error) }
+{
+    push_number(alloc, out, index)?;
+    out.extend_from_slice(b" error:")?;
+    out.extend_from_slice(error_name(error).as_bytes())?;
+    out.push(b'\n')?;
+    Ok(())
+}
+
+/// The name of an error.
+fn error_name(error: Error) -> &'static str
+    ensures { result.now ≡ error_text error }
+{
+    match error {
+        Error::FormError => "FormError",
+        Error::ParseError => "ParseError",
+        Error::ShortMessage => "ShortMessage",
+        Error::NoMemory => "NoMemory",
+    }
+}

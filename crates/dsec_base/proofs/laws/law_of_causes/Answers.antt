@@ -1,5 +1,0 @@
-use Rattle.dsec_base.proofs.CauseLemmas.{told_apart}
-use Rattle.dsec_base.proofs.laws.law_of_causes.Goals as goal
-
-pub returns : goal.returns
-returns c = told_apart

@@ -1,0 +1,7 @@
+pub mod SetLemmas
+pub mod NameParts
+pub mod LinkLemmas
+pub mod SignedTests
+pub mod KeyedLemmas
+pub mod KeyDigestLemmas
+pub mod KeySearchSteps

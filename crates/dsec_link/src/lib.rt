@@ -1,0 +1,35 @@
+//! Record sets, the octets that signatures are over, one signature's check, and links of chains (RFC 4034 3.1.8, RFC 4035 5.3).
+#![tactic(auto)]
+
+mod admit;
+mod admit_ds;
+mod bytes;
+mod canonical;
+mod check;
+mod dnskey_ext;
+mod ds_ext;
+mod key_digest;
+mod key_search;
+mod key_size;
+mod link;
+mod link_text;
+mod record_set;
+mod rrsig_ext;
+mod shown;
+mod signing;
+mod supported;
+mod verified;
+
+pub use admit::{admit_anchor_key, admit_set};
+pub use admit_ds::admit_anchor_ds;
+pub use bytes::signed_bytes;
+pub use check::{is_signed, matches, may_sign};
+pub use dnskey_ext::DnskeyExt;
+pub use ds_ext::DsExt;
+pub use key_search::{KeySearch, first_key_for};
+pub use link::{Link, LinkKind, Links};
+pub use link_text::push_link;
+pub use record_set::RecordSet;
+pub use rrsig_ext::RrsigExt;
+pub use shown::Shown;
+pub use supported::{supported_algorithm, supported_digest};

@@ -1,7 +1,0 @@
-use Rattle.std.proofs.Common.{◌≡◌, ◌++◌, take}
-use Rattle.std.specs.List.{flat_map}
-use Rattle.dsec_valbase.specs.Signing.{whole_record}
-use Rattle.dsec_valbase.proofs.bytes.push_all.Given as goal
-
-abbrev pub invariant-loop-one : goal.invariant-loop-one
-invariant-loop-one l = l.out.items ≡ l.initial.out.items ++ flat_map (whole_record l.front) (take l.one-index l.canonical)
