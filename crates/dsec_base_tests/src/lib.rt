@@ -12,15 +12,9 @@ mod causes;
 #[cfg(test)]
 mod digests;
 #[cfg(test)]
-mod layout_vectors;
-#[cfg(test)]
-mod layouts;
-#[cfg(test)]
-mod message_vectors;
+mod errors;
 #[cfg(test)]
 mod messages;
-#[cfg(test)]
-mod more_script_vectors;
 #[cfg(test)]
 mod names;
 #[cfg(test)]
@@ -28,17 +22,11 @@ mod numbers;
 #[cfg(test)]
 mod outside;
 #[cfg(test)]
-mod script_vectors;
-#[cfg(test)]
 mod scripts;
 #[cfg(test)]
 mod texts;
 #[cfg(test)]
 mod views;
-#[cfg(test)]
-mod words;
-#[cfg(test)]
-mod written_zones;
 #[cfg(test)]
 mod zone_vectors;
 #[cfg(test)]

@@ -1,345 +1,228 @@
-//! Names from the standards, and each call once.
+//! Names from the standards: texts, octets and their order.
 
-use dsec_name::*;
+use dsec_name::{Name, NameError};
 use std::alloc::Global;
 use std::cmp::Ordering;
-use std::hash::{FoldHasher, Hash, Hasher};
-use std::process::Abort;
 use std::test::Fail;
 
-const LABEL_63: &str = "abcdefghijklmnopqrstuvwxyz0123456789abcdefghijklmnopqrstuvwxyz0";
+/// A name of 255 octets on the wire.
+const LONGEST: &str =
+    "abcdefghijklmnopqrstuvwxyz0123456789abcdefghijklmnopqrstuvwxyz0.abcdefghijklmnopqrstuvwxyz0123456789abcdefghijklmnopqrstuvwxyz0.abcdefghijklmnopqrstuvwxyz0123456789abcdefghijklmnopqrstuvwxyz0.abcdefghijklmnopqrstuvwxyz0123456789abcdefghijklmnopqrstuvwxy";
 
-const LABEL_61: &str = "abcdefghijklmnopqrstuvwxyz0123456789abcdefghijklmnopqrstuvwxy";
+const LONGEST_WIRE: &[u8] =
+    b"\x3fabcdefghijklmnopqrstuvwxyz0123456789abcdefghijklmnopqrstuvwxyz0\x3fabcdefghijklmnopqrstuvwxyz0123456789abcdefghijklmnopqrstuvwxyz0\x3fabcdefghijklmnopqrstuvwxyz0123456789abcdefghijklmnopqrstuvwxyz0\x3dabcdefghijklmnopqrstuvwxyz0123456789abcdefghijklmnopqrstuvwxy\0";
 
-fn hash_of(name: &Name) -> u64 {
-    let mut hasher = FoldHasher::default();
-    name.hash(&mut hasher);
-    hasher.finish()
+/// Texts, what their names are shown as, and their octets (RFC 1035 3.1, 5.1).
+const READ: [(&str, &str, &[u8]); 8] = [
+    (".", ".", b"\0"),
+    ("Example", "Example.", b"\x07Example\0"),
+    ("*._a-9.b.", "*._a-9.b.", b"\x01*\x04_a-9\x01b\0"),
+    ("a\\.b.C", "a\\046b.C.", b"\x03a.b\x01C\0"),
+    ("a\\046b.C.", "a\\046b.C.", b"\x03a.b\x01C\0"),
+    (
+        "\\\\.\\000\\255\\\"",
+        "\\092.\\000\\255\\034.",
+        b"\x01\\\x03\0\xff\"\0",
+    ),
+    ("\u{e9}.", "\\195\\169.", b"\x02\xc3\xa9\0"),
+    (
+        LONGEST,
+        "abcdefghijklmnopqrstuvwxyz0123456789abcdefghijklmnopqrstuvwxyz0.abcdefghijklmnopqrstuvwxyz0123456789abcdefghijklmnopqrstuvwxyz0.abcdefghijklmnopqrstuvwxyz0123456789abcdefghijklmnopqrstuvwxyz0.abcdefghijklmnopqrstuvwxyz0123456789abcdefghijklmnopqrstuvwxy.",
+        LONGEST_WIRE,
+    ),
+];
+
+fn is_shown(alloc: Global, name: &Name, shown: &str) -> Result<bool, Fail> {
+    Ok(format!(in alloc; "{name}")?.as_str() == shown)
 }
 
-fn shown(alloc: Global, text: &str) -> Result<String, Fail> {
+/// Whether the name has these octets, and is read from them.
+fn has_octets(alloc: Global, name: &Name, octets: &[u8]) -> Result<bool, Fail> {
+    let mut out = Vec::new(alloc);
+    name.compose(&mut out)?;
+    Ok(out.as_slice() == octets && Name::from_wire(alloc, octets)? == *name)
+}
+
+fn is_read(alloc: Global, text: &str, shown: &str, octets: &[u8]) -> Result<bool, Fail> {
     let name = Name::parse(alloc, text)?;
-    Ok(format!(in alloc; "{name}")?)
+    Ok(is_shown(alloc, &name, shown)? && has_octets(alloc, &name, octets)?)
 }
 
-fn error_of(alloc: Global, text: &str) -> Option<NameError> {
-    Name::parse(alloc, text).err()
-}
-
-fn is_refused(alloc: Global, text: &str, want: NameError) -> bool {
-    error_of(alloc, text) == Some(want)
-}
-
-/// The parts as one text.
-fn joined(alloc: Global, parts: &[&str]) -> Result<String, Fail> {
-    let mut text = String::new(alloc);
-    for part in parts {
-        text.push_str(part)?;
+#[test]
+fn names_are_read_and_shown(rt: HostRuntime) -> Result<(), Fail> {
+    for (text, shown, octets) in READ.iter() {
+        assert!(rt; is_read(rt.alloc(), text, shown, octets)?);
     }
-    Ok(text)
+    Ok(())
 }
 
-/// The name on the wire.
-fn wire_of(alloc: Global, name: &Name) -> Result<Vec<u8>, Fail> {
-    let mut octets = Vec::new(alloc);
-    name.compose(&mut octets)?;
-    Ok(octets)
-}
-
-// RFC 4034 6.1's example.
-const IN_ORDER: [&str; 9] = [
-    "example",
-    "a.example",
-    "yljkjljk.a.example",
-    "Z.a.example",
-    "zABC.a.EXAMPLE",
-    "z.example",
-    "\\001.z.example",
-    "*.z.example",
-    "\\200.z.example",
+/// Texts that write no name, and why.
+const REFUSED: [(&str, NameError); 14] = [
+    ("", NameError::BadLabel),
+    ("..", NameError::BadLabel),
+    (".a", NameError::BadLabel),
+    ("a..b.", NameError::BadLabel),
+    ("a..", NameError::BadLabel),
+    ("\\256", NameError::BadLabel),
+    ("\\25", NameError::BadLabel),
+    ("\\2a5", NameError::BadLabel),
+    ("a.\\", NameError::BadLabel),
+    ("a\\", NameError::BadLabel),
+    (
+        "a.abcdefghijklmnopqrstuvwxyz0123456789abcdefghijklmnopqrstuvwxyz0z.",
+        NameError::LongLabel,
+    ),
+    (
+        "a.abcdefghijklmnopqrstuvwxyz0123456789abcdefghijklmnopqrstuvwxyz0z..",
+        NameError::BadLabel,
+    ),
+    (
+        "abcdefghijklmnopqrstuvwxyz0123456789abcdefghijklmnopqrstuvwxyz0.abcdefghijklmnopqrstuvwxyz0123456789abcdefghijklmnopqrstuvwxyz0.abcdefghijklmnopqrstuvwxyz0123456789abcdefghijklmnopqrstuvwxyz0.abcdefghijklmnopqrstuvwxyz0123456789abcdefghijklmnopqrstuvwxyz",
+        NameError::LongName,
+    ),
+    (
+        "abcdefghijklmnopqrstuvwxyz0123456789abcdefghijklmnopqrstuvwxyz0.abcdefghijklmnopqrstuvwxyz0123456789abcdefghijklmnopqrstuvwxyz0.abcdefghijklmnopqrstuvwxyz0123456789abcdefghijklmnopqrstuvwxyz0.abcdefghijklmnopqrstuvwxyz0123456789abcdefghijklmnopqrstuvwxyz0z",
+        NameError::LongLabel,
+    ),
 ];
 
-fn is_later(name: &Name, earlier: &Name) -> bool {
-    earlier.canonical_cmp(name) == Ordering::Less && *name > *earlier
-}
-
-/// Asserts that each name stands behind the one before it, and the first behind the root.
-fn assert_order(rt: &impl Abort, alloc: Global, texts: &[&str]) -> Result<(), Fail> {
-    let mut earlier = Name::root(alloc);
-    for text in texts {
-        let name = Name::parse(alloc, text)?;
-        assert!(rt; is_later(&name, &earlier), "{text}");
-        earlier = name;
-    }
-    Ok(())
+fn is_refused(alloc: Global, text: &str, error: NameError) -> bool {
+    Name::parse(alloc, text).err() == Some(error)
 }
 
 #[test]
-fn names_stand_in_the_canonical_order(rt: HostRuntime) -> Result<(), Fail> {
-    assert_order(&rt, rt.alloc(), &IN_ORDER)
+fn texts_of_no_name(rt: HostRuntime) {
+    for (text, error) in REFUSED.iter() {
+        assert!(rt; is_refused(rt.alloc(), text, *error), "{text}");
+    }
 }
 
-const BAD_LABELS: [&str; 10] = [
-    "", "..", ".a", "a..b.", "a..", "\\256", "\\25", "\\2a5", "a.\\", "a\\",
+/// Octets that are no name, and why.
+const NO_NAMES: [(&[u8], NameError); 9] = [
+    (b"", NameError::BadLabel),
+    (b"\x01a", NameError::BadLabel),
+    (b"\0\0", NameError::BadLabel),
+    (b"\x02a\0", NameError::BadLabel),
+    (b"\xc0\x0c", NameError::BadLabel),
+    (b"\x01a\0\0", NameError::BadLabel),
+    (
+        b"\x40abcdefghijklmnopqrstuvwxyz0123456789abcdefghijklmnopqrstuvwxyz0z",
+        NameError::BadLabel,
+    ),
+    (
+        b"\x40abcdefghijklmnopqrstuvwxyz0123456789abcdefghijklmnopqrstuvwxyz0z\0",
+        NameError::LongLabel,
+    ),
+    (
+        b"\x01A\x3fabcdefghijklmnopqrstuvwxyz0123456789abcdefghijklmnopqrstuvwxyz0\x3fabcdefghijklmnopqrstuvwxyz0123456789abcdefghijklmnopqrstuvwxyz0\x3fabcdefghijklmnopqrstuvwxyz0123456789abcdefghijklmnopqrstuvwxyz0\x3dabcdefghijklmnopqrstuvwxyz0123456789abcdefghijklmnopqrstuvwxy\0",
+        NameError::LongName,
+    ),
 ];
 
-fn assert_bad_labels(rt: &impl Abort, alloc: Global, texts: &[&str]) {
-    for text in texts {
-        assert!(rt; is_refused(alloc, text, NameError::BadLabel), "{text}");
+fn is_no_name(alloc: Global, octets: &[u8], error: NameError) -> bool {
+    Name::from_wire(alloc, octets).err() == Some(error)
+}
+
+#[test]
+fn octets_of_no_name(rt: HostRuntime) {
+    for (octets, error) in NO_NAMES.iter() {
+        assert!(rt; is_no_name(rt.alloc(), octets, *error));
     }
 }
 
-#[test]
-fn texts_of_no_name_are_refused(rt: HostRuntime) {
-    assert_bad_labels(&rt, rt.alloc(), &BAD_LABELS);
-}
-
-fn are_refused(alloc: Global, parts: &[&str], want: NameError) -> Result<bool, Fail> {
-    Ok(is_refused(alloc, joined(alloc, parts)?.as_str(), want))
-}
-
-#[test]
-fn texts_past_the_limits_are_refused(rt: HostRuntime) -> Result<(), Fail> {
-    let alloc = rt.alloc();
-    let three = joined(alloc, &[LABEL_63, ".", LABEL_63, ".", LABEL_63, "."])?;
-    assert!(rt; are_refused(alloc, &["a.", LABEL_63, "z."], NameError::LongLabel)?);
-    assert!(rt; are_refused(alloc, &["a.", LABEL_63, "z.."], NameError::BadLabel)?);
-    assert!(rt; are_refused(alloc, &[three.as_str(), LABEL_61, "z"], NameError::LongName)?);
-    assert!(rt;
-        are_refused(
-            alloc,
-            &[three.as_str(), LABEL_63, "z"],
-            NameError::LongLabel
-        )?
-    );
-    Ok(())
-}
-
-fn is_wire_refused(alloc: Global, wire: &[u8], want: NameError) -> bool {
-    Name::from_wire(alloc, wire).err() == Some(want)
-}
-
-/// A text of a name with 255 octets on the wire.
-const LONGEST: [&str; 7] = [LABEL_63, ".", LABEL_63, ".", LABEL_63, ".", LABEL_61];
-
-#[test]
-fn the_longest_names_are_read(rt: HostRuntime) -> Result<(), Fail> {
-    let text = joined(rt.alloc(), &LONGEST)?;
-    let name = Name::parse(rt.alloc(), text.as_str())?;
-    let octets = wire_of(rt.alloc(), &name)?;
-    assert!(rt; name.wire_len() == 255 && octets.len() == 255);
-    assert!(rt; Name::from_wire(rt.alloc(), &octets)? == name);
-    Ok(())
-}
-
-// The label `A` before the longest name.
-#[test]
-fn longer_names_are_refused(rt: HostRuntime) -> Result<(), Fail> {
-    let text = joined(rt.alloc(), &LONGEST)?;
-    let mut octets = wire_of(rt.alloc(), &Name::parse(rt.alloc(), text.as_str())?)?;
-    octets.insert(0, 1)?;
-    octets.insert(1, 65)?;
-    assert!(rt; is_wire_refused(rt.alloc(), &octets, NameError::LongName));
-    Ok(())
-}
-
-/// Texts in the zone `Example.org.`, and their names on the wire.
-const IN_ZONE: [(&[u8], &[u8]); 8] = [
-    (b"www", b"\x03www\x07Example\x03org\0"),
-    (b"a.b", b"\x01a\x01b\x07Example\x03org\0"),
-    (b"a.b.", b"\x01a\x01b\0"),
-    (b".", b"\0"),
-    (b"a\\.", b"\x02a.\x07Example\x03org\0"),
-    (b"a\\046", b"\x02a.\x07Example\x03org\0"),
-    (b"a\\\\.", b"\x02a\\\0"),
-    (b"\xff@", b"\x02\xff@\x07Example\x03org\0"),
+/// Texts, origins, and the names that they write together (RFC 1035 5.1); none where they write none.
+const IN_ZONE: [(&[u8], &str, &str); 12] = [
+    (b"www", "Example.org", "www.Example.org."),
+    (b"a.b", "Example.org", "a.b.Example.org."),
+    (b"a.b.", "Example.org", "a.b."),
+    (b".", "Example.org", "."),
+    (b"a\\.", "Example.org", "a\\046.Example.org."),
+    (b"a\\046", "Example.org", "a\\046.Example.org."),
+    (b"a\\\\.", "Example.org", "a\\092."),
+    (b"\xff@", "Example.org", "\\255\\064.Example.org."),
+    (b"", "Example.org", "BadLabel"),
+    (
+        b"a.b.",
+        "abcdefghijklmnopqrstuvwxyz0123456789abcdefghijklmnopqrstuvwxyz0.abcdefghijklmnopqrstuvwxyz0123456789abcdefghijklmnopqrstuvwxyz0.abcdefghijklmnopqrstuvwxyz0123456789abcdefghijklmnopqrstuvwxyz0.",
+        "a.b.",
+    ),
+    (
+        b"abcdefghijklmnopqrstuvwxyz0123456789abcdefghijklmnopqrstuvwxy",
+        "abcdefghijklmnopqrstuvwxyz0123456789abcdefghijklmnopqrstuvwxyz0.abcdefghijklmnopqrstuvwxyz0123456789abcdefghijklmnopqrstuvwxyz0.abcdefghijklmnopqrstuvwxyz0123456789abcdefghijklmnopqrstuvwxyz0.",
+        "abcdefghijklmnopqrstuvwxyz0123456789abcdefghijklmnopqrstuvwxy.abcdefghijklmnopqrstuvwxyz0123456789abcdefghijklmnopqrstuvwxyz0.abcdefghijklmnopqrstuvwxyz0123456789abcdefghijklmnopqrstuvwxyz0.abcdefghijklmnopqrstuvwxyz0123456789abcdefghijklmnopqrstuvwxyz0.",
+    ),
+    (
+        b"abcdefghijklmnopqrstuvwxyz0123456789abcdefghijklmnopqrstuvwxyz",
+        "abcdefghijklmnopqrstuvwxyz0123456789abcdefghijklmnopqrstuvwxyz0.abcdefghijklmnopqrstuvwxyz0123456789abcdefghijklmnopqrstuvwxyz0.abcdefghijklmnopqrstuvwxyz0123456789abcdefghijklmnopqrstuvwxyz0.",
+        "LongName",
+    ),
 ];
 
-fn is_in_zone(alloc: Global, text: &[u8], origin: &Name, want: &[u8]) -> Result<bool, Fail> {
-    let name = Name::parse_in(alloc, text, origin)?;
-    Ok(wire_of(alloc, &name)?.as_slice() == want)
+fn is_in_zone(alloc: Global, text: &[u8], origin: &str, shown: &str) -> Result<bool, Fail> {
+    let origin = Name::parse(alloc, origin)?;
+    match Name::parse_in(alloc, text, &origin) {
+        Ok(name) => is_shown(alloc, &name, shown),
+        Err(error) => Ok(format!(in alloc; "{error}")?.as_str() == shown),
+    }
 }
 
-fn assert_in_zone(rt: &impl Abort, alloc: Global, rows: &[(&[u8], &[u8])]) -> Result<(), Fail> {
-    let origin = Name::parse(alloc, "Example.org.")?;
-    for (text, wire) in rows {
-        assert!(rt; is_in_zone(alloc, text, &origin, wire)?);
+#[test]
+fn names_in_zones(rt: HostRuntime) -> Result<(), Fail> {
+    for (text, origin, shown) in IN_ZONE.iter() {
+        assert!(rt; is_in_zone(rt.alloc(), text, origin, shown)?, "{shown}");
     }
     Ok(())
 }
 
-#[test]
-fn names_in_a_zone_are_relative_without_a_dot(rt: HostRuntime) -> Result<(), Fail> {
-    assert_in_zone(&rt, rt.alloc(), &IN_ZONE)
-}
-
-/// A zone that leaves room for 62 octets of a name on the wire.
-fn long_origin(alloc: Global) -> Result<Name, Fail> {
-    let text = joined(alloc, &[LABEL_63, ".", LABEL_63, ".", LABEL_63, "."])?;
-    Ok(Name::parse(alloc, text.as_str())?)
-}
-
-fn is_refused_in(alloc: Global, text: &[u8], origin: &Name, want: NameError) -> bool {
-    Name::parse_in(alloc, text, origin).err() == Some(want)
-}
-
-#[test]
-fn the_limits_of_names_in_a_zone_count_the_origin(rt: HostRuntime) -> Result<(), Fail> {
-    let alloc = rt.alloc();
-    let origin = long_origin(alloc)?;
-    assert!(rt; Name::parse_in(alloc, LABEL_61.as_bytes(), &origin)?.wire_len() == 255);
-    let longer = &LABEL_63.as_bytes()[..62];
-    assert!(rt; is_refused_in(alloc, longer, &origin, NameError::LongName));
-    assert!(rt; is_refused_in(alloc, b"", &origin, NameError::BadLabel));
-    Ok(())
-}
-
-#[test]
-fn names_with_a_dot_do_not_count_the_origin(rt: HostRuntime) -> Result<(), Fail> {
-    let origin = long_origin(rt.alloc())?;
-    let name = Name::parse_in(rt.alloc(), b"a.b.", &origin)?;
-    assert!(rt; name == Name::parse(rt.alloc(), "a.b")?);
-    Ok(())
-}
-
-const NO_NAMES: [&[u8]; 6] = [
-    &[],
-    &[1, 97],
-    &[0, 0],
-    &[2, 97, 0],
-    &[192, 12],
-    &[1, 97, 0, 0],
+/// RFC 4034 6.1's example behind the root, each name with the one before it.
+const IN_ORDER: [(&str, &str); 9] = [
+    (".", "example"),
+    ("example", "a.example"),
+    ("a.example", "yljkjljk.a.example"),
+    ("yljkjljk.a.example", "Z.a.example"),
+    ("Z.a.example", "zABC.a.EXAMPLE"),
+    ("zABC.a.EXAMPLE", "z.example"),
+    ("z.example", "\\001.z.example"),
+    ("\\001.z.example", "*.z.example"),
+    ("*.z.example", "\\200.z.example"),
 ];
 
-fn assert_no_names(rt: &impl Abort, alloc: Global, wires: &[&[u8]]) {
-    for wire in wires {
-        assert!(rt; is_wire_refused(alloc, wire, NameError::BadLabel));
-    }
+fn is_before(alloc: Global, earlier: &str, later: &str) -> Result<bool, Fail> {
+    let earlier = Name::parse(alloc, earlier)?;
+    let later = Name::parse(alloc, later)?;
+    Ok(earlier.canonical_cmp(&later) == Ordering::Less && earlier < later)
 }
 
 #[test]
-fn octets_of_no_name_are_refused(rt: HostRuntime) {
-    assert_no_names(&rt, rt.alloc(), &NO_NAMES);
-}
-
-/// A label of these octets so often, without the root's behind it.
-pub(crate) fn push_label(octets: &mut Vec<u8>, size: u8, octet: u8) -> Result<(), Fail> {
-    octets.push(size)?;
-    for _ in 0..size {
-        octets.push(octet)?;
+fn names_in_the_canonical_order(rt: HostRuntime) -> Result<(), Fail> {
+    for (earlier, later) in IN_ORDER.iter() {
+        assert!(rt; is_before(rt.alloc(), earlier, later)?, "{later}");
     }
     Ok(())
 }
 
-#[test]
-fn long_labels_are_refused(rt: HostRuntime) -> Result<(), Fail> {
-    let mut long = Vec::new(rt.alloc());
-    push_label(&mut long, 64, 97)?;
-    assert!(rt; is_wire_refused(rt.alloc(), &long, NameError::BadLabel));
-    long.push(0)?;
-    assert!(rt; is_wire_refused(rt.alloc(), &long, NameError::LongLabel));
-    Ok(())
-}
-
-#[test]
-fn escapes_write_octets(rt: HostRuntime) -> Result<(), Fail> {
-    let plain = Name::parse(rt.alloc(), "a\\.b.C")?;
-    let number = Name::parse(rt.alloc(), "a\\046b.c.")?;
-    assert!(rt; plain == number && hash_of(&plain) == hash_of(&number));
-    Ok(())
-}
-
-#[test]
-fn octets_are_added(rt: HostRuntime) -> Result<(), Fail> {
-    let plain = Name::parse(rt.alloc(), "a\\.b.C")?;
-    let mut octets = Vec::new(rt.alloc());
-    octets.push(7)?;
-    plain.compose(&mut octets)?;
-    assert!(rt; octets.as_slice() == b"\x07\x03a.b\x01C\x00".as_slice());
-    plain.compose_canonical(&mut octets)?;
-    assert!(rt; octets.as_slice() == b"\x07\x03a.b\x01C\x00\x03a.b\x01c\x00".as_slice());
-    Ok(())
-}
-
-/// Texts, and how their names are shown, which are texts of the same names.
-const SHOWN: [(&str, &str); 5] = [
-    (".", "."),
-    ("Example", "Example."),
-    ("*._a-9.b.", "*._a-9.b."),
-    ("a\\.b\\\\.\\000\\255\\\"", "a\\046b\\092.\\000\\255\\034."),
-    ("\u{e9}.", "\\195\\169."),
+/// Names, their parents, and how many labels an RRSIG record counts of them (RFC 4034 3.1.3).
+const PARENTS: [(&str, &str, u8); 3] = [
+    ("*.a.Example", "a.example", 2),
+    ("a.b.", "B", 2),
+    ("eXample.", ".", 1),
 ];
 
-fn is_shown(alloc: Global, text: &str, want: &str) -> Result<bool, Fail> {
-    Ok(shown(alloc, text)?.as_str() == want)
-}
-
-fn assert_shown(rt: &impl Abort, alloc: Global, rows: &[(&str, &str)]) -> Result<(), Fail> {
-    for (text, want) in rows {
-        assert!(rt; is_shown(alloc, text, want)? && is_shown(alloc, want, want)?);
-    }
-    Ok(())
-}
-
-#[test]
-fn names_are_shown(rt: HostRuntime) -> Result<(), Fail> {
-    assert_shown(&rt, rt.alloc(), &SHOWN)
-}
-
-#[test]
-fn names_are_shown_where_all_is(rt: HostRuntime) -> Result<(), Fail> {
-    let name = Name::parse(rt.alloc(), "a.b")?;
-    let text = format!(in rt.alloc(); "{name:?}")?;
-    assert!(rt; text.as_str() == "a.b.");
-    Ok(())
-}
-
-#[test]
-fn errors_are_shown(rt: HostRuntime) -> Result<(), Fail> {
-    let text = format!(in rt.alloc(); "{NoMemory} {}", NameError::LongName)?;
-    assert!(rt; text.as_str() == "out of memory LongName");
-    Ok(())
-}
-
-#[test]
-fn names_stand_under_others(rt: HostRuntime) -> Result<(), Fail> {
-    let name = Name::parse(rt.alloc(), "*.a.Example")?;
-    let apex = Name::parse(rt.alloc(), "eXample.")?;
-    let other = Name::parse(rt.alloc(), "xample.")?;
-    let root = Name::root(rt.alloc());
-    let under = name.ends_with(&apex) && name.ends_with(&name) && name.ends_with(&root);
-    let beside = apex.ends_with(&name) || apex.ends_with(&other) || root.ends_with(&apex);
-    assert!(rt; under && !beside && root.is_root() && !apex.is_root());
-    Ok(())
-}
-
-/// Whether the name has so many labels, and an RRSIG record counts so many of them.
-fn has_counts(alloc: Global, text: &str, labels: usize, rrsig_labels: u8) -> Result<bool, Fail> {
+fn has_parent(alloc: Global, text: &str, parent: &str, labels: u8) -> Result<bool, Fail> {
     let name = Name::parse(alloc, text)?;
-    Ok(name.label_count() == labels && name.rrsig_label_count() == rrsig_labels)
+    let parent = Name::parse(alloc, parent)?;
+    Ok(
+        name.rrsig_label_count() == labels
+            && name.ends_with(&parent)
+            && !parent.ends_with(&name)
+            && name.parent()? == Some(parent),
+    )
 }
 
 #[test]
-fn labels_are_counted(rt: HostRuntime) -> Result<(), Fail> {
-    assert!(rt; has_counts(rt.alloc(), "*.a.Example", 4, 2)?);
-    assert!(rt; has_counts(rt.alloc(), "eXample.", 2, 1)?);
-    assert!(rt; has_counts(rt.alloc(), ".", 1, 0)?);
-    Ok(())
-}
-
-/// Whether the name's parent is shown so.
-fn has_parent(alloc: Global, text: &str, want: &str) -> Result<bool, Fail> {
-    match Name::parse(alloc, text)?.parent()? {
-        Some(parent) => Ok(format!(in alloc; "{parent}")?.as_str() == want),
-        None => Ok(false),
+fn names_and_their_parents(rt: HostRuntime) -> Result<(), Fail> {
+    for (text, parent, labels) in PARENTS.iter() {
+        assert!(rt; has_parent(rt.alloc(), text, parent, *labels)?, "{text}");
     }
-}
-
-#[test]
-fn names_have_parents(rt: HostRuntime) -> Result<(), Fail> {
-    let root = Name::root(rt.alloc());
-    assert!(rt; has_parent(rt.alloc(), "*.a.Example", "a.Example.")?);
-    assert!(rt; Name::parse(rt.alloc(), "eXample.")?.parent()? == Some(root.clone()?));
-    assert!(rt; root.parent()?.is_none());
     Ok(())
 }

@@ -1,25 +1,15 @@
-//! Sources, sinks and upstreams at work: pieces, failing calls, and who answers.
+//! Sources, sinks and upstreams at work: failing calls, pieces, adapters over std, and who answers.
 
 use dsec_name::Name;
 use dsec_number::Rtype;
 use dsec_outside::{
-    AskError, Failed, FailingSink, FailingSource, FailingUpstream, FixedUpstream, OctetsSink,
-    OctetsSource, PIECE, Reading, Replies, Sink, Source, Stop, TableUpstream, Upstream, Writing,
-    read_all, write_all,
+    Failed, FailingSink, FailingSource, FailingUpstream, FixedUpstream, OctetsSink, OctetsSource,
+    PIECE, Reading, Replies, Sink, Source, Stop, TableUpstream, Upstream, Writing, read_all,
+    write_all,
 };
-use std::alloc::{AllocError, Global};
-use std::fmt::Display;
+use std::alloc::Global;
 use std::io::Cursor;
 use std::test::Fail;
-
-/// `a.`, `A.`, `b.` and the root on the wire.
-const A: &[u8] = b"\x01a\x00";
-
-const UPPER_A: &[u8] = b"\x01A\x00";
-
-const B: &[u8] = b"\x01b\x00";
-
-const ROOT: &[u8] = b"\x00";
 
 /// Whether reading gave these octets, or failed where none are wanted.
 fn is_read(read: Result<Vec<u8>, Stop>, want: Option<&[u8]>) -> bool {
@@ -29,66 +19,47 @@ fn is_read(read: Result<Vec<u8>, Stop>, want: Option<&[u8]>) -> bool {
     }
 }
 
-fn reads<S: Source>(alloc: Global, source: &mut S, want: &[u8]) -> bool {
-    is_read(read_all(alloc, source), Some(want))
-}
+/// Numbers of calls that fail, what is read of `octets`, and how many calls are made. One reads all, and the next one finds
+/// the end.
+const READS: [(u64, Option<&[u8]>, u64); 3] = [(0, None, 1), (1, None, 2), (2, Some(b"octets"), 2)];
 
-/// So many octets, of which each is one more than the one before it, and a 0 comes after 255.
-fn counted(alloc: Global, count: usize) -> Result<Vec<u8>, Fail> {
-    let mut octets = Vec::new(alloc);
-    for number in 0..count {
-        octets.push((number & 0xff) as u8)?;
-    }
-    Ok(octets)
-}
-
-#[test]
-fn reads_a_source_to_its_end(rt: HostRuntime) -> Result<(), Fail> {
-    let octets = counted(rt.alloc(), 3 * PIECE + 5)?;
-    let mut source = OctetsSource { rest: &octets };
-    assert!(rt; reads(rt.alloc(), &mut source, &octets) && source.rest.is_empty());
-    Ok(())
-}
-
-#[test]
-fn reads_an_empty_source(rt: HostRuntime) {
-    let mut empty = OctetsSource { rest: &[] };
-    assert!(rt; reads(rt.alloc(), &mut empty, &[]));
-}
-
-/// Whether reading six octets gives what is wanted with so many faults and calls, where the call of a number fails.
-fn reads_but(alloc: Global, call: u64, want: Option<&[u8]>, faults: u64, calls: u64) -> bool {
-    let failing = [call];
+fn reads_but(alloc: Global, failing: u64, want: Option<&[u8]>, calls: u64) -> bool {
     let mut source = FailingSource {
         rest: b"octets",
-        failing: &failing,
+        failing: &[failing],
         calls: 0,
         faults: 0,
     };
     let read = read_all(alloc, &mut source);
-    is_read(read, want) && source.faults == faults && source.calls == calls
+    let faults = if want.is_none() { 1 } else { 0 };
+    source.faults == faults && source.calls == calls && is_read(read, want)
 }
 
 #[test]
-fn tells_a_read_that_fails(rt: HostRuntime) {
-    let alloc = rt.alloc();
-    assert!(rt; reads_but(alloc, 0, None, 1, 1));
-    assert!(rt; reads_but(alloc, 1, None, 1, 2));
-    // One call reads them all, and the next one finds the end.
-    assert!(rt; reads_but(alloc, 2, Some(b"octets"), 0, 2));
+fn sources_that_fail(rt: HostRuntime) {
+    for (failing, want, calls) in READS.iter() {
+        assert!(rt; reads_but(rt.alloc(), *failing, *want, *calls));
+    }
 }
 
 #[test]
-fn writes_all_of_the_octets(rt: HostRuntime) -> Result<(), Fail> {
-    let mut sink = OctetsSink::new(rt.alloc());
-    write_all(&mut sink, b"oct")?;
-    write_all(&mut sink, b"ets")?;
-    assert!(rt; sink.octets.as_slice() == b"octets".as_slice());
-    Ok(())
+fn sources_of_several_pieces(rt: HostRuntime) {
+    let octets = [7; 2 * PIECE + 5];
+    let mut source = OctetsSource { rest: &octets };
+    let read = read_all(rt.alloc(), &mut source);
+    assert!(rt; is_read(read, Some(octets.as_slice())) && source.rest.is_empty());
 }
 
-/// Whether writing six octets in pieces leaves a front of them after so many calls, where the call of a number fails. Where
-/// one is wanted to fail, that is the only fault.
+/// How many octets a sink takes at once, the numbers of calls that fail, the front of `octets` that is written, and how many calls
+/// are made. A sink that takes nothing fails at once.
+const WRITES: [(usize, &[u64], &[u8], u64); 5] = [
+    (1, &[], b"octets", 6),
+    (2, &[1], b"oc", 2),
+    (1, &[4], b"octe", 5),
+    (9, &[0], b"", 1),
+    (0, &[7], b"", 1),
+];
+
 fn writes(alloc: Global, piece: usize, failing: &[u64], front: &[u8], calls: u64) -> bool {
     let mut sink = FailingSink {
         octets: Vec::new(alloc),
@@ -106,178 +77,21 @@ fn writes(alloc: Global, piece: usize, failing: &[u64], front: &[u8], calls: u64
 }
 
 #[test]
-fn writes_in_pieces(rt: HostRuntime) {
-    let alloc = rt.alloc();
-    assert!(rt; writes(alloc, 1, &[], b"octets", 6));
-    // A front is left where a write fails, and a sink that takes nothing fails at once.
-    assert!(rt; writes(alloc, 2, &[1], b"oc", 2));
-    assert!(rt; writes(alloc, 1, &[4], b"octe", 5));
-    assert!(rt; writes(alloc, 9, &[0], b"", 1));
-    assert!(rt; writes(alloc, 0, &[7], b"", 1));
-}
-
-/// Adds a text as the reply.
-fn add(
-    alloc: Global,
-    replies: &mut Replies,
-    octets: &[u8],
-    rtype: Rtype,
-    text: &str,
-) -> Result<(), Fail> {
-    let reply = text.as_bytes().to_vec(alloc)?;
-    replies.add(Name::from_wire(alloc, octets)?, rtype, Some(reply))?;
-    Ok(())
-}
-
-/// A table whose answers are for `A. A`, `b. A` (which fails) and `b. NS`; later ones for `a. A` and `b. A` are
-/// dropped.
-fn table(alloc: Global) -> Result<TableUpstream, Fail> {
-    let mut replies = Replies::new(alloc);
-    add(alloc, &mut replies, UPPER_A, Rtype::A, "first")?;
-    add(alloc, &mut replies, A, Rtype::A, "second")?;
-    replies.add(Name::from_wire(alloc, B)?, Rtype::A, None)?;
-    add(alloc, &mut replies, B, Rtype::A, "third")?;
-    add(alloc, &mut replies, B, Rtype::NS, "fourth")?;
-    Ok(TableUpstream::new(replies))
-}
-
-/// The octets of a name with one label of two letters.
-fn two_letters(high: u8, low: u8) -> [u8; 4] {
-    [2, high, low, 0]
-}
-
-/// Adds a reply for each name of two letters that begins with this one.
-fn add_letters(alloc: Global, replies: &mut Replies, high: u8) -> Result<(), Fail> {
-    for low in b'a'..=b'z' {
-        let name = Name::from_wire(alloc, &two_letters(high, low))?;
-        replies.add(name, Rtype::DS, Some([high, low].to_vec(alloc)?))?;
+fn sinks_that_fail(rt: HostRuntime) {
+    for (piece, failing, front, calls) in WRITES.iter() {
+        assert!(rt; writes(rt.alloc(), *piece, failing, front, *calls));
     }
-    Ok(())
-}
-
-/// Whether the name has its reply for DS, and none for DNSKEY.
-fn has_letters(alloc: Global, replies: &Replies, high: u8, low: u8) -> Result<bool, Fail> {
-    let upper = two_letters(high.to_ascii_uppercase(), low);
-    let name = Name::from_wire(alloc, &upper)?;
-    Ok(
-        replies.reply(&name, Rtype::DS) == Some([high, low].as_slice())
-            && replies.reply(&name, Rtype::DNSKEY).is_none(),
-    )
 }
 
 #[test]
-fn finds_each_of_many_replies(rt: HostRuntime) -> Result<(), Fail> {
-    let mut replies = Replies::new(rt.alloc());
-    for high in b'a'..=b'z' {
-        add_letters(rt.alloc(), &mut replies, high)?;
-    }
-    for high in b'a'..=b'z' {
-        for low in b'a'..=b'z' {
-            assert!(rt; has_letters(rt.alloc(), &replies, high, low)?);
-        }
-    }
-    Ok(())
-}
-
-/// Whether the question has this reply, or fails where none is wanted.
-fn answers<U: Upstream>(
-    alloc: Global,
-    upstream: &mut U,
-    octets: &[u8],
-    rtype: Rtype,
-    want: Option<&str>,
-) -> Result<bool, Fail> {
-    let name = Name::from_wire(alloc, octets)?;
-    match upstream.ask(alloc, &name, rtype) {
-        Ok(reply) => Ok(want.map(|text| text.as_bytes()) == Some(reply.as_slice())),
-        Err(error) => Ok(want.is_none() && error == AskError::Failed),
-    }
-}
-
-/// Questions, what they are answered, and how many have failed then.
-const QUESTIONS: [(&[u8], Rtype, Option<&str>, u64); 7] = [
-    (A, Rtype::A, Some("first"), 0),
-    (UPPER_A, Rtype::A, Some("first"), 0),
-    (B, Rtype::NS, Some("fourth"), 0),
-    // An answer that fails, and questions without an answer.
-    (B, Rtype::A, None, 1),
-    (A, Rtype::NS, None, 2),
-    (ROOT, Rtype::A, None, 3),
-    (A, Rtype::A, Some("first"), 3),
-];
-
-/// Whether the table answers as each row says, and counts its questions.
-fn answers_all(
-    alloc: Global,
-    upstream: &mut TableUpstream,
-    rows: &[(&[u8], Rtype, Option<&str>, u64)],
-) -> Result<bool, Fail> {
-    let mut all = true;
-    for (octets, rtype, want, faults) in rows {
-        let is_answered = answers(alloc, upstream, octets, *rtype, *want)?;
-        all = all && is_answered && upstream.faults == *faults;
-    }
-    Ok(all && upstream.asked == rows.len() as u64)
+fn sinks_in_memory(rt: HostRuntime) {
+    let mut sink = OctetsSink::new(rt.alloc());
+    let both = write_all(&mut sink, b"oct").is_ok() && write_all(&mut sink, b"ets").is_ok();
+    assert!(rt; both && sink.octets.as_slice() == b"octets".as_slice());
 }
 
 #[test]
-fn answers_from_the_first_entry(rt: HostRuntime) -> Result<(), Fail> {
-    let mut upstream = table(rt.alloc())?;
-    assert!(rt; answers_all(rt.alloc(), &mut upstream, &QUESTIONS)?);
-    Ok(())
-}
-
-/// Types that are asked of `a.` in turn, and the answers where the first and third question fail.
-const TURNS: [(Rtype, Option<&str>); 5] = [
-    (Rtype::A, None),
-    (Rtype::A, Some("first")),
-    (Rtype::A, None),
-    (Rtype::NS, None),
-    (Rtype::A, Some("first")),
-];
-
-/// Whether `a.` is answered as each row says.
-fn answers_turns<U: Upstream>(
-    alloc: Global,
-    upstream: &mut U,
-    rows: &[(Rtype, Option<&str>)],
-) -> Result<bool, Fail> {
-    let mut all = true;
-    for (rtype, want) in rows {
-        let is_answered = answers(alloc, upstream, A, *rtype, *want)?;
-        all = all && is_answered;
-    }
-    Ok(all)
-}
-
-#[test]
-fn fails_at_the_given_questions(rt: HostRuntime) -> Result<(), Fail> {
-    let mut upstream = FailingUpstream {
-        inner: table(rt.alloc())?,
-        failing: &[0, 2],
-        asked: 0,
-        faults: 0,
-    };
-    assert!(rt; answers_turns(rt.alloc(), &mut upstream, &TURNS)?);
-    assert!(rt; upstream.asked == 5 && upstream.faults == 3 && upstream.inner.asked == 3);
-    Ok(())
-}
-
-/// Answers that are the same for all types.
-const SAME: [(Rtype, Option<&str>); 2] = [(Rtype::DS, Some("same")), (Rtype::DNSKEY, Some("same"))];
-
-#[test]
-fn answers_the_same_to_all(rt: HostRuntime) -> Result<(), Fail> {
-    let mut fixed = FixedUpstream {
-        reply: b"same",
-        asked: 0,
-    };
-    assert!(rt; answers_turns(rt.alloc(), &mut fixed, &SAME)? && fixed.asked == 2);
-    Ok(())
-}
-
-#[test]
-fn goes_over_readers(rt: HostRuntime) {
+fn readers_of_std(rt: HostRuntime) {
     let mut source = Reading {
         inner: Cursor::new(b"octets".as_slice()),
         faults: 0,
@@ -285,11 +99,12 @@ fn goes_over_readers(rt: HostRuntime) {
     let mut front = [0; 2];
     let count = source.read(&mut front);
     assert!(rt; count == Ok(2) && front == *b"oc");
-    assert!(rt; reads(rt.alloc(), &mut source, b"tets") && source.faults == 0);
+    let rest = read_all(rt.alloc(), &mut source);
+    assert!(rt; is_read(rest, Some(b"tets")) && source.faults == 0);
 }
 
 #[test]
-fn goes_over_writers(rt: HostRuntime) {
+fn writers_of_std(rt: HostRuntime) {
     let mut sink = Writing {
         inner: Vec::new(rt.alloc()),
         faults: 0,
@@ -300,7 +115,7 @@ fn goes_over_writers(rt: HostRuntime) {
 
 // A writer with room for four octets: the rest of a piece fails.
 #[test]
-fn goes_over_a_writer_that_runs_full(rt: HostRuntime) {
+fn a_writer_that_runs_full(rt: HostRuntime) {
     let mut room = [0; 4];
     let mut sink = Writing {
         inner: room.as_mut_slice(),
@@ -308,24 +123,105 @@ fn goes_over_a_writer_that_runs_full(rt: HostRuntime) {
     };
     let count = sink.write(b"oct");
     let rest = write_all(&mut sink, b"ets");
-    assert!(rt; count == Ok(3) && rest == Err(Failed) && sink.faults == 1);
-    assert!(rt; room == *b"octe");
+    assert!(rt; count == Ok(3) && rest == Err(Failed) && sink.faults == 1 && room == *b"octe");
 }
 
-/// Whether the value is shown so.
-fn shows<T: Display>(alloc: Global, value: &T, want: &str) -> Result<bool, Fail> {
-    Ok(format!(in alloc; "{value}")?.as_str() == want)
+/// Adds a reply, or one that fails.
+fn add(
+    alloc: Global,
+    replies: &mut Replies,
+    name: &str,
+    rtype: Rtype,
+    reply: Option<&[u8]>,
+) -> Result<(), Fail> {
+    let reply = match reply {
+        Some(octets) => Some(octets.to_vec(alloc)?),
+        None => None,
+    };
+    Ok(replies.add(Name::parse(alloc, name)?, rtype, reply)?)
+}
+
+/// The replies of a table, of which later ones for the same question are dropped.
+const REPLIES: [(&str, Rtype, Option<&[u8]>); 5] = [
+    ("A.", Rtype::A, Some(b"first")),
+    ("a.", Rtype::A, Some(b"second")),
+    ("b.", Rtype::A, None),
+    ("b.", Rtype::A, Some(b"third")),
+    ("b.", Rtype::NS, Some(b"fourth")),
+];
+
+fn table(alloc: Global) -> Result<TableUpstream, Fail> {
+    let mut replies = Replies::new(alloc);
+    for (name, rtype, reply) in REPLIES.iter() {
+        add(alloc, &mut replies, name, *rtype, *reply)?;
+    }
+    Ok(TableUpstream::new(replies))
+}
+
+/// Whether the question has this reply, or fails where none is wanted.
+fn answers<U: Upstream>(
+    alloc: Global,
+    upstream: &mut U,
+    name: &str,
+    rtype: Rtype,
+    want: Option<&[u8]>,
+) -> Result<bool, Fail> {
+    let name = Name::parse(alloc, name)?;
+    match upstream.ask(alloc, &name, rtype) {
+        Ok(reply) => Ok(want == Some(reply.as_slice())),
+        Err(_) => Ok(want.is_none()),
+    }
+}
+
+/// Questions, what a table answers, and what it answers where the first and the third question fail.
+const QUESTIONS: [(&str, Rtype, Option<&[u8]>, Option<&[u8]>); 7] = [
+    ("a.", Rtype::A, Some(b"first"), None),
+    ("A.", Rtype::A, Some(b"first"), Some(b"first")),
+    ("B.", Rtype::NS, Some(b"fourth"), None),
+    ("b.", Rtype::A, None, None),
+    ("a.", Rtype::NS, None, None),
+    (".", Rtype::A, None, None),
+    ("a.", Rtype::A, Some(b"first"), Some(b"first")),
+];
+
+#[test]
+fn tables_answer(rt: HostRuntime) -> Result<(), Fail> {
+    let mut upstream = table(rt.alloc())?;
+    for (name, rtype, want, _) in QUESTIONS.iter() {
+        assert!(rt;
+            answers(rt.alloc(), &mut upstream, name, *rtype, *want)?,
+            "{name}"
+        );
+    }
+    assert!(rt; upstream.asked == 7 && upstream.faults == 3);
+    Ok(())
 }
 
 #[test]
-fn shows_errors(rt: HostRuntime) -> Result<(), Fail> {
-    let alloc = rt.alloc();
-    assert!(rt; shows(alloc, &Failed, "Failed")?);
-    assert!(rt; shows(alloc, &AskError::Failed, "Failed")?);
-    assert!(rt; shows(alloc, &AskError::NoMemory, "out of memory")?);
-    assert!(rt; shows(alloc, &AskError::from(AllocError), "out of memory")?);
-    assert!(rt; shows(alloc, &Stop::Read, "Read")?);
-    assert!(rt; shows(alloc, &Stop::Memory, "out of memory")?);
-    assert!(rt; shows(alloc, &Stop::from(AllocError), "out of memory")?);
+fn upstreams_that_fail(rt: HostRuntime) -> Result<(), Fail> {
+    let mut upstream = FailingUpstream {
+        inner: table(rt.alloc())?,
+        failing: &[0, 2],
+        asked: 0,
+        faults: 0,
+    };
+    for (name, rtype, _, want) in QUESTIONS.iter() {
+        assert!(rt;
+            answers(rt.alloc(), &mut upstream, name, *rtype, *want)?,
+            "{name}"
+        );
+    }
+    assert!(rt; upstream.asked == 7 && upstream.faults == 5 && upstream.inner.asked == 5);
+    Ok(())
+}
+
+#[test]
+fn one_answer_to_all(rt: HostRuntime) -> Result<(), Fail> {
+    let mut fixed = FixedUpstream {
+        reply: b"same",
+        asked: 0,
+    };
+    assert!(rt; answers(rt.alloc(), &mut fixed, "a.", Rtype::DS, Some(b"same"))?);
+    assert!(rt; fixed.asked == 1);
     Ok(())
 }

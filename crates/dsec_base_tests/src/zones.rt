@@ -1,297 +1,126 @@
 //! Zone text, read and refused.
 
-use crate::written_zones::{FRONTS_1, FRONTS_2, KEYS, STANDARDS, ZONES};
-use crate::zone_vectors::{
-    ADDRESSES_1, ADDRESSES_2, ADDRESSES_3, DIRECTIVES_1, DIRECTIVES_2, DIRECTIVES_3, GENERIC_1,
-    GENERIC_2, GENERIC_3, KEYS_1, KEYS_2, KEYS_3, LINES_1, LINES_2, NAMES_1, NAMES_2, OWNERS_1,
-    OWNERS_2, TEXTS_1, TEXTS_2, TTLS_AND_CLASSES_1, TTLS_AND_CLASSES_2,
-};
-use dsec_name::Name;
-use dsec_number::Class;
+use crate::zone_vectors::{DATA, FRONTS, LINES, WRITTEN};
 use dsec_wire::Record;
-use dsec_zonefile::{Entry, InplaceError, Zonefile, ZonefileError};
+use dsec_zonefile::{Entry, Zonefile, ZonefileError};
 use std::alloc::{AllocError, Global};
 use std::process::Abort;
 use std::test::Fail;
 
-/// A name's octets in hex.
-fn shown_name(alloc: Global, name: &Name) -> Result<String, Fail> {
-    let mut octets = Vec::new(alloc);
-    name.compose(&mut octets)?;
-    Ok(hex::encode(alloc, &octets)?)
+/// Adds a record as it stands in a message without pointers.
+pub(crate) fn push_record(out: &mut Vec<u8>, record: &Record) -> Result<(), Fail> {
+    record.owner().compose(out)?;
+    out.extend_from_slice(&record.rtype().to_int().to_be_bytes())?;
+    out.extend_from_slice(&record.class().to_int().to_be_bytes())?;
+    out.extend_from_slice(&record.ttl().as_secs().to_be_bytes())?;
+    let octets = record.rdata().octets().as_slice();
+    out.extend_from_slice(&((octets.len() % 65536) as u16).to_be_bytes())?;
+    Ok(out.extend_from_slice(octets)?)
 }
 
-/// A record: owner, class, type, TTL and data.
-fn shown_record(alloc: Global, record: &Record) -> Result<String, Fail> {
-    let owner = shown_name(alloc, record.owner())?;
-    let class = record.class().to_int();
-    let rtype = record.rtype().to_int();
-    let ttl = record.ttl().as_secs();
-    let rdata = hex::encode(alloc, record.rdata().octets().as_slice())?;
-    Ok(format!(in alloc; "{owner} {class} {rtype} {ttl} [{rdata}]\n")?)
-}
-
-/// An entry.
-fn shown_entry(alloc: Global, entry: &Entry) -> Result<String, Fail> {
+/// Adds an entry; `$INCLUDE` as its path and its origin.
+fn push_entry(out: &mut Vec<u8>, entry: &Entry) -> Result<(), Fail> {
     match entry {
-        Entry::Record(record) => shown_record(alloc, record),
+        Entry::Record(record) => push_record(out, record),
         Entry::Include { path, origin } => {
-            let path = hex::encode(alloc, path.as_slice())?;
-            let origin = match origin {
-                Some(name) => shown_name(alloc, name)?,
-                None => String::from_str(alloc, "none")?,
-            };
-            Ok(format!(in alloc; "include [{path}] {origin}\n")?)
+            out.extend_from_slice(path.as_slice())?;
+            match origin {
+                Some(name) => Ok(name.compose(out)?),
+                None => Ok(()),
+            }
         }
     }
 }
 
-/// The entries that are left, at most so many, and how they end.
-fn shown(alloc: Global, zonefile: &mut Zonefile) -> Result<String, Fail> {
-    let mut text = String::new(alloc);
+/// The octets of the next entries, and the line that is refused, or 0.
+fn rest(alloc: Global, zonefile: &mut Zonefile) -> Result<(Vec<u8>, usize), Fail> {
+    let mut out = Vec::new(alloc);
     for _ in 0..100 {
         match zonefile.next_entry() {
-            Ok(Some(entry)) => text.push_str(&shown_entry(alloc, &entry)?)?,
-            Ok(None) => {
-                text.push_str("end")?;
-                return Ok(text);
-            }
-            Err(ZonefileError::Inplace(error)) => {
-                let line = error.line;
-                text.push_str(&format!(in alloc; "line {line}")?)?;
-                return Ok(text);
-            }
+            Ok(Some(entry)) => push_entry(&mut out, &entry)?,
+            Ok(None) => return Ok((out, 0)),
+            Err(ZonefileError::Inplace(error)) => return Ok((out, error.line)),
             Err(ZonefileError::NoMemory) => return Err(Fail::from(AllocError)),
         }
     }
-    Ok(text)
+    Err(Fail::new("more than a hundred entries"))
 }
 
-/// Asserts what each text says, under a default class, if one is given.
-fn assert_texts(
-    rt: &impl Abort,
+/// Whether the text says these entries behind what was read before, and this line is refused.
+fn says(
     alloc: Global,
-    class: Option<Class>,
-    rows: &[(&[u8], &str)],
-) -> Result<(), Fail> {
-    for index in 0..rows.len() {
-        let (text, want) = rows[index];
+    zonefile: &mut Zonefile,
+    text: &[u8],
+    entries: &str,
+    line: usize,
+) -> Result<bool, Fail> {
+    zonefile.extend_from_slice(text)?;
+    let (out, refused) = rest(alloc, zonefile)?;
+    Ok(refused == line && hex::encode(alloc, &out)?.as_str() == entries)
+}
+
+fn assert_texts(rt: &impl Abort, alloc: Global, rows: &[(&[u8], &str, usize)]) -> Result<(), Fail> {
+    for (text, entries, line) in rows {
         let mut zonefile = Zonefile::new(alloc);
-        if let Some(class) = class {
-            zonefile.set_default_class(class);
-        }
-        zonefile.extend_from_slice(text)?;
-        assert_eq!(rt; shown(alloc, &mut zonefile)?.as_str(), want, "row {index}");
+        assert!(rt;
+            says(alloc, &mut zonefile, text, entries, *line)?,
+            "{entries}"
+        );
     }
     Ok(())
 }
 
 #[test]
-fn reads_directives_1(rt: HostRuntime) -> Result<(), Fail> {
-    assert_texts(&rt, rt.alloc(), None, &DIRECTIVES_1)
+fn texts_line_by_line(rt: HostRuntime) -> Result<(), Fail> {
+    assert_texts(&rt, rt.alloc(), &FRONTS)?;
+    assert_texts(&rt, rt.alloc(), &DATA)?;
+    assert_texts(&rt, rt.alloc(), &LINES)?;
+    assert_texts(&rt, rt.alloc(), &WRITTEN)
 }
 
-#[test]
-fn reads_directives_2(rt: HostRuntime) -> Result<(), Fail> {
-    assert_texts(&rt, rt.alloc(), None, &DIRECTIVES_2)
-}
+/// What is added in turn to one text, the entries that it then says, and the line that is refused.
+const PIECES: [(&[u8], &str, usize); 5] = [
+    (b"", "", 0),
+    (
+        b"$ORIGIN e.\n$TTL 7\n\na IN TXT x\n; more\n\n",
+        "0161016500001000010000000700020178",
+        0,
+    ),
+    (b"", "", 0),
+    (
+        b"; of it\n TXT y\n TXT\nb TXT z\n",
+        "0161016500001000010000000700020179",
+        9,
+    ),
+    (b"c TXT z\n", "", 9),
+];
 
 #[test]
-fn reads_directives_3(rt: HostRuntime) -> Result<(), Fail> {
-    assert_texts(&rt, rt.alloc(), None, &DIRECTIVES_3)
-}
-
-#[test]
-fn reads_owners_1(rt: HostRuntime) -> Result<(), Fail> {
-    assert_texts(&rt, rt.alloc(), Some(Class::IN), &OWNERS_1)
-}
-
-#[test]
-fn reads_owners_2(rt: HostRuntime) -> Result<(), Fail> {
-    assert_texts(&rt, rt.alloc(), Some(Class::IN), &OWNERS_2)
-}
-
-#[test]
-fn reads_ttls_and_classes_1(rt: HostRuntime) -> Result<(), Fail> {
-    assert_texts(&rt, rt.alloc(), None, &TTLS_AND_CLASSES_1)
-}
-
-#[test]
-fn reads_ttls_and_classes_2(rt: HostRuntime) -> Result<(), Fail> {
-    assert_texts(&rt, rt.alloc(), None, &TTLS_AND_CLASSES_2)
-}
-
-#[test]
-fn reads_addresses_1(rt: HostRuntime) -> Result<(), Fail> {
-    assert_texts(&rt, rt.alloc(), Some(Class::IN), &ADDRESSES_1)
-}
-
-#[test]
-fn reads_addresses_2(rt: HostRuntime) -> Result<(), Fail> {
-    assert_texts(&rt, rt.alloc(), Some(Class::IN), &ADDRESSES_2)
-}
-
-#[test]
-fn reads_addresses_3(rt: HostRuntime) -> Result<(), Fail> {
-    assert_texts(&rt, rt.alloc(), Some(Class::IN), &ADDRESSES_3)
-}
-
-#[test]
-fn reads_names_1(rt: HostRuntime) -> Result<(), Fail> {
-    assert_texts(&rt, rt.alloc(), Some(Class::IN), &NAMES_1)
-}
-
-#[test]
-fn reads_names_2(rt: HostRuntime) -> Result<(), Fail> {
-    assert_texts(&rt, rt.alloc(), Some(Class::IN), &NAMES_2)
-}
-
-#[test]
-fn reads_texts_1(rt: HostRuntime) -> Result<(), Fail> {
-    assert_texts(&rt, rt.alloc(), Some(Class::IN), &TEXTS_1)
-}
-
-#[test]
-fn reads_texts_2(rt: HostRuntime) -> Result<(), Fail> {
-    assert_texts(&rt, rt.alloc(), Some(Class::IN), &TEXTS_2)
-}
-
-#[test]
-fn reads_keys_1(rt: HostRuntime) -> Result<(), Fail> {
-    assert_texts(&rt, rt.alloc(), Some(Class::IN), &KEYS_1)
-}
-
-#[test]
-fn reads_keys_2(rt: HostRuntime) -> Result<(), Fail> {
-    assert_texts(&rt, rt.alloc(), Some(Class::IN), &KEYS_2)
-}
-
-#[test]
-fn reads_keys_3(rt: HostRuntime) -> Result<(), Fail> {
-    assert_texts(&rt, rt.alloc(), Some(Class::IN), &KEYS_3)
-}
-
-#[test]
-fn reads_generic_1(rt: HostRuntime) -> Result<(), Fail> {
-    assert_texts(&rt, rt.alloc(), Some(Class::IN), &GENERIC_1)
-}
-
-#[test]
-fn reads_generic_2(rt: HostRuntime) -> Result<(), Fail> {
-    assert_texts(&rt, rt.alloc(), Some(Class::IN), &GENERIC_2)
-}
-
-#[test]
-fn reads_generic_3(rt: HostRuntime) -> Result<(), Fail> {
-    assert_texts(&rt, rt.alloc(), Some(Class::IN), &GENERIC_3)
-}
-
-#[test]
-fn reads_lines_1(rt: HostRuntime) -> Result<(), Fail> {
-    assert_texts(&rt, rt.alloc(), Some(Class::IN), &LINES_1)
-}
-
-#[test]
-fn reads_lines_2(rt: HostRuntime) -> Result<(), Fail> {
-    assert_texts(&rt, rt.alloc(), Some(Class::IN), &LINES_2)
-}
-
-#[test]
-fn reads_the_standards_examples(rt: HostRuntime) -> Result<(), Fail> {
-    assert_texts(&rt, rt.alloc(), Some(Class::IN), &STANDARDS)
-}
-
-#[test]
-fn reads_zones_of_tools(rt: HostRuntime) -> Result<(), Fail> {
-    assert_texts(&rt, rt.alloc(), Some(Class::IN), &ZONES)
-}
-
-#[test]
-fn reads_keys_of_tools(rt: HostRuntime) -> Result<(), Fail> {
-    assert_texts(&rt, rt.alloc(), Some(Class::IN), &KEYS)
-}
-
-#[test]
-fn reads_fronts_1(rt: HostRuntime) -> Result<(), Fail> {
-    assert_texts(&rt, rt.alloc(), Some(Class::IN), &FRONTS_1)
-}
-
-#[test]
-fn reads_fronts_2(rt: HostRuntime) -> Result<(), Fail> {
-    assert_texts(&rt, rt.alloc(), Some(Class::IN), &FRONTS_2)
-}
-
-#[test]
-fn goes_on_where_text_is_added(rt: HostRuntime) -> Result<(), Fail> {
-    let alloc = rt.alloc();
-    let mut zonefile = Zonefile::new(alloc);
-    assert_eq!(rt; shown(alloc, &mut zonefile)?.as_str(), "end");
-    zonefile.extend_from_slice(b"$ORIGIN e.\n$TTL 7\n\na IN TXT ")?;
-    zonefile.extend_from_slice(b"x\n; more\n\n")?;
-    assert_eq!(rt;
-        shown(alloc, &mut zonefile)?.as_str(),
-        "0161016500 1 16 7 [0178]\nend"
-    );
-    assert_eq!(rt; shown(alloc, &mut zonefile)?.as_str(), "end");
-    zonefile.extend_from_slice(b"; of it\n TXT y\n TXT\nb TXT z\n")?;
-    assert_eq!(rt;
-        shown(alloc, &mut zonefile)?.as_str(),
-        "0161016500 1 16 7 [0179]\nline 9"
-    );
+fn texts_piece_by_piece(rt: HostRuntime) -> Result<(), Fail> {
+    let mut zonefile = Zonefile::new(rt.alloc());
+    for (text, entries, line) in PIECES.iter() {
+        assert!(rt;
+            says(rt.alloc(), &mut zonefile, text, entries, *line)?,
+            "{line}"
+        );
+    }
     Ok(())
 }
 
-#[test]
-fn the_end_is_passed_once(rt: HostRuntime) -> Result<(), Fail> {
-    let alloc = rt.alloc();
+/// Whether the end is found after each of so many empty lines, and a line that is refused has its number behind them.
+fn passes(alloc: Global, lines: usize, bad: usize) -> Result<bool, Fail> {
     let mut zonefile = Zonefile::new(alloc);
-    for _ in 0..100_000 {
+    for _ in 0..lines {
         zonefile.extend_from_slice(b"\n")?;
-        assert!(rt; matches!(zonefile.next_entry(), Ok(None)));
+        if !matches!(zonefile.next_entry(), Ok(None)) {
+            return Ok(false);
+        }
     }
-    zonefile.extend_from_slice(b"a. IN FOO\n")?;
-    assert_eq!(rt; shown(alloc, &mut zonefile)?.as_str(), "line 100001");
-    Ok(())
+    says(alloc, &mut zonefile, b"a. IN FOO\n", "", bad)
 }
 
 #[test]
-fn a_refusal_is_answered_again(rt: HostRuntime) -> Result<(), Fail> {
-    let alloc = rt.alloc();
-    let mut zonefile = Zonefile::new(alloc);
-    zonefile.extend_from_slice(b"\na. IN FOO\nb. IN TXT x\n")?;
-    for _ in 0..3 {
-        assert_eq!(rt; shown(alloc, &mut zonefile)?.as_str(), "line 2");
-        zonefile.extend_from_slice(b"c. IN TXT y\n")?;
-    }
-    let error = InplaceError { line: 2 };
-    assert_eq!(rt; format!(in alloc; "{error}")?.as_str(), "InplaceError");
+fn lines_are_passed_once(rt: HostRuntime) -> Result<(), Fail> {
+    assert!(rt; passes(rt.alloc(), 100_000, 100_001)?);
     Ok(())
-}
-
-/// Asserts what is said of a string of so many pieces.
-fn assert_string(
-    rt: &impl Abort,
-    alloc: Global,
-    piece: &[u8],
-    count: usize,
-    readable: bool,
-) -> Result<(), Fail> {
-    let mut zonefile = Zonefile::new(alloc);
-    zonefile.extend_from_slice(b"a. IN TXT ")?;
-    for _ in 0..count {
-        zonefile.extend_from_slice(piece)?;
-    }
-    assert_eq!(rt; zonefile.next_entry().is_ok(), readable);
-    Ok(())
-}
-
-#[test]
-fn strings_have_at_most_255_octets(rt: HostRuntime) -> Result<(), Fail> {
-    let alloc = rt.alloc();
-    assert_string(&rt, alloc, b"x", 255, true)?;
-    assert_string(&rt, alloc, b"x", 256, false)?;
-    assert_string(&rt, alloc, b"\\120", 255, true)?;
-    assert_string(&rt, alloc, b"\\120", 256, false)?;
-    assert_string(&rt, alloc, b"xx ", 21_845, true)?;
-    assert_string(&rt, alloc, b"xx ", 21_846, false)
 }
