@@ -1,13 +1,20 @@
 //! A built message against octets that were written out by hand.
 
-use dsec_builder::{AdditionalBuilder, AnswerBuilder, MessageBuilder};
+use dsec_builder::MessageBuilder;
 use dsec_name::{Name, Octets};
 use dsec_number::{Class, Rtype, Ttl};
-use dsec_wire::{Data, Question, Record};
+use dsec_wire::{Data, Message, Question, Record};
 use std::alloc::Global;
 use std::test::Fail;
 
-/// A record of class IN, kept for an hour.
+/// Owners, types and data of class IN that are kept for an hour.
+const RECORDS: [(&str, Rtype, &[u8]); 4] = [
+    ("WwW.Example.", Rtype::MX, b"\0\x0a\x04mail\x07Example\0"),
+    ("b.", Rtype::TXT, b""),
+    ("example.", Rtype::NS, b"\x02ns\0"),
+    (".", Rtype::OPT, b""),
+];
+
 fn record(alloc: Global, owner: &str, rtype: Rtype, rdata: &[u8]) -> Result<Record, Fail> {
     let owner = Name::parse(alloc, owner)?;
     if !Data::is_readable(rtype, rdata) {
@@ -17,44 +24,60 @@ fn record(alloc: Global, owner: &str, rtype: Rtype, rdata: &[u8]) -> Result<Reco
     Ok(Record::new(owner, Class::IN, Ttl::from_secs(3600), rdata))
 }
 
-/// A question and two answers, the identifier set between these.
-fn answers(alloc: Global) -> Result<AnswerBuilder, Fail> {
-    let mut builder = MessageBuilder::new(alloc)?.question();
-    let name = Name::parse(alloc, "WwW.Example.")?;
-    builder.push(&Question::new(name, Rtype::MX, Class::IN))?;
-    let mut builder = builder.answer();
-    builder.push(&record(
-        alloc,
-        "WwW.Example.",
-        Rtype::MX,
-        b"\0\x0a\x04mail\x07Example\0",
-    )?)?;
-    builder.set_id(0x1234);
-    builder.push(&record(alloc, "b.", Rtype::TXT, b"")?)?;
-    Ok(builder)
+fn records(alloc: Global) -> Result<Vec<Record>, Fail> {
+    let mut all = Vec::new(alloc);
+    for (owner, rtype, rdata) in RECORDS.iter() {
+        all.push(record(alloc, owner, *rtype, rdata)?)?;
+    }
+    Ok(all)
 }
 
-/// The same with a record in each of the other sections, and the flags set last.
-fn whole(alloc: Global) -> Result<AdditionalBuilder, Fail> {
-    let mut builder = answers(alloc)?.authority();
-    builder.push(&record(alloc, "example.", Rtype::NS, b"\x02ns\0")?)?;
+/// The question and the records, two as answers and one in each of the other sections; the identifier is set among the answers, and
+/// the flags last. The message with whether all were added.
+fn built(
+    alloc: Global,
+    question: &Question,
+    records: (&Record, &Record, &Record, &Record),
+) -> Result<(Message, bool), Fail> {
+    let mut builder = MessageBuilder::new(alloc)?.question();
+    let asked = builder.push(question).is_ok();
+    let mut builder = builder.answer();
+    let first = builder.push(records.0).is_ok();
+    builder.set_id(0x1234);
+    let second = builder.push(records.1).is_ok();
+    let mut builder = builder.authority();
+    let third = builder.push(records.2).is_ok();
     let mut builder = builder.additional();
-    builder.push(&record(alloc, ".", Rtype::OPT, b"")?)?;
+    let fourth = builder.push(records.3).is_ok();
     builder.set_flags(0x8400);
-    Ok(builder)
+    let all = asked && first && second && third && fourth;
+    Ok((builder.finish(), all))
 }
 
 /// RFC 1035 4.1, item for item.
-const BY_HAND: &str = "123484000001000200010001\
-    03577757074578616d706c6500000f0001\
-    03577757074578616d706c6500000f000100000e100010000a046d61696c074578616d706c6500\
-    0162000010000100000e100000\
-    076578616d706c65000002000100000e100004026e7300\
-    000029000100000e100000";
+const BY_HAND: &[u8] = b"\x12\x34\x84\0\0\x01\0\x02\0\x01\0\x01\
+    \x03WwW\x07Example\0\0\x0f\0\x01\
+    \x03WwW\x07Example\0\0\x0f\0\x01\0\0\x0e\x10\0\x10\0\x0a\x04mail\x07Example\0\
+    \x01b\0\0\x10\0\x01\0\0\x0e\x10\0\0\
+    \x07example\0\0\x02\0\x01\0\0\x0e\x10\0\x04\x02ns\0\
+    \0\0\x29\0\x01\0\0\x0e\x10\0\0";
+
+/// Whether the message of these records is that one.
+fn is_by_hand(alloc: Global, records: &[Record]) -> Result<bool, Fail> {
+    let name = Name::parse(alloc, "WwW.Example.")?;
+    let question = Question::new(name, Rtype::MX, Class::IN);
+    match records {
+        [mail, text, server, opt] => {
+            let (message, all) = built(alloc, &question, (mail, text, server, opt))?;
+            Ok(all && message.as_slice() == BY_HAND)
+        }
+        _ => Ok(false),
+    }
+}
 
 #[test]
 fn built_as_by_hand(rt: HostRuntime) -> Result<(), Fail> {
-    let built = whole(rt.alloc())?.finish();
-    assert!(rt; hex::encode(rt.alloc(), built.as_slice())?.as_str() == BY_HAND);
+    let records = records(rt.alloc())?;
+    assert!(rt; is_by_hand(rt.alloc(), &records)?);
     Ok(())
 }

@@ -43,21 +43,21 @@ const HASH: &[u8] = &[
     0x84, 0x25, 0xe2, 0x7b,
 ];
 
-/// Data, and how many views find something in them.
-const VECTORS: [(Rtype, &str, usize); 13] = [
-    (Rtype::SOA, SOA, 1),
-    (Rtype::CNAME, NAME, 1),
-    (Rtype::DNAME, NAME, 1),
-    (Rtype::NS, NAME, 0),
-    (Rtype::DS, DS, 1),
-    (Rtype::DNSKEY, KEY, 1),
-    (Rtype::CDS, DS, 0),
-    (Rtype::RRSIG, SIGNATURE, 1),
-    (Rtype::NSEC, NSEC, 1),
-    (Rtype::NSEC3, NSEC3, 1),
-    (Rtype::NSEC3PARAM, NSEC3PARAM, 1),
-    (Rtype::OPT, OPTIONS, 1),
-    (Rtype::A, OPTIONS, 0),
+/// Data, and whether a view finds something in them.
+const VECTORS: [(Rtype, &str, bool); 13] = [
+    (Rtype::SOA, SOA, true),
+    (Rtype::CNAME, NAME, true),
+    (Rtype::DNAME, NAME, true),
+    (Rtype::NS, NAME, false),
+    (Rtype::DS, DS, true),
+    (Rtype::DNSKEY, KEY, true),
+    (Rtype::CDS, DS, false),
+    (Rtype::RRSIG, SIGNATURE, true),
+    (Rtype::NSEC, NSEC, true),
+    (Rtype::NSEC3, NSEC3, true),
+    (Rtype::NSEC3PARAM, NSEC3PARAM, true),
+    (Rtype::OPT, OPTIONS, true),
+    (Rtype::A, OPTIONS, false),
 ];
 
 /// Whether the name is this one.
@@ -66,23 +66,6 @@ fn is(alloc: Global, name: NameRef<'_>, text: &str) -> Result<bool, Fail> {
         Ok(want) => Ok(name.is(&want)),
         Err(_) => Ok(false),
     }
-}
-
-/// How many views find something in the data.
-fn views(rdata: &Data) -> usize {
-    let found = [
-        rdata.soa().is_some(),
-        rdata.cname().is_some(),
-        rdata.dname().is_some(),
-        rdata.ds().is_some(),
-        rdata.dnskey().is_some(),
-        rdata.rrsig().is_some(),
-        rdata.nsec().is_some(),
-        rdata.nsec3().is_some(),
-        rdata.nsec3param().is_some(),
-        rdata.opt().is_some(),
-    ];
-    found.iter().filter(|is_found| **is_found).count()
 }
 
 fn says_soa(alloc: Global, soa: &Soa<'_>) -> Result<bool, Fail> {
@@ -171,20 +154,19 @@ fn says_octets(rdata: &Data) -> bool {
     }
 }
 
-/// Whether so many views find something in data of the type, and it is what the vector says.
-fn is_viewed(alloc: Global, rtype: Rtype, text: &str, count: usize) -> Result<bool, Fail> {
+/// Whether the view of data of the type says what its vector does, or there is none where none is wanted.
+fn is_viewed(alloc: Global, rtype: Rtype, text: &str, is_found: bool) -> Result<bool, Fail> {
     let octets = hex::decode(alloc, text)?;
     if !Data::is_readable(rtype, &octets) {
         return Ok(false);
     }
-    let rdata = Data::new(rtype, Octets::new(octets));
-    Ok(views(&rdata) == count && says(alloc, &rdata)? == (count == 1))
+    Ok(says(alloc, &Data::new(rtype, Octets::new(octets)))? == is_found)
 }
 
 #[test]
 fn each_view(rt: HostRuntime) -> Result<(), Fail> {
-    for (rtype, text, count) in VECTORS.iter() {
-        assert!(rt; is_viewed(rt.alloc(), *rtype, text, *count)?, "{text}");
+    for (rtype, text, is_found) in VECTORS.iter() {
+        assert!(rt; is_viewed(rt.alloc(), *rtype, text, *is_found)?, "{text}");
     }
     Ok(())
 }

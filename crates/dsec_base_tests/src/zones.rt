@@ -7,15 +7,20 @@ use std::alloc::{AllocError, Global};
 use std::process::Abort;
 use std::test::Fail;
 
+/// Type, class, TTL and size of data as they stand in a message.
+fn head_of(record: &Record) -> [u8; 10] {
+    let [a, b] = record.rtype().to_int().to_be_bytes();
+    let [c, d] = record.class().to_int().to_be_bytes();
+    let [e, f, g, h] = record.ttl().as_secs().to_be_bytes();
+    let [i, j] = ((record.rdata().octets().len() % 65536) as u16).to_be_bytes();
+    [a, b, c, d, e, f, g, h, i, j]
+}
+
 /// Adds a record as it stands in a message without pointers.
 pub(crate) fn push_record(out: &mut Vec<u8>, record: &Record) -> Result<(), Fail> {
     record.owner().compose(out)?;
-    out.extend_from_slice(&record.rtype().to_int().to_be_bytes())?;
-    out.extend_from_slice(&record.class().to_int().to_be_bytes())?;
-    out.extend_from_slice(&record.ttl().as_secs().to_be_bytes())?;
-    let octets = record.rdata().octets().as_slice();
-    out.extend_from_slice(&((octets.len() % 65536) as u16).to_be_bytes())?;
-    Ok(out.extend_from_slice(octets)?)
+    out.extend_from_slice(&head_of(record))?;
+    Ok(out.extend_from_slice(record.rdata().octets().as_slice())?)
 }
 
 /// Adds an entry; `$INCLUDE` as its path and its origin.
