@@ -1,136 +1,107 @@
 //! Texts of keys, as another reader of BIND's text reads them.
 
-use dsec_name::{Name, Octets};
-use dsec_number::{Class, Rtype, Ttl};
+use crate::lines::record;
+use dsec_number::Rtype;
 use dsec_records::*;
-use dsec_wire::{Data, Record};
+use dsec_wire::Record;
 use std::alloc::Global;
-use std::test::Fail;
+use std::fmt::Display;
+use std::process::Abort;
 
-// Whether the text is read as a key with this TTL, and the key is displayed so.
-fn is_read(alloc: Global, text: &str, ttl: u32, shown: &str) -> Result<bool, Fail> {
-    let Ok(record) = parse_from_bind(alloc, text)? else {
-        return Ok(false);
-    };
-    let written = format!(in alloc; "{}", display_as_bind(&record))?;
-    Ok(record.ttl().as_secs() == ttl && written.as_str() == shown)
+/// Texts, the TTLs of their keys, and these as they are displayed. Comments, blank lines and split base64; a class in digits
+/// and the ends of numbers; the root, and a CR in a name.
+#[rattlefmt::skip]
+const READ: [(&str, u32, &str); 5] = [
+    ("example. 3600 IN DNSKEY 257 3 13 AQI=", 3600, "example. IN DNSKEY 257 3 13 AQI=\n"),
+    ("; key\n\n \t\nExample 007 class3 type48 00257 3 13 A Q I= ; x\n;\n", 7, "Example. IN DNSKEY 257 3 13 AQI=\n"),
+    ("a\\.b\t4294967295\tCH dnskey 65535 255 255 AQID;c", 4294967295, "a\\046b. IN DNSKEY 65535 255 255 AQID\n"),
+    (". IN DNSKEY 0 0 0 AA==", 0, ". IN DNSKEY 0 0 0 AA==\n"),
+    ("e\rx. IN DNSKEY 1 2 3 AA==", 0, "e\\013x. IN DNSKEY 1 2 3 AA==\n"),
+];
+
+/// Texts that aren't one key's. No record, two, one that goes over a line's end or is cut by its comment, another type, a
+/// missing class, a TTL in the wrong place, a bad name; numbers past their ends or with a sign; no base64, and base64 without
+/// padding, with bits to spare, or with a CR.
+const REFUSED: [&str; 20] = [
+    "",
+    "\n;only\n \t",
+    "example. A 1",
+    "a. IN DNSKEY 257 3 13 AQI=\nb. IN DNSKEY 257 3 13 AQI=",
+    "example. IN\nDNSKEY 257 3 13 AQI=",
+    "exa\\;mple. IN DNSKEY 257 3 13 AQI=",
+    "example. IN DS 257 3 13 AQI=",
+    "example. 3600 DNSKEY 257 3 13 AQI=",
+    "example. IN 3600 DNSKEY 257 3 13 AQI=",
+    "a..b IN DNSKEY 257 3 13 AQI=",
+    "example. 4294967296 IN DNSKEY 257 3 13 AQI=",
+    "example. IN DNSKEY 65536 3 13 AQI=",
+    "example. IN DNSKEY 257 256 13 AQI=",
+    "example. IN DNSKEY 257 3 256 AQI=",
+    "example. IN DNSKEY +257 3 13 AQI=",
+    "example. IN DNSKEY 257 3 13",
+    "example. IN DNSKEY 257 3 13 ",
+    "example. IN DNSKEY 257 3 13 AQI",
+    "example. IN DNSKEY 257 3 13 AQJ=",
+    "example. IN DNSKEY 257 3 13 AQI=\r",
+];
+
+fn is_text<T: Display>(alloc: Global, shown: &T, want: &str) -> bool {
+    match format!(in alloc; "{shown}") {
+        Ok(text) => text.as_str() == want,
+        Err(_) => false,
+    }
 }
 
-fn is_refused(alloc: Global, text: &str) -> Result<bool, Fail> {
-    Ok(parse_from_bind(alloc, text)?.is_err())
+/// Whether a key's record is displayed so.
+fn is_displayed(alloc: Global, key: &Record, want: &str) -> bool {
+    key.rtype() == Rtype::DNSKEY && is_text(alloc, &display_as_bind(key), want)
 }
 
-// Comments, blank lines and split base64; a class in digits and the ends of numbers; the root, and a CR in a name.
-#[test]
-fn keys(rt: HostRuntime) -> Result<(), Fail> {
-    let rows: [(&str, u32, &str); 5] = [
-        (
-            "example. 3600 IN DNSKEY 257 3 13 AQI=",
-            3600,
-            "example. IN DNSKEY 257 3 13 AQI=\n",
-        ),
-        (
-            "; key\n\n \t\nExample 007 class3 type48 00257 3 13 A Q I= ; x\n;\n",
-            7,
-            "Example. IN DNSKEY 257 3 13 AQI=\n",
-        ),
-        (
-            "a\\.b\t4294967295\tCH dnskey 65535 255 255 AQID;c",
-            4294967295,
-            "a\\046b. IN DNSKEY 65535 255 255 AQID\n",
-        ),
-        (". IN DNSKEY 0 0 0 AA==", 0, ". IN DNSKEY 0 0 0 AA==\n"),
-        (
-            "e\rx. IN DNSKEY 1 2 3 AA==",
-            0,
-            "e\\013x. IN DNSKEY 1 2 3 AA==\n",
-        ),
-    ];
+fn is_read(alloc: Global, text: &str, ttl: u32, shown: &str) -> bool {
+    match parse_from_bind(alloc, text) {
+        Ok(Ok(key)) => key.ttl().as_secs() == ttl && is_displayed(alloc, &key, shown),
+        _ => false,
+    }
+}
+
+fn assert_read(rt: &impl Abort, alloc: Global, rows: &[(&str, u32, &str)]) {
     for (text, ttl, shown) in rows {
-        assert!(rt; is_read(rt.alloc(), text, ttl, shown)?, "{text}");
+        assert!(rt; is_read(alloc, text, *ttl, shown), "{text}");
     }
-    Ok(())
 }
 
-fn are_refused(alloc: Global, texts: &[&str]) -> Result<bool, Fail> {
+#[test]
+fn keys(rt: HostRuntime) {
+    assert_read(&rt, rt.alloc(), &READ);
+}
+
+fn is_refused(alloc: Global, text: &str) -> bool {
+    match parse_from_bind(alloc, text) {
+        Ok(Err(error)) => is_text(alloc, &error, "misformatted DNSKEY record"),
+        _ => false,
+    }
+}
+
+fn assert_refused(rt: &impl Abort, alloc: Global, texts: &[&str]) {
     for text in texts {
-        if !is_refused(alloc, text)? {
-            return Ok(false);
+        assert!(rt; is_refused(alloc, text), "{text}");
+    }
+}
+
+#[test]
+fn other_texts(rt: HostRuntime) {
+    assert_refused(&rt, rt.alloc(), &REFUSED);
+}
+
+/// A key without an octet is displayed without base64, which is refused.
+#[test]
+fn key_without_octets(rt: HostRuntime) {
+    let shown = "example. IN DNSKEY 257 3 13 \n";
+    assert!(rt; is_refused(rt.alloc(), shown));
+    assert!(rt;
+        match record(rt.alloc(), "example. 7 IN DNSKEY \\# 4 0101030d") {
+            Some(key) => is_displayed(rt.alloc(), &key, shown),
+            None => false,
         }
-    }
-    Ok(true)
-}
-
-// No record, two, one that goes over a line's end or is cut by its comment, another type, a missing class, a TTL in the
-// wrong place, a bad name.
-#[test]
-fn other_lines(rt: HostRuntime) -> Result<(), Fail> {
-    let texts = [
-        "",
-        "\n;only\n \t",
-        "example. A 1",
-        "a. IN DNSKEY 257 3 13 AQI=\nb. IN DNSKEY 257 3 13 AQI=",
-        "example. IN\nDNSKEY 257 3 13 AQI=",
-        "exa\\;mple. IN DNSKEY 257 3 13 AQI=",
-        "example. IN DS 257 3 13 AQI=",
-        "example. 3600 DNSKEY 257 3 13 AQI=",
-        "example. IN 3600 DNSKEY 257 3 13 AQI=",
-        "a..b IN DNSKEY 257 3 13 AQI=",
-    ];
-    assert!(rt; are_refused(rt.alloc(), &texts)?);
-    Ok(())
-}
-
-// Numbers past their ends or with a sign; no base64, and base64 without padding, with bits to spare, or with a CR.
-#[test]
-fn other_keys(rt: HostRuntime) -> Result<(), Fail> {
-    let texts = [
-        "example. 4294967296 IN DNSKEY 257 3 13 AQI=",
-        "example. IN DNSKEY 65536 3 13 AQI=",
-        "example. IN DNSKEY 257 256 13 AQI=",
-        "example. IN DNSKEY 257 3 256 AQI=",
-        "example. IN DNSKEY +257 3 13 AQI=",
-        "example. IN DNSKEY 257 3 13",
-        "example. IN DNSKEY 257 3 13 AQI",
-        "example. IN DNSKEY 257 3 13 AQJ=",
-        "example. IN DNSKEY 257 3 13 AQI=\r",
-    ];
-    assert!(rt; are_refused(rt.alloc(), &texts)?);
-    Ok(())
-}
-
-// A key without an octet is displayed without base64, which is refused.
-#[test]
-fn key_without_octets(rt: HostRuntime) -> Result<(), Fail> {
-    let alloc = rt.alloc();
-    let octets = Octets::new(Vec::from_slice(alloc, &[1, 1, 3, 13])?);
-    if !Data::is_readable(Rtype::DNSKEY, octets.as_slice()) {
-        return Err(Fail::new("unreadable"));
-    }
-    let data = Data::new(Rtype::DNSKEY, octets);
-    let record = Record::new(
-        Name::parse(alloc, "example.")?,
-        Class::IN,
-        Ttl::from_secs(7),
-        data,
     );
-    let text = format!(in alloc; "{}", display_as_bind(&record))?;
-    assert!(rt; text.as_str() == "example. IN DNSKEY 257 3 13 \n");
-    assert!(rt; is_refused(alloc, text.as_str())?);
-    Ok(())
-}
-
-#[test]
-fn tag_and_refusal(rt: HostRuntime) -> Result<(), Fail> {
-    let alloc = rt.alloc();
-    let Ok(record) = parse_from_bind(alloc, "example. 3600 IN DNSKEY 257 3 13 AQI=")? else {
-        return Err(Fail::new("refused"));
-    };
-    let Some(key) = record.rdata().dnskey() else {
-        return Err(Fail::new("no key"));
-    };
-    assert_eq!(rt; key.key_tag(), 1296);
-    let text = format!(in alloc; "{}", ParseDnskeyTextError)?;
-    assert_eq!(rt; text.as_str(), "misformatted DNSKEY record");
-    Ok(())
 }

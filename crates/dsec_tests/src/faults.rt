@@ -1,12 +1,10 @@
 //! Reads and writes that fail, at each call.
 
-use crate::runs::{joined, owned};
+use crate::runs::owned;
 use crate::vectors::{ANCHOR, FOUR, GOOD, KEYS, UNSIGNED};
 use dsec_answer::run;
 use dsec_outside::{FailingSink, FailingSource, OctetsSink, OctetsSource, PIECE};
 use std::alloc::Global;
-use std::process::Abort;
-use std::test::Fail;
 
 /// A script of three messages, of which one is secure.
 const SCRIPT: [&str; 11] = [
@@ -23,30 +21,19 @@ const SCRIPT: [&str; 11] = [
     "\n",
 ];
 
-/// All that is written for a source.
-fn whole(alloc: Global, words: &[String], source: &[u8]) -> (Vec<u8>, u8) {
-    let mut sink = OctetsSink::new(alloc);
-    let status = run(alloc, words, &mut OctetsSource { rest: source }, &mut sink);
-    (sink.octets, status)
+/// The parts as one text.
+fn joined(alloc: Global, parts: &[&str]) -> Option<Vec<u8>> {
+    let mut text = Vec::new(alloc);
+    for part in parts {
+        if text.extend_from_slice(part.as_bytes()).is_err() {
+            return None;
+        }
+    }
+    Some(text)
 }
 
-/// The script and a comment behind it, as long as two pieces and an octet.
-fn padded(alloc: Global) -> Result<Vec<u8>, Fail> {
-    let mut source = joined(alloc, &SCRIPT)?.into_bytes();
-    source.push(b'#')?;
-    source.resize(2 * PIECE + 1, b' ')?;
-    Ok(source)
-}
-
-/// Whether nothing is written where the read of this number fails, and all where none does.
-fn reads_so(
-    alloc: Global,
-    words: &[String],
-    source: &[u8],
-    want: &[u8],
-    failing: u64,
-    status: u8,
-) -> bool {
+/// What is written where the read of this number fails, the status, and how many reads have failed.
+fn read(alloc: Global, words: &[String], source: &[u8], failing: u64) -> (Vec<u8>, u8, u64) {
     let failing = [failing];
     let mut sink = OctetsSink::new(alloc);
     let mut source = FailingSource {
@@ -55,39 +42,38 @@ fn reads_so(
         calls: 0,
         faults: 0,
     };
-    let found = run(alloc, words, &mut source, &mut sink);
-    let is_written = if status == 4 {
-        source.faults == 1 && sink.octets.is_empty()
-    } else {
-        sink.octets.as_slice() == want
-    };
-    found == status && is_written
+    let status = run(alloc, words, &mut source, &mut sink);
+    (sink.octets, status, source.faults)
 }
 
-fn assert_reads(
-    rt: &impl Abort,
-    alloc: Global,
-    words: &[String],
-    source: &[u8],
-    rows: &[(u64, u8)],
-) {
-    let (want, done) = whole(alloc, words, source);
-    assert!(rt; done == 0);
-    for (failing, status) in rows {
-        assert!(rt; reads_so(alloc, words, source, &want, *failing, *status));
+/// Whether nothing is written where one of the first four reads fails, and something where none does.
+fn are_reads(alloc: Global, words: &[String], source: &[u8]) -> bool {
+    for number in 0..4 {
+        let (octets, status, faults) = read(alloc, words, source, number);
+        if status != 4 || faults != 1 || !octets.is_empty() {
+            return false;
+        }
     }
+    let (octets, status, faults) = read(alloc, words, source, 4);
+    status == 0 && faults == 0 && !octets.is_empty()
+}
+
+/// Whether this is so of the script and a comment behind it, as long as two pieces and an octet.
+fn reads_fail(alloc: Global) -> Option<bool> {
+    let words = owned(alloc, &["validate"])?;
+    let mut source = joined(alloc, &SCRIPT)?;
+    if source.push(b'#').is_err() || source.resize(2 * PIECE + 1, b' ').is_err() {
+        return None;
+    }
+    Some(are_reads(alloc, &words, &source))
 }
 
 #[test]
-fn a_read_fails(rt: HostRuntime) -> Result<(), Fail> {
-    let words = owned(rt.alloc(), &["validate"])?;
-    let source = padded(rt.alloc())?;
-    let rows = [(0, 4), (1, 4), (2, 4), (3, 4), (4, 0)];
-    assert_reads(&rt, rt.alloc(), &words, &source, &rows);
-    Ok(())
+fn a_read_fails(rt: HostRuntime) {
+    assert!(rt; reads_fail(rt.alloc()) == Some(true));
 }
 
-/// What was written where the write of this number fails.
+/// What is written in such pieces where the writes of these numbers fail, and the status.
 fn written<'a>(
     alloc: Global,
     words: &[String],
@@ -114,65 +100,56 @@ fn is_front(sink: &FailingSink<'_>, want: &[u8], failing: u64, longest: usize) -
         && (failing == 0 || longest < sink.octets.len())
 }
 
-/// Runs with each write failing in turn until none does, and gives how many did.
+/// How many writes fail, each in turn, until none does and the status is this; none where one leaves what it is not to.
 fn failing_writes(
-    rt: &impl Abort,
     alloc: Global,
     words: &[String],
     source: &[u8],
     piece: usize,
-) -> Result<u64, Fail> {
-    let (want, done) = whole(alloc, words, source);
+    done: u8,
+) -> Option<u64> {
+    let (whole, _) = written(alloc, words, source, piece, &[]);
     let mut longest = 0;
     for number in 0..4096u64 {
         let failing = [number];
         let (sink, status) = written(alloc, words, source, piece, &failing);
-        if status == done {
-            assert!(rt; sink.octets == want);
-            return Ok(number);
+        if status == done && sink.octets == whole.octets {
+            return Some(number);
         }
-        assert!(rt;
-            status == 5 && is_front(&sink, &want, number, longest),
-            "call {number}"
-        );
+        if status != 5 || !is_front(&sink, &whole.octets, number, longest) {
+            return None;
+        }
         longest = sink.octets.len();
     }
-    Err(Fail::from("writes fail without end"))
+    None
+}
+
+/// Whether writes of outcomes, of a refusal and of the usage fail so.
+fn writes_fail(alloc: Global) -> Option<bool> {
+    let words = owned(alloc, &["validate"])?;
+    let script = joined(alloc, &SCRIPT)?;
+    let outcomes = failing_writes(alloc, &words, &script, 40, 0)?;
+    let refusal = failing_writes(alloc, &words, b"now x\n", 1, 3)?;
+    let usage = failing_writes(alloc, &[], &script, 4096, 2)?;
+    Some(10 < outcomes && refusal == 12 && usage == 1)
 }
 
 #[test]
-fn a_write_fails(rt: HostRuntime) -> Result<(), Fail> {
-    let words = owned(rt.alloc(), &["validate"])?;
-    let script = joined(rt.alloc(), &SCRIPT)?;
-    let calls = failing_writes(&rt, rt.alloc(), &words, script.as_bytes(), 40)?;
-    assert!(rt; 10 < calls);
-    Ok(())
-}
-
-#[test]
-fn a_write_of_a_refusal_fails(rt: HostRuntime) -> Result<(), Fail> {
-    let words = owned(rt.alloc(), &["validate"])?;
-    assert!(rt; failing_writes(&rt, rt.alloc(), &words, b"now x\n", 1)? == 12);
-    Ok(())
-}
-
-#[test]
-fn a_write_of_the_usage_fails(rt: HostRuntime) -> Result<(), Fail> {
-    let script = joined(rt.alloc(), &SCRIPT)?;
-    assert!(rt; failing_writes(&rt, rt.alloc(), &[], script.as_bytes(), 4096)? == 1);
-    Ok(())
+fn a_write_fails(rt: HostRuntime) {
+    assert!(rt; writes_fail(rt.alloc()) == Some(true));
 }
 
 /// Whether nothing is written to a sink that takes nothing, and this is the status.
-fn writes_nothing(alloc: Global, words: &[String], source: &str, status: u8) -> bool {
-    let (sink, found) = written(alloc, words, source.as_bytes(), 0, &[]);
+fn writes_nothing(alloc: Global, source: &str, status: u8) -> bool {
+    let Some(words) = owned(alloc, &["validate"]) else {
+        return false;
+    };
+    let (sink, found) = written(alloc, &words, source.as_bytes(), 0, &[]);
     found == status && sink.octets.is_empty()
 }
 
 #[test]
-fn a_sink_takes_nothing(rt: HostRuntime) -> Result<(), Fail> {
-    let words = owned(rt.alloc(), &["validate"])?;
-    assert!(rt; writes_nothing(rt.alloc(), &words, "now 1\nmessage\n", 5));
-    assert!(rt; writes_nothing(rt.alloc(), &words, "now 1\n", 0));
-    Ok(())
+fn a_sink_takes_nothing(rt: HostRuntime) {
+    assert!(rt; writes_nothing(rt.alloc(), "now 1\nmessage\n", 5));
+    assert!(rt; writes_nothing(rt.alloc(), "now 1\n", 0));
 }

@@ -2,11 +2,7 @@
 #![tactic(auto)]
 
 #[cfg(test)]
-mod answers;
-#[cfg(test)]
 mod bind;
-#[cfg(test)]
-mod cached;
 #[cfg(test)]
 mod checks;
 #[cfg(test)]
@@ -18,18 +14,14 @@ mod judged;
 #[cfg(test)]
 mod keys;
 #[cfg(test)]
+mod lines;
+#[cfg(test)]
 mod links;
 #[cfg(test)]
 mod memos;
 #[cfg(test)]
-mod outcomes;
-#[cfg(test)]
 mod runs;
 #[cfg(test)]
 mod signatures;
-#[cfg(test)]
-mod signing;
-#[cfg(test)]
-mod trying;
 #[cfg(test)]
 mod vectors;

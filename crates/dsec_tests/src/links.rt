@@ -1,120 +1,105 @@
-//! The first and the last link of a chain, and what a link keeps.
+//! The first and the last link of a chain, and their copies.
 
-use crate::signatures::{
-    ADDRESS, ADDRESS_SIGNATURE, KEY, KEY_SIGNATURE, data_of, record_of, rrsig_data, set_of,
-};
+use crate::lines::{ADDRESS, GOOD, KEY, KEY_SIGNATURE, name, record};
 use dsec_crypto::TableVerifier;
-use dsec_link::{
-    Link, LinkKind, Links, admit_anchor_ds, admit_anchor_key, admit_set, supported_algorithm,
-    supported_digest,
-};
-use dsec_name::Name;
-use dsec_number::{DigestAlgorithm, Rtype, SecurityAlgorithm, Timestamp};
+use dsec_link::{Link, LinkKind, Links, RecordSet, admit_anchor_ds, admit_anchor_key, admit_set};
+use dsec_number::{Rtype, Timestamp};
+use dsec_wire::{Data, Record};
 use std::alloc::Global;
-use std::test::Fail;
 
-fn first_link(alloc: Global, anchor: &[u8]) -> Result<Option<Link>, Fail> {
-    let anchor = record_of(alloc, "example.", Rtype::DNSKEY, anchor)?;
-    let keys = set_of(alloc, "Example.", Rtype::DNSKEY, KEY)?;
-    let rrsig = rrsig_data(alloc, Rtype::DNSKEY, 1, KEY_SIGNATURE)?;
-    let t = Timestamp::from_int(500);
-    Ok(admit_anchor_key::<TableVerifier>(alloc, &anchor, &keys, &rrsig, t)?)
-}
+/// The key's DS record under SHA-256.
+const DS: &str =
+    "example. 60 IN DS 1296 13 2 2C6403BD20956140D202EC366555A5A934D05A03233D69AB380A7EEA4EEE3525";
 
-fn last_link(alloc: Global, key: &[u8]) -> Result<Option<Link>, Fail> {
-    let zone = Name::parse(alloc, "example.")?;
-    let set = set_of(alloc, "www.example.", Rtype::A, ADDRESS)?;
-    let key = data_of(alloc, Rtype::DNSKEY, key)?;
-    let rrsig = rrsig_data(alloc, Rtype::A, 2, ADDRESS_SIGNATURE)?;
-    let t = Timestamp::from_int(500);
-    Ok(admit_set::<TableVerifier>(alloc, &zone, &key, &set, &rrsig, t)?)
-}
-
-// The DS data of the key under SHA-256.
-const DS: &[u8] = b"\x05\x10\x0d\x02\x2c\x64\x03\xbd\x20\x95\x61\x40\xd2\x02\xec\x36\
-    \x65\x55\xa5\xa9\x34\xd0\x5a\x03\x23\x3d\x69\xab\x38\x0a\x7e\xea\x4e\xee\x35\x25";
-
-fn first_ds_link(alloc: Global, anchor: &[u8]) -> Result<Option<Link>, Fail> {
-    let anchor = record_of(alloc, "example.", Rtype::DS, anchor)?;
-    let keys = set_of(alloc, "Example.", Rtype::DNSKEY, KEY)?;
-    let key = data_of(alloc, Rtype::DNSKEY, KEY)?;
-    let rrsig = rrsig_data(alloc, Rtype::DNSKEY, 1, KEY_SIGNATURE)?;
-    let t = Timestamp::from_int(500);
-    Ok(admit_anchor_ds::<TableVerifier>(alloc, &anchor, &keys, &key, &rrsig, t)?)
-}
-
-// Whether it is the key's link from its DS record.
-fn is_first_by_ds(link: &Link) -> bool {
-    link.kind() == LinkKind::AnchorDs && link.signing_key().as_slice() == KEY
-}
-
-#[test]
-fn ds_links(rt: HostRuntime) -> Result<(), Fail> {
-    let Some(link) = first_ds_link(rt.alloc(), DS)? else {
-        return Err(Fail::new("no first link"));
-    };
-    assert!(rt; is_first_by_ds(&link));
-    Ok(())
-}
-
-#[test]
-fn no_ds_link(rt: HostRuntime) -> Result<(), Fail> {
-    assert!(rt; first_ds_link(rt.alloc(), b"\x05\x10\x0d\x02\x2c")?.is_none());
-    Ok(())
-}
-
-fn links_of(alloc: Global, link: Link) -> Result<Links, Fail> {
-    let mut items = Vec::new(alloc);
-    items.push(link)?;
-    Ok(Links::new(items).clone()?)
-}
-
-/// The key tag of a link's signature.
-fn tag_in(link: &Link) -> u16 {
-    link.rrsig().key_tag
-}
-
-// Whether it is the key's link from its own record.
-fn is_first(link: &Link) -> bool {
-    link.kind() == LinkKind::AnchorKey
-        && link.via() == Some(link.signing_key())
-        && link.records().has_data(link.signing_key())
-        && tag_in(link) == 1296
-        && link
-            .rrsig_data()
-            .octets()
-            .as_slice()
-            .ends_with(KEY_SIGNATURE)
-}
-
-#[test]
-fn links(rt: HostRuntime) -> Result<(), Fail> {
-    let Some(link) = first_link(rt.alloc(), KEY)? else {
-        return Err(Fail::new("no first link"));
-    };
-    assert!(rt; is_first(&link));
-    assert!(rt; links_of(rt.alloc(), link)?.len() == 1);
-    assert!(rt; last_link(rt.alloc(), KEY)?.is_some());
-    Ok(())
-}
-
-#[test]
-fn no_links(rt: HostRuntime) -> Result<(), Fail> {
-    let stranger: &[u8] = b"\x01\x01\x03\x0d\x01\x03";
-    assert!(rt; first_link(rt.alloc(), stranger)?.is_none());
-    assert!(rt; last_link(rt.alloc(), stranger)?.is_none());
-    Ok(())
-}
-
-// Whether the algorithm and the digest of this number are supported where these say so.
-fn are_supported(number: u8) -> bool {
-    supported_algorithm(SecurityAlgorithm::from_int(number)) == [5, 7, 8, 10, 13].contains(&number)
-        && supported_digest(DigestAlgorithm::from_int(number)) == [1, 2, 4].contains(&number)
-}
-
-#[test]
-fn supported(rt: HostRuntime) {
-    for number in 0..=255 {
-        assert!(rt; are_supported(number));
+/// The link from an anchor to the key's set, signed by the key.
+fn first_of(
+    alloc: Global,
+    anchor: &Record,
+    keys: &RecordSet,
+    key: &Data,
+    rrsig: &Data,
+) -> Option<Link> {
+    if key.rtype() != Rtype::DNSKEY || rrsig.rtype() != Rtype::RRSIG {
+        return None;
     }
+    let t = Timestamp::from_int(500);
+    let found = if anchor.rtype() == Rtype::DS {
+        admit_anchor_ds::<TableVerifier>(alloc, anchor, keys, key, rrsig, t)
+    } else {
+        admit_anchor_key::<TableVerifier>(alloc, anchor, keys, rrsig, t)
+    };
+    match found {
+        Ok(found) => found,
+        Err(_) => None,
+    }
+}
+
+fn first(alloc: Global, anchor: &str) -> Option<Link> {
+    let anchor = record(alloc, anchor)?;
+    let key = record(alloc, KEY)?;
+    let signature = record(alloc, KEY_SIGNATURE)?;
+    let Ok(keys) = RecordSet::from_records(alloc, &key, &[]) else {
+        return None;
+    };
+    first_of(alloc, &anchor, &keys, key.rdata(), signature.rdata())
+}
+
+/// The link from the key to the address.
+fn last_of(alloc: Global, set: &RecordSet, key: &Data, rrsig: &Data) -> Option<Link> {
+    if key.rtype() != Rtype::DNSKEY || rrsig.rtype() != Rtype::RRSIG {
+        return None;
+    }
+    let zone = name(alloc, "example.")?;
+    let t = Timestamp::from_int(500);
+    match admit_set::<TableVerifier>(alloc, &zone, key, set, rrsig, t) {
+        Ok(found) => found,
+        Err(_) => None,
+    }
+}
+
+fn last(alloc: Global, key: &str) -> Option<Link> {
+    let address = record(alloc, ADDRESS)?;
+    let key = record(alloc, key)?;
+    let signature = record(alloc, GOOD)?;
+    let Ok(set) = RecordSet::from_records(alloc, &address, &[]) else {
+        return None;
+    };
+    last_of(alloc, &set, key.rdata(), signature.rdata())
+}
+
+/// Whether a copy of the links has one of this kind, by this key.
+fn is_link(alloc: Global, link: Option<Link>, kind: LinkKind) -> bool {
+    let mut links = Vec::new(alloc);
+    let Some(link) = link else {
+        return false;
+    };
+    if links.push(link).is_err() {
+        return false;
+    }
+    let Ok(copy) = Links::new(links).clone() else {
+        return false;
+    };
+    match copy.as_slice() {
+        [link] => link.kind() == kind
+            && link.signing_key().as_slice() == b"\x01\x01\x03\x0d\x01\x02".as_slice(),
+        _ => false,
+    }
+}
+
+#[test]
+fn links(rt: HostRuntime) {
+    let alloc = rt.alloc();
+    assert!(rt; is_link(alloc, first(alloc, KEY), LinkKind::AnchorKey));
+    assert!(rt; is_link(alloc, first(alloc, DS), LinkKind::AnchorDs));
+    assert!(rt; is_link(alloc, last(alloc, KEY), LinkKind::Set));
+}
+
+/// No link is from another key, or from a DS record whose digest is cut.
+#[test]
+fn no_links(rt: HostRuntime) {
+    let alloc = rt.alloc();
+    let other = "example. 60 IN DNSKEY 257 3 13 AQM=";
+    assert!(rt; first(alloc, other).is_none());
+    assert!(rt; first(alloc, "example. 60 IN DS 1296 13 2 2C").is_none());
+    assert!(rt; last(alloc, other).is_none());
 }

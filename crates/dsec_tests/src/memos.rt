@@ -1,13 +1,16 @@
-//! A memo that keeps the stand-in verifier's last answer.
+//! How often the verifier is asked: a memo that keeps the stand-in's last answer, or has no memory.
 
 ghost use Rattle.std.specs.Prelude.{◌≡◌};
 ghost use Rattle.dsec_crypto.specs.StandIn.{stand_in};
 
-use crate::checks::{GOOD, KEY, checked, data_of, signed};
+use crate::checks::{Want, check, says};
+use crate::lines::{ADDRESS, GOOD, KEY, NO_ZONE_KEY, name, record, records};
+use dsec_cause::Cause;
 use dsec_crypto::StandIn;
-use dsec_group::{Memo, ValidationState};
+use dsec_group::{Group, Memo, groups};
 use dsec_name::NoMemory;
-use dsec_number::Rtype;
+use dsec_number::Timestamp;
+use dsec_wire::{Record, Records};
 use std::alloc::Global;
 use std::process::Abort;
 
@@ -24,12 +27,26 @@ struct Answer {
     ghost is_true: { yes ≡ stand_in flags protocol algorithm key.items message.items signature.items },
 }
 
-/// The last answer, and how often it was given.
+/// The last answer, if answers are kept, and how often one was asked for, given again and put.
 #[derive(Drop)]
 struct Last {
     alloc: Global,
+    keeps: bool,
     answer: Option<Answer>,
+    asked: u32,
     given: u32,
+    put: u32,
+}
+
+fn memo(alloc: Global, keeps: bool) -> Last {
+    Last {
+        alloc,
+        keeps,
+        answer: None,
+        asked: 0,
+        given: 0,
+        put: 0,
+    }
 }
 
 impl Memo<StandIn> for Last {
@@ -42,8 +59,9 @@ impl Memo<StandIn> for Last {
         message: &[u8],
         signature: &[u8],
     ) -> Result<Option<bool>, NoMemory> {
+        self.asked = self.asked.saturating_add(1);
         let Some(answer) = &self.answer else {
-            return Ok(None);
+            return if self.keeps { Ok(None) } else { Err(NoMemory) };
         };
         if answer.flags == flags
             && answer.protocol == protocol
@@ -69,6 +87,10 @@ impl Memo<StandIn> for Last {
         signature: &[u8],
         yes: bool,
     ) -> Result<(), NoMemory> {
+        self.put = self.put.saturating_add(1);
+        if !self.keeps {
+            return Err(NoMemory);
+        }
         self.answer = Some(Answer {
             flags,
             protocol,
@@ -101,49 +123,106 @@ impl Memo<StandIn> for Last {
     }
 }
 
-// Whether this is what the address at www.example. comes to under a signature.
-fn comes_to(
-    alloc: Global,
-    signature: &[u8],
-    seconds: u32,
-    memo: &mut Last,
-    want: ValidationState,
-) -> bool {
-    let Some(section) = signed(alloc, &[signature]) else {
-        return false;
-    };
-    let Some(key) = data_of(alloc, Rtype::DNSKEY, KEY) else {
-        return false;
-    };
-    match checked(alloc, section, &[key], 1, seconds, memo) {
-        Some(check) => check.state == want,
+/// Whether the address comes to this under its signatures.
+fn comes_to(memo: &mut Last, section: &[&str], max_bad: u8, seconds: u32, want: Want) -> bool {
+    let alloc = memo.alloc;
+    match check(alloc, section, &[NO_ZONE_KEY, KEY], max_bad, seconds, memo) {
+        Some(check) => says(alloc, &check, want),
         None => false,
     }
 }
 
+const FIRST: &str =
+    "www.example. 60 IN RRSIG \\# 32 00010d0200000e10000003e8000000000510074578616d706c65006669727374";
+
+const SECOND: &str =
+    "www.example. 60 IN RRSIG \\# 33 00010d0200000e10000003e8000000000510074578616d706c65007365636f6e64";
+
+const FOURTH: &str =
+    "www.example. 60 IN RRSIG \\# 33 00010d0200000e10000003e8000000000510074578616d706c6500666f75727468";
+
 /// Signatures and moments in turn, what comes of them, and how often an answer was given again until then. Another
 /// signature isn't the one that was kept, and the period is tested each time.
-const TURNS: [(&[u8], u32, ValidationState, u32); 5] = [
-    (GOOD, 500, ValidationState::Secure, 0),
-    (GOOD, 600, ValidationState::Secure, 1),
-    (b"other", 600, ValidationState::Bogus, 1),
-    (GOOD, 600, ValidationState::Secure, 1),
-    (GOOD, 1001, ValidationState::Bogus, 1),
+const TURNS: [(&str, u32, Want, u32); 5] = [
+    (GOOD, 500, Want::Good(0, 1), 0),
+    (GOOD, 600, Want::Good(0, 1), 1),
+    (FIRST, 600, Want::Bogus(Cause::BadSignature), 1),
+    (GOOD, 600, Want::Good(0, 1), 1),
+    (GOOD, 1001, Want::Bogus(Cause::BadSignature), 1),
 ];
 
-fn assert_turns(rt: &impl Abort, memo: &mut Last, rows: &[(&[u8], u32, ValidationState, u32)]) {
+fn assert_turns(rt: &impl Abort, memo: &mut Last, rows: &[(&str, u32, Want, u32)]) {
     for (signature, seconds, want, given) in rows {
-        assert!(rt; comes_to(memo.alloc, signature, *seconds, memo, *want));
+        assert!(rt; comes_to(memo, &[ADDRESS, signature], 1, *seconds, *want));
         assert!(rt; memo.given == *given);
     }
 }
 
 #[test]
 fn an_answer_is_given_again(rt: HostRuntime) {
-    let mut memo = Last {
-        alloc: rt.alloc(),
-        answer: None,
-        given: 0,
+    assert_turns(&rt, &mut memo(rt.alloc(), true), &TURNS);
+}
+
+/// Whether four signatures of one key, the first two of them bad, come to this under a memo that has no memory, where so many
+/// may be bad, and the verifier is asked so often.
+fn is_tried(alloc: Global, max_bad: u8, want: Want, tries: u32) -> bool {
+    let mut memo = memo(alloc, false);
+    let section = [ADDRESS, FIRST, SECOND, GOOD, FOURTH];
+    comes_to(&mut memo, &section, max_bad, 500, want) && memo.asked == tries && memo.put == tries
+}
+
+#[test]
+fn one_more_is_tried_than_may_be_bad(rt: HostRuntime) {
+    assert!(rt; is_tried(rt.alloc(), 1, Want::Bogus(Cause::TooManyBadSignatures), 2));
+    assert!(rt; is_tried(rt.alloc(), 2, Want::Good(2, 1), 3));
+}
+
+/// The good signature as the key's, for the one call that takes a record: the line of the address, the key's name and tag,
+/// and whether it counts.
+type Row = (&'static str, &'static str, u16, bool);
+
+const ROWS: [Row; 6] = [
+    (ADDRESS, "example.", 1296, true),
+    (ADDRESS, "other.", 1296, false),
+    (ADDRESS, "example.", 1297, false),
+    ("www.example. 60 CH A 192.0.2.1", "example.", 1296, false),
+    ("ww.example. 60 IN A 192.0.2.1", "example.", 1296, false),
+    ("www.example. 60 IN A 192.0.2.2", "example.", 1296, false),
+];
+
+/// Whether the group is signed, by the one call for a record.
+fn is_signed(alloc: Global, group: &Group, sig: &Record, row: &Row) -> Option<bool> {
+    let key = record(alloc, KEY)?;
+    let zone = name(alloc, "Example.")?;
+    let key_name = name(alloc, row.1)?;
+    let view = key.rdata().dnskey()?;
+    let mut memo = memo(alloc, false);
+    let t = Timestamp::from_int(500);
+    match group.check_sig_cached::<StandIn>(
+        alloc, sig, &zone, &view, &key_name, row.2, &mut memo, t,
+    ) {
+        Ok(yes) => Some(yes),
+        Err(NoMemory) => None,
+    }
+}
+
+fn row_holds(alloc: Global, row: &Row) -> Option<bool> {
+    let section = records(alloc, &[row.0])?;
+    let sig = record(alloc, GOOD)?;
+    let Ok(found) = groups(alloc, Records::new(section)) else {
+        return None;
     };
-    assert_turns(&rt, &mut memo, &TURNS);
+    let group = found.as_slice().first()?;
+    Some(is_signed(alloc, group, &sig, row)? == row.3)
+}
+
+fn assert_rows(rt: &impl Abort, alloc: Global, rows: &[Row]) {
+    for row in rows {
+        assert!(rt; row_holds(alloc, row) == Some(true));
+    }
+}
+
+#[test]
+fn one_record_by_one_key(rt: HostRuntime) {
+    assert_rows(&rt, rt.alloc(), &ROWS);
 }

@@ -4,75 +4,68 @@ use dsec_answer::run;
 use dsec_outside::{LIMIT, OctetsSink, OctetsSource};
 use std::alloc::Global;
 use std::process::Abort;
-use std::test::Fail;
 
 /// What is written for words that name no command.
 const USAGE: &str = "usage: dsec validate|sign|reply|ask|gen\n";
 
-/// The parts as one text.
-pub(crate) fn joined(alloc: Global, parts: &[&str]) -> Result<String, Fail> {
-    let mut text = String::new(alloc);
-    for part in parts {
-        text.push_str(part)?;
-    }
-    Ok(text)
-}
-
 /// The words as strings.
-pub(crate) fn owned(alloc: Global, words: &[&str]) -> Result<Vec<String>, Fail> {
+pub(crate) fn owned(alloc: Global, words: &[&str]) -> Option<Vec<String>> {
     let mut strings = Vec::new(alloc);
     for word in words {
-        strings.push(String::from_str(alloc, word)?)?;
+        let Ok(string) = String::from_str(alloc, word) else {
+            return None;
+        };
+        if strings.push(string).is_err() {
+            return None;
+        }
     }
-    Ok(strings)
+    Some(strings)
 }
 
 /// Whether this is written where the command of these words is run, and this is the status.
-fn writes(
-    alloc: Global,
-    words: &[&str],
-    source: &[u8],
-    want: &str,
-    status: u8,
-) -> Result<bool, Fail> {
-    let words = owned(alloc, words)?;
+fn writes(alloc: Global, words: &[&str], source: &[u8], want: &str, status: u8) -> bool {
+    let Some(words) = owned(alloc, words) else {
+        return false;
+    };
     let mut sink = OctetsSink::new(alloc);
     let mut source = OctetsSource { rest: source };
     let found = run(alloc, &words, &mut source, &mut sink);
-    Ok(found == status && sink.octets.as_slice() == want.as_bytes())
+    found == status && sink.octets.as_slice() == want.as_bytes()
+}
+
+/// Whether this is refused of a script with blanks behind it that has so many octets more than a source may.
+fn is_refused(alloc: Global, more: usize, want: &str) -> bool {
+    let mut source = Vec::new(alloc);
+    source.extend_from_slice(b"now 1\nfoo\n#").is_ok()
+        && source.resize(LIMIT + more, b' ').is_ok()
+        && writes(alloc, &["validate"], &source, want, 3)
 }
 
 #[test]
-fn refuses_a_source_past_its_limit(rt: HostRuntime) -> Result<(), Fail> {
-    let alloc = rt.alloc();
-    let mut source = Vec::with_capacity(alloc, LIMIT + 1)?;
-    source.extend_from_slice(b"now 1\nfoo\n#")?;
-    source.resize(LIMIT, b' ')?;
-    assert!(rt; writes(alloc, &["validate"], &source, "line 2: other\n", 3)?);
-    source.push(b' ')?;
-    assert!(rt; writes(alloc, &["validate"], &source, "line 3: size\n", 3)?);
-    Ok(())
+fn refuses_a_source_past_its_limit(rt: HostRuntime) {
+    assert!(rt; is_refused(rt.alloc(), 0, "line 2: other\n"));
+    assert!(rt; is_refused(rt.alloc(), 1, "line 3: size\n"));
 }
 
 /// Words that name no command, and what they show.
-const WORDS: [(&str, &[&str]); 7] = [
+const WORDS: [(&str, &[&str]); 8] = [
     ("no word", &[]),
     ("another word", &["verify"]),
     ("a command that is left out", &["sign"]),
     ("a word too many", &["validate", "x"]),
+    ("an empty word too many", &["validate", ""]),
     ("the word twice", &["validate", "validate"]),
     ("a letter in upper case", &["Validate"]),
     ("an empty word", &[""]),
 ];
 
-fn assert_refused(rt: &impl Abort, alloc: Global, rows: &[(&str, &[&str])]) -> Result<(), Fail> {
+fn assert_refused(rt: &impl Abort, alloc: Global, rows: &[(&str, &[&str])]) {
     for (shows, words) in rows {
-        assert!(rt; writes(alloc, words, b"now 1\n", USAGE, 2)?, "{shows}");
+        assert!(rt; writes(alloc, words, b"now 1\n", USAGE, 2), "{shows}");
     }
-    Ok(())
 }
 
 #[test]
-fn refuses_words(rt: HostRuntime) -> Result<(), Fail> {
-    assert_refused(&rt, rt.alloc(), &WORDS)
+fn refuses_words(rt: HostRuntime) {
+    assert_refused(&rt, rt.alloc(), &WORDS);
 }
