@@ -29,8 +29,12 @@ const DIGESTS: [(&str, &str, bool); 7] = [
 fn is_digest(alloc: Global, key: &str, ds: &str) -> Option<bool> {
     let key = record(alloc, key)?;
     let ds = record(alloc, ds)?;
-    let dnskey = key.rdata().dnskey()?;
-    let ds = ds.rdata().ds()?;
+    let Some(dnskey) = key.rdata().dnskey() else {
+        return None;
+    };
+    let Some(ds) = ds.rdata().ds() else {
+        return None;
+    };
     let is_so = match dnskey.digest(key.owner(), ds.digest_type) {
         Ok(digest) => digest.as_ref() == ds.digest && dnskey.key_tag() == ds.key_tag,
         Err(_) => false,

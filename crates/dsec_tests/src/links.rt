@@ -1,5 +1,8 @@
 //! The first and the last link of a chain, and their copies.
 
+ghost use Rattle.std.specs.Prelude.{◌≡◌};
+ghost use Rattle.dsec_spec.specs.Numbers.{DNSKEY, RRSIG};
+
 use crate::lines::{ADDRESS, GOOD, KEY, KEY_SIGNATURE, name, record};
 use dsec_crypto::TableVerifier;
 use dsec_link::{Link, LinkKind, Links, RecordSet, admit_anchor_ds, admit_anchor_key, admit_set};
@@ -11,95 +14,100 @@ use std::alloc::Global;
 const DS: &str =
     "example. 60 IN DS 1296 13 2 2C6403BD20956140D202EC366555A5A934D05A03233D69AB380A7EEA4EEE3525";
 
-/// The link from an anchor to the key's set, signed by the key.
-fn first_of(
-    alloc: Global,
-    anchor: &Record,
-    keys: &RecordSet,
-    key: &Data,
-    rrsig: &Data,
-) -> Option<Link> {
-    if key.rtype() != Rtype::DNSKEY || rrsig.rtype() != Rtype::RRSIG {
-        return None;
-    }
-    let t = Timestamp::from_int(500);
-    let found = if anchor.rtype() == Rtype::DS {
-        admit_anchor_ds::<TableVerifier>(alloc, anchor, keys, key, rrsig, t)
-    } else {
-        admit_anchor_key::<TableVerifier>(alloc, anchor, keys, rrsig, t)
-    };
-    match found {
-        Ok(found) => found,
-        Err(_) => None,
-    }
-}
-
-fn first(alloc: Global, anchor: &str) -> Option<Link> {
-    let anchor = record(alloc, anchor)?;
-    let key = record(alloc, KEY)?;
-    let signature = record(alloc, KEY_SIGNATURE)?;
-    let Ok(keys) = RecordSet::from_records(alloc, &key, &[]) else {
-        return None;
-    };
-    first_of(alloc, &anchor, &keys, key.rdata(), signature.rdata())
-}
-
-/// The link from the key to the address.
-fn last_of(alloc: Global, set: &RecordSet, key: &Data, rrsig: &Data) -> Option<Link> {
-    if key.rtype() != Rtype::DNSKEY || rrsig.rtype() != Rtype::RRSIG {
-        return None;
-    }
-    let zone = name(alloc, "example.")?;
-    let t = Timestamp::from_int(500);
-    match admit_set::<TableVerifier>(alloc, &zone, key, set, rrsig, t) {
-        Ok(found) => found,
-        Err(_) => None,
-    }
-}
-
-fn last(alloc: Global, key: &str) -> Option<Link> {
-    let address = record(alloc, ADDRESS)?;
-    let key = record(alloc, key)?;
-    let signature = record(alloc, GOOD)?;
-    let Ok(set) = RecordSet::from_records(alloc, &address, &[]) else {
-        return None;
-    };
-    last_of(alloc, &set, key.rdata(), signature.rdata())
-}
-
-/// Whether a copy of the links has one of this kind, by this key.
-fn is_link(alloc: Global, link: Option<Link>, kind: LinkKind) -> bool {
+/// Whether a copy of the link is of this kind, by the key.
+fn is_link(alloc: Global, link: Link, kind: LinkKind) -> bool {
     let mut links = Vec::new(alloc);
-    let Some(link) = link else {
-        return false;
-    };
     if links.push(link).is_err() {
         return false;
     }
     let Ok(copy) = Links::new(links).clone() else {
         return false;
     };
-    match copy.as_slice() {
-        [link] => link.kind() == kind
-            && link.signing_key().as_slice() == b"\x01\x01\x03\x0d\x01\x02".as_slice(),
+    match copy.as_slice().first() {
+        Some(link) => {
+            link.kind() == kind && link.signing_key().as_slice().ends_with(b"\x03\x0d\x01\x02")
+        }
+        None => false,
+    }
+}
+
+/// Whether the key's set has a link from the key.
+fn is_by_key(alloc: Global, anchor: &Record, keys: &RecordSet, rrsig: &Data) -> bool
+    requires { rrsig.now.rtype ≡ RRSIG }
+{
+    let t = Timestamp::from_int(500);
+    match admit_anchor_key::<TableVerifier>(alloc, anchor, keys, rrsig, t) {
+        Ok(Some(link)) => is_link(alloc, link, LinkKind::AnchorKey),
         _ => false,
     }
 }
 
-#[test]
-fn links(rt: HostRuntime) {
-    let alloc = rt.alloc();
-    assert!(rt; is_link(alloc, first(alloc, KEY), LinkKind::AnchorKey));
-    assert!(rt; is_link(alloc, first(alloc, DS), LinkKind::AnchorDs));
-    assert!(rt; is_link(alloc, last(alloc, KEY), LinkKind::Set));
+/// Whether the key's set has a link from the key's DS record.
+fn is_by_ds(alloc: Global, anchor: &Record, keys: &RecordSet, key: &Data, rrsig: &Data) -> bool
+    requires key { key.now.rtype ≡ DNSKEY }
+    requires rrsig { rrsig.now.rtype ≡ RRSIG }
+{
+    let t = Timestamp::from_int(500);
+    match admit_anchor_ds::<TableVerifier>(alloc, anchor, keys, key, rrsig, t) {
+        Ok(Some(link)) => is_link(alloc, link, LinkKind::AnchorDs),
+        _ => false,
+    }
 }
 
-/// No link is from another key, or from a DS record whose digest is cut.
+/// Whether both of these links are there.
+fn are_first(alloc: Global) -> bool {
+    let (Some(key), Some(ds), Some(made)) = (
+        record(alloc, KEY),
+        record(alloc, DS),
+        record(alloc, KEY_SIGNATURE),
+    ) else {
+        return false;
+    };
+    let Ok(keys) = RecordSet::from_records(alloc, &key, &[]) else {
+        return false;
+    };
+    if key.rtype() != Rtype::DNSKEY || made.rtype() != Rtype::RRSIG {
+        return false;
+    }
+    is_by_key(alloc, &key, &keys, made.rdata())
+        && is_by_ds(alloc, &ds, &keys, key.rdata(), made.rdata())
+}
+
+/// Whether the set has a link from the key.
+fn is_set(alloc: Global, set: &RecordSet, key: &Data, rrsig: &Data) -> bool
+    requires key { key.now.rtype ≡ DNSKEY }
+    requires rrsig { rrsig.now.rtype ≡ RRSIG }
+{
+    let Some(zone) = name(alloc, "example.") else {
+        return false;
+    };
+    let t = Timestamp::from_int(500);
+    match admit_set::<TableVerifier>(alloc, &zone, key, set, rrsig, t) {
+        Ok(Some(link)) => is_link(alloc, link, LinkKind::Set),
+        _ => false,
+    }
+}
+
+/// Whether this link is there, of the address.
+fn is_last(alloc: Global) -> bool {
+    let (Some(address), Some(key), Some(made)) = (
+        record(alloc, ADDRESS),
+        record(alloc, KEY),
+        record(alloc, GOOD),
+    ) else {
+        return false;
+    };
+    let Ok(set) = RecordSet::from_records(alloc, &address, &[]) else {
+        return false;
+    };
+    if key.rtype() != Rtype::DNSKEY || made.rtype() != Rtype::RRSIG {
+        return false;
+    }
+    is_set(alloc, &set, key.rdata(), made.rdata())
+}
+
 #[test]
-fn no_links(rt: HostRuntime) {
-    let alloc = rt.alloc();
-    let other = "example. 60 IN DNSKEY 257 3 13 AQM=";
-    assert!(rt; first(alloc, other).is_none());
-    assert!(rt; first(alloc, "example. 60 IN DS 1296 13 2 2C").is_none());
-    assert!(rt; last(alloc, other).is_none());
+fn links(rt: HostRuntime) {
+    assert!(rt; are_first(rt.alloc()));
+    assert!(rt; is_last(rt.alloc()));
 }

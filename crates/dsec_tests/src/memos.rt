@@ -195,7 +195,9 @@ fn is_signed(alloc: Global, group: &Group, sig: &Record, row: &Row) -> Option<bo
     let key = record(alloc, KEY)?;
     let zone = name(alloc, "Example.")?;
     let key_name = name(alloc, row.1)?;
-    let view = key.rdata().dnskey()?;
+    let Some(view) = key.rdata().dnskey() else {
+        return None;
+    };
     let mut memo = memo(alloc, false);
     let t = Timestamp::from_int(500);
     match group.check_sig_cached::<StandIn>(

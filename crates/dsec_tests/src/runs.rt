@@ -33,18 +33,18 @@ fn writes(alloc: Global, words: &[&str], source: &[u8], want: &str, status: u8) 
     found == status && sink.octets.as_slice() == want.as_bytes()
 }
 
-/// Whether this is refused of a script with blanks behind it that has so many octets more than a source may.
-fn is_refused(alloc: Global, more: usize, want: &str) -> bool {
+/// Whether this is refused of a script with blanks behind it that has so many octets.
+fn is_refused(alloc: Global, size: usize, want: &str) -> bool {
     let mut source = Vec::new(alloc);
     source.extend_from_slice(b"now 1\nfoo\n#").is_ok()
-        && source.resize(LIMIT + more, b' ').is_ok()
+        && source.resize(size, b' ').is_ok()
         && writes(alloc, &["validate"], &source, want, 3)
 }
 
 #[test]
 fn refuses_a_source_past_its_limit(rt: HostRuntime) {
-    assert!(rt; is_refused(rt.alloc(), 0, "line 2: other\n"));
-    assert!(rt; is_refused(rt.alloc(), 1, "line 3: size\n"));
+    assert!(rt; is_refused(rt.alloc(), LIMIT, "line 2: other\n"));
+    assert!(rt; is_refused(rt.alloc(), LIMIT + 1, "line 3: size\n"));
 }
 
 /// Words that name no command, and what they show.

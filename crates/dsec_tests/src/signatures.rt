@@ -3,7 +3,7 @@
 use crate::lines::{ADDRESS, GOOD, KEY, KEY_SIGNATURE, name, record};
 use dsec_crypto::{AlgorithmError, StandIn, TableVerifier, Verifier};
 use dsec_link::{RecordSet, RrsigExt, is_signed, signed_bytes};
-use dsec_name::NoMemory;
+use dsec_name::{Name, NoMemory};
 use dsec_number::{Rtype, Timestamp};
 use dsec_wire::{Record, Rrsig};
 use std::alloc::Global;
@@ -67,14 +67,10 @@ fn are_of_records(alloc: Global, rrsig: &Rrsig<'_>, record: Record, want: &[u8])
 }
 
 /// Whether this is the closest encloser.
-fn has_encloser(alloc: Global, rrsig: &Rrsig<'_>, record: &Record, want: Option<&str>) -> bool {
-    let Ok(found) = rrsig.wildcard_closest_encloser(alloc, record) else {
-        return false;
-    };
-    match (found, want) {
-        (Some(found), Some(want)) => name(alloc, want) == Some(found),
-        (None, None) => true,
-        _ => false,
+fn has_encloser(alloc: Global, rrsig: &Rrsig<'_>, record: &Record, want: &Option<Name>) -> bool {
+    match rrsig.wildcard_closest_encloser(alloc, record) {
+        Ok(found) => found == *want,
+        Err(NoMemory) => false,
     }
 }
 
@@ -85,7 +81,11 @@ fn row_holds(alloc: Global, row: &Row) -> bool {
     let Some(rrsig) = made.rdata().rrsig() else {
         return false;
     };
-    has_encloser(alloc, &rrsig, &record, row.3)
+    let encloser = match row.3 {
+        Some(text) => name(alloc, text),
+        None => None,
+    };
+    has_encloser(alloc, &rrsig, &record, &encloser)
         && are_of_set(alloc, &rrsig, &record, row.2)
         && are_of_records(alloc, &rrsig, record, row.2)
 }
@@ -127,7 +127,9 @@ fn orders(alloc: Global) -> Option<bool> {
     let late = record(alloc, "www.example. 60 IN A 192.0.2.9")?;
     let early = record(alloc, ADDRESS)?;
     let made = record(alloc, GOOD)?;
-    let rrsig = made.rdata().rrsig()?;
+    let Some(rrsig) = made.rdata().rrsig() else {
+        return None;
+    };
     Some(are_in_order(alloc, &rrsig, late, early))
 }
 
@@ -151,8 +153,12 @@ fn counts<V: Verifier>(alloc: Global, key: &str, signature: &str, seconds: u32) 
     let key = record(alloc, key)?;
     let signature = record(alloc, signature)?;
     let zone = name(alloc, "Example.")?;
-    let rrsig = signature.rdata().rrsig()?;
-    let dnskey = key.rdata().dnskey()?;
+    let Some(rrsig) = signature.rdata().rrsig() else {
+        return None;
+    };
+    let Some(dnskey) = key.rdata().dnskey() else {
+        return None;
+    };
     let Ok(set) = RecordSet::from_records(alloc, &address, &[]) else {
         return None;
     };
