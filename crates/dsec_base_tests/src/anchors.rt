@@ -100,11 +100,13 @@ fn has_island(
     name: &str,
     rtype: Rtype,
     labels: usize,
-) -> Result<bool, Fail> {
-    let name = Name::parse(alloc, name)?;
+) -> bool {
+    let Ok(name) = Name::parse(alloc, name) else {
+        return false;
+    };
     match anchors.island(&name, rtype) {
-        Some(found) => Ok(found.owner().label_count() == labels),
-        None => Ok(false),
+        Some(found) => found.owner().label_count() == labels,
+        None => false,
     }
 }
 
@@ -113,7 +115,7 @@ fn islands_of_names(rt: HostRuntime) -> Result<(), Fail> {
     let anchors = TrustAnchors::from_u8(rt.alloc(), SIX)?;
     for (name, rtype, labels) in ISLANDS.iter() {
         assert!(rt;
-            has_island(rt.alloc(), &anchors, name, *rtype, *labels)?,
+            has_island(rt.alloc(), &anchors, name, *rtype, *labels),
             "{name}"
         );
     }

@@ -1,8 +1,8 @@
 //! Messages item for item, their OPT records, and key tags, against other software's reading and the standards' examples.
 
-use crate::zones::push_record;
+use crate::zones::{is_hex, push_record};
 use dsec_name::Octets;
-use dsec_number::Rtype;
+use dsec_number::{Rcode, Rtype};
 use dsec_wire::{Data, Message, Records};
 use std::alloc::Global;
 use std::test::Fail;
@@ -57,10 +57,10 @@ const MESSAGES: [(&str, &str); 6] = [
 ];
 
 /// The message of these octets in hexadecimal.
-fn message_of(alloc: Global, text: &str) -> Result<Message, Fail> {
-    match Message::from_octets(hex::decode(alloc, text)?) {
-        Ok(message) => Ok(message),
-        Err(_) => Err(Fail::new("short")),
+fn message_of(alloc: Global, text: &str) -> Option<Message> {
+    match hex::decode(alloc, text) {
+        Ok(octets) => Message::from_octets(octets).ok(),
+        Err(_) => None,
     }
 }
 
@@ -92,8 +92,10 @@ fn items_of(alloc: Global, message: &Message) -> Result<Vec<u8>, Fail> {
 }
 
 fn has_items(alloc: Global, text: &str, items: &str) -> Result<bool, Fail> {
-    let found = items_of(alloc, &message_of(alloc, text)?)?;
-    Ok(hex::encode(alloc, &found)?.as_str() == items)
+    match message_of(alloc, text) {
+        Some(message) => Ok(is_hex(alloc, &items_of(alloc, &message)?, items)),
+        None => Ok(false),
+    }
 }
 
 #[test]
@@ -115,21 +117,30 @@ const OPTIONS: [(&str, u32, u16); 5] = [
     ("000781820000000100000000076578616d706c65000001000100000e100000", 0, 2),
 ];
 
-fn has_options(alloc: Global, text: &str, ttl: u32, rcode: u16) -> Result<bool, Fail> {
-    let message = message_of(alloc, text)?;
-    let found = match message.opt(alloc)? {
-        Some(opt) => opt.ttl().as_secs(),
-        None => 0,
-    };
-    Ok(found == ttl && message.opt_rcode(alloc)?.to_int() == rcode)
+/// The TTL of the message's OPT record, or 0 where there is none; nothing where there is no memory.
+fn opt_ttl(alloc: Global, message: &Message) -> Option<u32> {
+    match message.opt(alloc) {
+        Ok(Some(opt)) => Some(opt.ttl().as_secs()),
+        Ok(None) => Some(0),
+        Err(_) => None,
+    }
+}
+
+fn has_options(alloc: Global, text: &str, ttl: u32, rcode: u16) -> bool {
+    match message_of(alloc, text) {
+        Some(message) => {
+            opt_ttl(alloc, &message) == Some(ttl)
+                && message.opt_rcode(alloc) == Ok(Rcode::from_int(rcode))
+        }
+        None => false,
+    }
 }
 
 #[test]
-fn opt_records_and_rcodes(rt: HostRuntime) -> Result<(), Fail> {
+fn opt_records_and_rcodes(rt: HostRuntime) {
     for (text, ttl, rcode) in OPTIONS.iter() {
-        assert!(rt; has_options(rt.alloc(), text, *ttl, *rcode)?, "{text}");
+        assert!(rt; has_options(rt.alloc(), text, *ttl, *rcode), "{text}");
     }
-    Ok(())
 }
 
 /// Keys and their tags; the second is that of RFC 4034 5.4.
@@ -150,22 +161,25 @@ const KEYS: [(&str, u16); 8] = [
     ),
 ];
 
-fn has_tag(alloc: Global, text: &str, tag: u16) -> Result<bool, Fail> {
-    let octets = hex::decode(alloc, text)?;
-    if !Data::is_readable(Rtype::DNSKEY, &octets) {
-        return Ok(false);
-    }
-    let rdata = Data::new(Rtype::DNSKEY, Octets::new(octets));
+fn tag_of(rdata: &Data) -> Option<u16> {
     match rdata.dnskey() {
-        Some(key) => Ok(key.key_tag() == tag),
-        None => Ok(false),
+        Some(key) => Some(key.key_tag()),
+        None => None,
+    }
+}
+
+fn has_tag(alloc: Global, text: &str, tag: u16) -> bool {
+    match hex::decode(alloc, text) {
+        Ok(octets) if Data::is_readable(Rtype::DNSKEY, &octets) => {
+            tag_of(&Data::new(Rtype::DNSKEY, Octets::new(octets))) == Some(tag)
+        }
+        _ => false,
     }
 }
 
 #[test]
-fn keys_have_their_tags(rt: HostRuntime) -> Result<(), Fail> {
+fn keys_have_their_tags(rt: HostRuntime) {
     for (text, tag) in KEYS.iter() {
-        assert!(rt; has_tag(rt.alloc(), text, *tag)?, "{text}");
+        assert!(rt; has_tag(rt.alloc(), text, *tag), "{text}");
     }
-    Ok(())
 }

@@ -4,7 +4,7 @@ use dsec_name::Name;
 use dsec_number::{Class, Rtype};
 use dsec_script::{Item, Script, read_script};
 use dsec_wire::Record;
-use std::test::Fail;
+use std::alloc::Global;
 
 /// Two anchors, three replies of which the second is for the first one's question, and three messages.
 const SCRIPT: &[u8] = b"# comment\r
@@ -61,10 +61,17 @@ fn has_items(script: &Script) -> bool {
     }
 }
 
+/// Whether the script has its parts.
+fn has_parts(alloc: Global) -> bool {
+    match read_script(alloc, SCRIPT) {
+        Ok(script) => {
+            has_anchors(&script) && has_items(&script) && has_replies(&script, &Name::root(alloc))
+        }
+        Err(_) => false,
+    }
+}
+
 #[test]
-fn parts_of_a_script(rt: HostRuntime) -> Result<(), Fail> {
-    let script = read_script(rt.alloc(), SCRIPT)?;
-    assert!(rt; has_anchors(&script) && has_items(&script));
-    assert!(rt; has_replies(&script, &Name::root(rt.alloc())));
-    Ok(())
+fn parts_of_a_script(rt: HostRuntime) {
+    assert!(rt; has_parts(rt.alloc()));
 }

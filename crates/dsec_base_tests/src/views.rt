@@ -4,7 +4,6 @@ use dsec_base::{
     Data, Dnskey, Ds, Name, NameRef, Nsec, Nsec3, Nsec3param, Octets, Opt, Rrsig, Rtype, Soa,
 };
 use std::alloc::Global;
-use std::test::Fail;
 
 /// `NS.EXAMPLE.`
 const NAME: &str = "024e53074558414d504c4500";
@@ -61,23 +60,23 @@ const VECTORS: [(Rtype, &str, bool); 13] = [
 ];
 
 /// Whether the name is this one.
-fn is(alloc: Global, name: NameRef<'_>, text: &str) -> Result<bool, Fail> {
+fn is(alloc: Global, name: NameRef<'_>, text: &str) -> bool {
     match Name::parse(alloc, text) {
-        Ok(want) => Ok(name.is(&want)),
-        Err(_) => Ok(false),
+        Ok(want) => name.is(&want),
+        Err(_) => false,
     }
 }
 
-fn says_soa(alloc: Global, soa: &Soa<'_>) -> Result<bool, Fail> {
-    let mname = is(alloc, soa.mname, "ns.example.")?;
-    let rname = is(alloc, soa.rname, "hostmaster.example.")?;
+fn says_soa(alloc: Global, soa: &Soa<'_>) -> bool {
+    let mname = is(alloc, soa.mname, "ns.example.");
+    let rname = is(alloc, soa.rname, "hostmaster.example.");
     let times = (
         soa.refresh.as_secs(),
         soa.retry.as_secs(),
         soa.expire.as_secs(),
     );
     let others = (soa.serial.to_int(), soa.minimum.as_secs());
-    Ok(mname && rname && times == (7200, 3600, 1_209_600) && others == (0x0102_0304, 300))
+    mname && rname && times == (7200, 3600, 1_209_600) && others == (0x0102_0304, 300)
 }
 
 fn says_ds(ds: &Ds<'_>) -> bool {
@@ -90,14 +89,14 @@ fn says_dnskey(key: &Dnskey<'_>) -> bool {
     numbers == (257, 3, 15) && key.public_key == PUBLIC_KEY
 }
 
-fn says_rrsig(alloc: Global, rrsig: &Rrsig<'_>) -> Result<bool, Fail> {
-    let signer = is(alloc, rrsig.signer_name, "z.example.")?;
-    Ok(signer && rrsig.key_tag == 4660 && rrsig.signature == [0xa1, 0xb2, 0xc3, 0xd4].as_slice())
+fn says_rrsig(alloc: Global, rrsig: &Rrsig<'_>) -> bool {
+    let signer = is(alloc, rrsig.signer_name, "z.example.");
+    signer && rrsig.key_tag == 4660 && rrsig.signature == [0xa1, 0xb2, 0xc3, 0xd4].as_slice()
 }
 
-fn says_nsec(alloc: Global, nsec: &Nsec<'_>) -> Result<bool, Fail> {
-    let next_name = is(alloc, nsec.next_name, "host.example.")?;
-    Ok(next_name && nsec.types == [0, 6, 0x40, 1, 0, 0, 0, 3].as_slice())
+fn says_nsec(alloc: Global, nsec: &Nsec<'_>) -> bool {
+    let next_name = is(alloc, nsec.next_name, "host.example.");
+    next_name && nsec.types == [0, 6, 0x40, 1, 0, 0, 0, 3].as_slice()
 }
 
 fn says_nsec3(nsec3: &Nsec3<'_>) -> bool {
@@ -115,7 +114,7 @@ fn says_nsec3param(nsec3param: &Nsec3param<'_>) -> bool {
 }
 
 /// Whether the view of the data says what its vector does.
-fn says(alloc: Global, rdata: &Data) -> Result<bool, Fail> {
+fn says(alloc: Global, rdata: &Data) -> bool {
     if let Some(soa) = rdata.soa() {
         return says_soa(alloc, &soa);
     }
@@ -131,7 +130,7 @@ fn says(alloc: Global, rdata: &Data) -> Result<bool, Fail> {
     if let Some(nsec) = rdata.nsec() {
         return says_nsec(alloc, &nsec);
     }
-    Ok(says_octets(rdata))
+    says_octets(rdata)
 }
 
 /// The same of the views without names.
@@ -155,20 +154,20 @@ fn says_octets(rdata: &Data) -> bool {
 }
 
 /// Whether the view of data of the type says what its vector does, or there is none where none is wanted.
-fn is_viewed(alloc: Global, rtype: Rtype, text: &str, is_found: bool) -> Result<bool, Fail> {
-    let octets = hex::decode(alloc, text)?;
-    if !Data::is_readable(rtype, &octets) {
-        return Ok(false);
+fn is_viewed(alloc: Global, rtype: Rtype, text: &str, is_found: bool) -> bool {
+    match hex::decode(alloc, text) {
+        Ok(octets) if Data::is_readable(rtype, &octets) => {
+            says(alloc, &Data::new(rtype, Octets::new(octets))) == is_found
+        }
+        _ => false,
     }
-    Ok(says(alloc, &Data::new(rtype, Octets::new(octets)))? == is_found)
 }
 
 #[test]
-fn each_view(rt: HostRuntime) -> Result<(), Fail> {
+fn each_view(rt: HostRuntime) {
     for (rtype, text, is_found) in VECTORS.iter() {
-        assert!(rt; is_viewed(rt.alloc(), *rtype, text, *is_found)?, "{text}");
+        assert!(rt; is_viewed(rt.alloc(), *rtype, text, *is_found), "{text}");
     }
-    Ok(())
 }
 
 /// Options, and the first one's code and octets with what is left behind it (RFC 6891 6.1.2).

@@ -51,6 +51,13 @@ fn rest(alloc: Global, zonefile: &mut Zonefile) -> Result<(Vec<u8>, usize), Fail
     Err(Fail::new("more than a hundred entries"))
 }
 
+pub(crate) fn is_hex(alloc: Global, octets: &[u8], text: &str) -> bool {
+    match hex::encode(alloc, octets) {
+        Ok(found) => found.as_str() == text,
+        Err(_) => false,
+    }
+}
+
 /// Whether the text says these entries behind what was read before, and this line is refused.
 fn says(
     alloc: Global,
@@ -61,7 +68,7 @@ fn says(
 ) -> Result<bool, Fail> {
     zonefile.extend_from_slice(text)?;
     let (out, refused) = rest(alloc, zonefile)?;
-    Ok(refused == line && hex::encode(alloc, &out)?.as_str() == entries)
+    Ok(refused == line && is_hex(alloc, &out, entries))
 }
 
 fn assert_texts(rt: &impl Abort, alloc: Global, rows: &[(&[u8], &str, usize)]) -> Result<(), Fail> {
