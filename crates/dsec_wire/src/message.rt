@@ -1,8 +1,8 @@
 //! Whole messages.
 
-ghost use Rattle.std.specs.Prelude.{◌≡◌, ◌≤◌, ◌↔◌, List, ℕ, Some, length, IsOk, IfOk};
+ghost use Rattle.std.specs.Prelude.{◌≡◌, ◌≤◌, ◌↔◌, ◌+◌, ◌*◌, ◌%◌, List, ℕ, Some, length, IsOk, IfOk};
 ghost use Rattle.dsec_spec.specs.Messages as messages;
-ghost use Rattle.dsec_spec.specs.Messages.{additionals_of, answers_of, authorities_of, header_of, opt_of, questions_of, rcode_of};
+ghost use Rattle.dsec_spec.specs.Messages.{additionals_of, answers_of, authorities_of, header_of, opt_of, questions_of, rcode_of, upper_rcode};
 ghost use Rattle.dsec_spec.specs.Reading.{Reads};
 ghost use Rattle.dsec_spec.specs.Records as records;
 ghost use Rattle.dsec_wire.specs.Errors.{wants_memory};
@@ -110,6 +110,18 @@ impl Message {
         Ok(sections)
     }
 
+    /// The same three sections and the rcode: the OPT record is looked for after them, so that none is read twice.
+    pub fn sections_and_rcode(&self, alloc: Global) -> Result<(Sections, Rcode), MessageError>
+        ensures sections { Reads wants_memory (λ read. read.0) result (sections_of self.now) }
+        ensures rcode { IfOk result (λ read. rcode_of self.now ≡ Some read.1) }
+    {
+        let message = self.as_slice();
+        let header = header_at(message);
+        let (sections, at) = read_sections(alloc, message)?;
+        let opt = first_opt(alloc, header.arcount(), message, at)?;
+        Ok((sections, rcode_by(header, opt)))
+    }
+
     /// The first OPT record of the additional section, where all before it is readable (RFC 6891 6.1.1).
     pub fn opt(&self, alloc: Global) -> Result<Option<Record>, NoMemory>
         ensures { IfOk result (λ found. found ≡ opt_of self.now) }
@@ -131,10 +143,18 @@ impl Message {
     pub fn opt_rcode(&self, alloc: Global) -> Result<Rcode, NoMemory>
         ensures { IfOk result (λ rcode. rcode_of self.now ≡ Some rcode) }
     {
-        let upper = match self.opt(alloc)? {
-            Some(opt) => (opt.ttl().as_secs() / 0x0100_0000) as u16,
-            None => 0,
-        };
-        Ok(Rcode::from_int(upper * 16 + self.header().flags() % 16))
+        let opt = self.opt(alloc)?;
+        Ok(rcode_by(self.header(), opt))
     }
+}
+
+/// The rcode that a header and the first OPT record give.
+fn rcode_by(header: Header, opt: Option<Record>) -> Rcode
+    ensures { result ≡ upper_rcode opt * 16 + header.flags % 16 }
+{
+    let upper = match opt {
+        Some(opt) => (opt.ttl().as_secs() / 0x0100_0000) as u16,
+        None => 0,
+    };
+    Rcode::from_int(upper * 16 + header.flags() % 16)
 }
