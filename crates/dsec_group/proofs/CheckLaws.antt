@@ -46,7 +46,7 @@ module _ (accepts : Accepts) (set : RecordSet) (sig : Rrsig) (key : Key) (zone :
   signs_at_once b there back = same_from_decides b (signs accepts set zone t sig key) (there, back) (signs_decides accepts set zone t sig key)
 
   -- a test that fails
-  pub unsigned_by_test : (may : Bool) → may ≡ false → (IsTrue may ↔ MaySign set sig key zone t) → false ≡ signs accepts set zone t sig key
+  pub unsigned_by_test : (may : Bool) → may ≡ false → (IsTrue may ↔ MaySign set.owner set.rtype sig key zone t) → false ≡ signs accepts set zone t sig key
   unsigned_by_test may e h = signs_at_once false (λ f. absurd (false≢true f)) (λ s. absurd (false≢true (sym e ∙ h.1 ((signed_by_tests accepts set sig key zone t).1 s).0)))
 
   pub unsigned_by_name : (names : Bool) → names ≡ false → names ≡ names_key zone sig key → false ≡ signs accepts set zone t sig key
@@ -55,7 +55,7 @@ module _ (accepts : Accepts) (set : RecordSet) (sig : Rrsig) (key : Key) (zone :
       absurd (false≢true (sym e ∙ h ∙ (names_key_decides zone sig key).1 (record { signer = n.signer; algorithm = n.algorithm; tag = n.tag }))))
 
   -- the verifier's answer, where the others pass
-  pub signed_by_answer : (may names answer : Bool) → may ≡ true → (IsTrue may ↔ MaySign set sig key zone t) → names ≡ true → names ≡ names_key zone sig key → answer ≡ verifier_says
+  pub signed_by_answer : (may names answer : Bool) → may ≡ true → (IsTrue may ↔ MaySign set.owner set.rtype sig key zone t) → names ≡ true → names ≡ names_key zone sig key → answer ≡ verifier_says
       → answer ≡ signs accepts set zone t sig key
   signed_by_answer may names answer m hm n hn y = signs_at_once answer
       (λ e. (signed_by_tests accepts set sig key zone t).0 (hm.0 m, names_back (sym hn ∙ n), sym y ∙ e))

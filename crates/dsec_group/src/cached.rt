@@ -1,26 +1,30 @@
 //! One signature's check, by answers that are kept (RFC 4035 5.3).
 
-ghost use Rattle.std.specs.Prelude.{◌≡◌, ◌↔◌, IfOk, IsTrue};
+ghost use Rattle.std.specs.Prelude.{◌≡◌, ◌↔◌, ◌<◌, IfOk, IsTrue};
 ghost use Rattle.dsec_spec.specs.Groups.{set_in};
 ghost use Rattle.dsec_spec.specs.Names.{place};
 ghost use Rattle.dsec_spec.specs.Signed.{names_key as names_in, signs};
 ghost use Rattle.dsec_wire.specs.TypedData.{data_of};
 ghost use Rattle.dsec_wire.specs.Views.{key_view, rrsig_view};
+ghost use Rattle.dsec_link.specs.TaggedKeys.{tagged_view};
 ghost use Rattle.dsec_group.specs.Checks.{IsOfKey, IsSignedBy};
 
 use crate::group::Group;
 use crate::memo::Memo;
+use crate::steps::{Step, Steps};
 use dsec_crypto::Verifier;
-use dsec_link::{RecordSet, matches, may_sign, signed_bytes};
+use dsec_link::{RecordSet, TaggedKey, matches, may_sign, signed_bytes};
 use dsec_name::{Name, NoMemory};
 use dsec_number::Timestamp;
 use dsec_wire::{Data, Dnskey, Record, Rrsig};
 use std::alloc::Global;
+use std::marker::Brand;
+use std::sync::ledger::{Blank, Ledger};
 
 impl Group {
     /// Whether the record is a signature over the group's records that counts at the moment t as the key's, where
     /// `signer_name` is the zone (RFC 4035 5.3.1, 5.3.3). The key stands at `key_name` and has the tag
-    /// `key_tag`. Whether it is in the zone's DNSKEY set is the caller's to see.
+    /// `key_tag`. Whether it is in the zone's DNSKEY set is the caller's to see. The verifier is asked once at most.
     pub fn check_sig_cached<V: Verifier>(
         &self,
         alloc: Global,
@@ -38,10 +42,20 @@ impl Group {
         let Some(rrsig) = sig.rdata().rrsig() else {
             return Ok(false);
         };
-        if !is_of_key(self, sig, signer_name, key, key_name, key_tag) {
+        let key = TaggedKey::new(key);
+        if !is_of_key(self, sig, signer_name, &key, key_name, key_tag) {
             return Ok(false);
         }
-        check_signature::<V>(alloc, self, &rrsig, key, signer_name, memo, t)
+        check_once::<V, Brand>(
+            alloc,
+            self,
+            &rrsig,
+            &key,
+            signer_name,
+            memo,
+            t,
+            Blank::new(1),
+        )
     }
 }
 
@@ -50,17 +64,17 @@ fn is_of_key(
     group: &Group,
     sig: &Record,
     zone: &Name,
-    key: &Dnskey<'_>,
+    key: &TaggedKey<'_>,
     key_name: &Name,
     key_tag: u16,
 ) -> bool
     ensures { IsTrue result
-        ↔ IsOfKey group.now sig.now (place zone.now) (key_view key.now) (place key_name.now) key_tag }
+        ↔ IsOfKey group.now sig.now (place zone.now) (tagged_view key.now) (place key_name.now) key_tag }
 {
     same_name(sig.owner(), group.owner())
         && sig.class() == group.class()
         && same_name(key_name, zone)
-        && key_tag == key.key_tag()
+        && key_tag == key.tag
 }
 
 /// Whether the names are one, ASCII case aside (RFC 4343 3).
@@ -71,33 +85,54 @@ fn same_name(a: &Name, b: &Name) -> bool
     *a == *b
 }
 
+/// The check of one signature in one step, on a ledger that the blank opens.
+fn check_once<V: Verifier, L: Ledger>(
+    alloc: Global,
+    group: &Group,
+    rrsig: &Rrsig<'_>,
+    key: &TaggedKey<'_>,
+    zone: &Name,
+    memo: &mut impl Memo<V>,
+    t: Timestamp,
+    blank: Blank,
+) -> Result<bool, NoMemory>
+    requires name { blank.name ≡ L.name }
+    requires parts { blank.parts ≡ L.parts }
+    requires shared { 0 < L.parts }
+    ensures { IfOk result (λ yes. yes ≡ signs V.accepts (set_in group.now) (place zone.now) t (rrsig_view rrsig.now) (tagged_view key.now)) }
+{
+    let mut steps = Steps::<L>::begin(blank);
+    check_signature::<V>(alloc, group, rrsig, key, zone, memo, t, steps.tick())
+}
+
 /// Whether the signature, which stands beside the group's records, counts at the moment t as the zone key's over
-/// them. The verifier is asked only where all other tests have passed.
+/// them. The verifier is asked only where all other tests have passed, which take no memory.
 pub(crate) fn check_signature<V: Verifier>(
     alloc: Global,
     group: &Group,
     rrsig: &Rrsig<'_>,
-    key: &Dnskey<'_>,
+    key: &TaggedKey<'_>,
     zone: &Name,
     memo: &mut impl Memo<V>,
     t: Timestamp,
+    step: Step,
 ) -> Result<bool, NoMemory>
-    ensures { IfOk result (λ yes. yes ≡ signs V.accepts (set_in group.now) (place zone.now) t (rrsig_view rrsig.now) (key_view key.now)) }
+    ensures { IfOk result (λ yes. yes ≡ signs V.accepts (set_in group.now) (place zone.now) t (rrsig_view rrsig.now) (tagged_view key.now)) }
 {
-    let set = set_of(alloc, group)?;
-    if !may_sign(&set, rrsig, key, zone, t) {
+    let (owner, rtype) = (group.owner(), group.rtype());
+    if !may_sign(owner, rtype, rrsig, &key.key, zone, t) {
         return Ok(false);
     }
     if !names_key(rrsig, key, zone) {
         return Ok(false);
     }
-    let message = signed_bytes(alloc, rrsig, &set)?;
-    Ok(is_accepted::<V>(rrsig, key, &message, memo))
+    let message = signed_bytes(alloc, rrsig, owner, group.class(), rtype, group.rr_set())?;
+    Ok(is_accepted::<V>(rrsig, &key.key, &message, memo, step))
 }
 
 /// Whether the signature names the zone as its signer, and the key by its algorithm and tag.
-pub(crate) fn names_key(rrsig: &Rrsig<'_>, key: &Dnskey<'_>, zone: &Name) -> bool
-    ensures { result ≡ names_in (place zone.now) (rrsig_view rrsig.now) (key_view key.now) }
+pub(crate) fn names_key(rrsig: &Rrsig<'_>, key: &TaggedKey<'_>, zone: &Name) -> bool
+    ensures { result ≡ names_in (place zone.now) (rrsig_view rrsig.now) (tagged_view key.now) }
 {
     matches(rrsig, key, zone)
 }
@@ -108,6 +143,7 @@ fn is_accepted<V: Verifier>(
     key: &Dnskey<'_>,
     message: &[u8],
     memo: &mut impl Memo<V>,
+    step: Step,
 ) -> bool
     ensures { result ≡ V.accepts key.now.flags key.now.protocol key.now.algorithm key.now.public_key.now message.now rrsig.now.signature.now }
 {
@@ -116,7 +152,7 @@ fn is_accepted<V: Verifier>(
     if let Ok(Some(yes)) = memo.get_check(flags, protocol, algorithm, octets, message, signature) {
         return yes;
     }
-    let yes = V::verify(flags, protocol, algorithm, octets, message, signature).is_ok();
+    let yes = step.ask::<V>(flags, protocol, algorithm, octets, message, signature);
     // An answer that finds no room in the memo is as true.
     memo.put_check(flags, protocol, algorithm, octets, message, signature, yes)
         .unwrap_or(());

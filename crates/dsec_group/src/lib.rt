@@ -14,11 +14,11 @@ mod steps;
 mod tries;
 
 pub use cached::set_of;
-pub use check::{KeyCheck, check_with_keys};
+pub use check::{KeyCheck, check_with_keys, check_with_tagged_keys};
 pub use group::Group;
 pub use limits::Limits;
 pub use memo::{Memo, NoMemo};
 pub use set::{GroupSet, groups};
 pub use state::ValidationState;
-pub use steps::Steps;
+pub use steps::{Step, Steps};
 pub use tries::{Tries, try_all};

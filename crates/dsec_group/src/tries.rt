@@ -3,7 +3,7 @@
 ghost use Rattle.std.specs.Prelude.{◌≡◌, ◌≤◌, ◌+◌, IfOk, map};
 ghost use Rattle.dsec_spec.specs.Names.{place};
 ghost use Rattle.dsec_spec.specs.Numbers.{RRSIG};
-ghost use Rattle.dsec_wire.specs.Views.{key_view};
+ghost use Rattle.dsec_link.specs.TaggedKeys.{tagged_view};
 ghost use Rattle.dsec_group.specs.Trials.{AreKeyTries, AreTries, KeysSpend, TriesSpend, key_trial, pair_trial};
 
 use crate::cached::{check_signature, names_key};
@@ -11,9 +11,10 @@ use crate::group::Group;
 use crate::memo::Memo;
 use crate::steps::Steps;
 use dsec_crypto::Verifier;
+use dsec_link::TaggedKey;
 use dsec_name::{Name, NoMemory};
 use dsec_number::Timestamp;
-use dsec_wire::{Dnskey, Record};
+use dsec_wire::Record;
 use std::alloc::Global;
 use std::sync::ledger::Ledger;
 
@@ -41,14 +42,14 @@ pub fn try_all<V: Verifier, L: Ledger>(
     alloc: Global,
     group: &Group,
     zone: &Name,
-    keys: &[Dnskey<'_>],
+    keys: &[TaggedKey<'_>],
     room: u16,
     t: Timestamp,
     memo: &mut impl Memo<V>,
     steps: &mut Steps<L>,
 ) -> Result<Tries, NoMemory>
-    ensures tries { IfOk result (λ tries. AreTries group.now.signatures (map key_view keys.now) tries
-        (pair_trial V.accepts group.now (place zone.now) t room group.now.signatures (map key_view keys.now))) }
+    ensures tries { IfOk result (λ tries. AreTries group.now.signatures (map tagged_view keys.now) tries
+        (pair_trial V.accepts group.now (place zone.now) t room group.now.signatures (map tagged_view keys.now))) }
     ensures later { steps.old ≤ steps.new }
     ensures bound { steps.new ≤ steps.old + room }
     ensures spent { IfOk result (λ tries. TriesSpend steps.old steps.new room tries) }
@@ -71,15 +72,15 @@ fn try_signature<V: Verifier, L: Ledger>(
     group: &Group,
     sig: &Record,
     zone: &Name,
-    keys: &[Dnskey<'_>],
+    keys: &[TaggedKey<'_>],
     room: u16,
     t: Timestamp,
     memo: &mut impl Memo<V>,
     steps: &mut Steps<L>,
 ) -> Result<KeyTries, NoMemory>
     requires { sig.now.rtype ≡ RRSIG }
-    ensures tries { IfOk result (λ tries. AreKeyTries sig.now (map key_view keys.now) tries
-        (key_trial V.accepts group.now (place zone.now) t room sig.now (map key_view keys.now))) }
+    ensures tries { IfOk result (λ tries. AreKeyTries sig.now (map tagged_view keys.now) tries
+        (key_trial V.accepts group.now (place zone.now) t room sig.now (map tagged_view keys.now))) }
     ensures later { steps.old ≤ steps.new }
     ensures bound { steps.new ≤ steps.old + room }
     ensures spent { IfOk result (λ tries. KeysSpend steps.old steps.new room tries) }
@@ -94,8 +95,8 @@ fn try_signature<V: Verifier, L: Ledger>(
             if left == 0 {
                 return Ok(KeyTries::Left(0));
             }
-            steps.tick();
-            if check_signature::<V>(alloc, group, &rrsig, key, zone, memo, t)? {
+            let step = steps.tick();
+            if check_signature::<V>(alloc, group, &rrsig, key, zone, memo, t, step)? {
                 return Ok(KeyTries::Good(index));
             }
             left -= 1;

@@ -1,6 +1,5 @@
 pub mod SetLemmas
 pub mod NameParts
-pub mod LinkLemmas
 pub mod SignedTests
 pub mod KeyedLemmas
 pub mod KeyDigestLemmas

@@ -5,14 +5,14 @@ use Rattle.std.proofs.lemmas.List.Elements.{All-cons, All-head, All-tail, All-ma
 use Rattle.dsec_spec.specs.RecordData.{canonical_data}
 use Rattle.dsec_spec.specs.Records.{Record}
 use Rattle.dsec_wire.specs.TypedData.{TypedData, data_of}
-use Rattle.dsec_link.specs.Sets.{octets_of, AreOf, AreRecordsOf, canonical_of}
+use Rattle.dsec_link.specs.Sets.{octets_of, AreOf, AreRecordsOf, canonical_record}
 
--- data of one type are signed by that type
-pub canonical_set : (rtype : ℕ) (datas : List TypedData) → AreOf rtype datas → map canonical_of datas ≡ map (canonical_data rtype) (octets_of datas)
-canonical_set rtype [] typed = refl
-canonical_set rtype (one ∷ datas) typed =
-    let first : one.rtype ≡ rtype = All-head (λ (d : TypedData). d.rtype ≡ rtype) one datas typed in
-    let others = canonical_set rtype datas (All-tail (λ (d : TypedData). d.rtype ≡ rtype) one datas typed) in
+-- records of one type are signed by that type
+pub canonical_records : (rtype : ℕ) (records : List Record) → AreRecordsOf rtype records → map canonical_record records ≡ map (canonical_data rtype) (map (λ (r : Record). r.rdata) records)
+canonical_records rtype [] typed = refl
+canonical_records rtype (one ∷ records) typed =
+    let first : one.rtype ≡ rtype = All-head (λ (r : Record). r.rtype ≡ rtype) one records typed in
+    let others = canonical_records rtype records (All-tail (λ (r : Record). r.rtype ≡ rtype) one records typed) in
     rw (first, others) refl
 
 -- records of one type have data of it

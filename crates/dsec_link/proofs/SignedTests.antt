@@ -8,7 +8,7 @@ use Rattle.dsec_spec.specs.SignedBytes.{signed_bytes}
 use Rattle.dsec_link.specs.Tests.{Names, MaySign}
 
 pub signed_by_tests : (accepts : Accepts) (set : RecordSet) (sig : Rrsig) (key : Key) (zone : Place) (t : ℕ)
-    → (MaySign set sig key zone t × Names sig key zone × IsTrue (accepts key.flags key.protocol key.algorithm key.public_key (signed_bytes sig set) sig.signature))
+    → (MaySign set.owner set.rtype sig key zone t × Names sig key zone × IsTrue (accepts key.flags key.protocol key.algorithm key.public_key (signed_bytes sig set) sig.signature))
     ↔ Signed accepts set (beside set sig) key zone t
 signed_by_tests accepts set sig key zone t = (
   λ tests. record {

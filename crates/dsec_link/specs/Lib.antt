@@ -2,6 +2,7 @@ pub mod Sets
 pub mod Signing
 pub mod Keyed
 pub mod Tests
+pub mod TaggedKeys
 pub mod Links
 pub mod Shown
 pub mod KeyDigests

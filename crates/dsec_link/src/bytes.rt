@@ -1,18 +1,18 @@
 //! The octets that a signature is over (RFC 4034 3.1.8.1).
 
-ghost use Rattle.std.specs.Prelude.{◌≡◌, ◌++◌, IfOk, OnOk, drop};
+ghost use Rattle.std.specs.Prelude.{◌≡◌, ◌++◌, IfOk, OnOk, drop, map};
 ghost use Rattle.std.specs.List.{flat_map};
 ghost use Rattle.dsec_spec.specs.Names.{canonical_octets};
 ghost use Rattle.dsec_spec.specs.Records.{fixed_octets};
 ghost use Rattle.dsec_spec.specs.SignedBytes.{signed_owner, signed_bytes as signed_bytes_of};
 ghost use Rattle.dsec_wire.specs.Views.{rrsig_view};
+ghost use Rattle.dsec_link.specs.Sets.{AreRecordsOf};
 ghost use Rattle.dsec_link.specs.Signing.{encloser_of, front_octets, head_octets, whole_record};
 
 use crate::canonical::canonical_datas;
-use crate::record_set::RecordSet;
 use dsec_name::{Name, NoMemory, Octets};
 use dsec_number::{Class, Rtype};
-use dsec_wire::Rrsig;
+use dsec_wire::{Record, Rrsig};
 use std::alloc::Global;
 
 /// The octets up to the length of a record's data at most: a name, a type, a class and a TTL.
@@ -21,13 +21,22 @@ const MAX_FRONT: usize = 263;
 /// Most signed octets are no more than these.
 pub(crate) const USUAL_BYTES: usize = 512;
 
-/// The octets that a signature over the set is over (RFC 4034 3.1.8.1): the RRSIG's data up to the signature,
-/// and each record with the original TTL, in the order of their canonical data.
-pub fn signed_bytes(alloc: Global, rrsig: &Rrsig<'_>, set: &RecordSet) -> Result<Vec<u8>, NoMemory>
-    ensures { IfOk result (λ out. out.items ≡ signed_bytes_of (rrsig_view rrsig.now) set.now) }
+/// The octets that a signature over the set of these records is over, whose owner, class and type are given (RFC 4034
+/// 3.1.8.1): the RRSIG's data up to the signature, and each record with the original TTL, in the order of their canonical
+/// data. No set is made.
+pub fn signed_bytes(
+    alloc: Global,
+    rrsig: &Rrsig<'_>,
+    owner: &Name,
+    class: Class,
+    rtype: Rtype,
+    records: &[Record],
+) -> Result<Vec<u8>, NoMemory>
+    requires { AreRecordsOf rtype records.now }
+    ensures { IfOk result (λ out. out.items ≡ signed_bytes_of (rrsig_view rrsig.now) (record { owner = owner.now; class = class; rtype = rtype; datas = map (λ r. r.rdata) records.now })) }
 {
-    let canonical = canonical_datas(alloc, set.datas())?;
-    let front = front_of(alloc, rrsig, set.owner(), set.class(), set.rtype())?;
+    let canonical = canonical_datas(alloc, records)?;
+    let front = front_of(alloc, rrsig, owner, class, rtype)?;
     let mut out = Vec::with_capacity(alloc, USUAL_BYTES)?;
     push_head(&mut out, rrsig)?;
     push_all(&mut out, &front, &canonical)?;

@@ -1,8 +1,6 @@
 //! Record sets, the octets that signatures are over, one signature's check, and links of chains (RFC 4034 3.1.8, RFC 4035 5.3).
 #![tactic(auto)]
 
-mod admit;
-mod admit_ds;
 mod bytes;
 mod canonical;
 mod check;
@@ -18,12 +16,11 @@ mod rrsig_ext;
 mod shown;
 mod signing;
 mod supported;
+mod tagged_key;
 mod verified;
 
-pub use admit::{admit_anchor_key, admit_set};
-pub use admit_ds::admit_anchor_ds;
 pub use bytes::signed_bytes;
-pub use check::{is_signed, matches, may_sign};
+pub use check::{matches, may_sign};
 pub use dnskey_ext::DnskeyExt;
 pub use ds_ext::DsExt;
 pub use key_search::{KeySearch, first_key_for};
@@ -33,3 +30,4 @@ pub use record_set::RecordSet;
 pub use rrsig_ext::RrsigExt;
 pub use shown::Shown;
 pub use supported::{supported_algorithm, supported_digest};
+pub use tagged_key::TaggedKey;

@@ -30,7 +30,7 @@ pub enum LinkKind {
 
 /// A signed set and how it was reached. `via` is the data of the anchor or of the DS record that speaks of the
 /// key, `signing_key` the data of the DNSKEY record whose key signed the set, `rrsig` those of the RRSIG record by
-/// which it did. A link by itself proves nothing; the functions that admit links do.
+/// which it did. A link by itself proves nothing.
 #[derive(Drop)]
 pub struct Link {
     kind: LinkKind,

@@ -6,6 +6,6 @@ pub use dsec_anchors::{
 };
 pub use dsec_link::{
     DnskeyExt, DsExt, KeySearch, Link, LinkKind, Links, RecordSet, RrsigExt, Shown,
-    admit_anchor_ds, admit_anchor_key, admit_set, first_key_for, is_signed, matches, may_sign,
+    first_key_for, matches, may_sign,
     push_link, signed_bytes, supported_algorithm, supported_digest,
 };
