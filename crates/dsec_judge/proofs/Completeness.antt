@@ -31,10 +31,8 @@ use Rattle.dsec_cause.specs.declared.cause.Cause.{Cause}
 use Rattle.dsec_cause.specs.declared.cause.Cause.TheVariants.{NotBuilt}
 use Rattle.dsec_judge.specs.declared.error.Error.{Error}
 use Rattle.dsec_judge.specs.Admission.{Admitted, admission, admitted, admitted_by, cause_at, ds_in, first_cause, matching, matching_at, own_key, spoken_of}
-use Rattle.dsec_judge.specs.Findings.{World, keys_of, is_key_set_at, key_set_in, anchor_signs, anchored_link, key_set_by, key_set_of, key_set_at, set_link, finding_by, finding_under, target_of, finding_from, island_of, finding}
+use Rattle.dsec_judge.specs.Findings.{Finding, shown, World, keys_of, is_key_set_at, key_set_in, anchor_signs, anchored_link, key_set_by, key_set_of, key_set_at, set_link, finding_by, finding_under, target_of, finding_from, island_of, finding}
 use Rattle.dsec_judge.specs.declared.key_set.KeySet.TheVariants.{Held as held}
-use Rattle.dsec_judge.specs.declared.finding.Finding.{Finding}
-use Rattle.dsec_judge.specs.declared.finding.Finding.TheVariants.{Shown as shown}
 use Rattle.dsec_judge.specs.Verdicts.{is_secure, is_bogus, Verdict, bogus_cause, is_bare_alias, is_expanded, answered_by, answered, no_error_in, is_no_error, is_answered_at_name, judgement, verdict_on_questions, verdict_by_causes, verdict_on_groups, verdict_on_sections, verdict, asked_for}
 use Rattle.dsec_judge.specs.PlainAnswers.{IsSignedOnce, HasPlainKeys, IsPlainAnswer}
 use Rattle.dsec_judge.proofs.AskingSteps.{StandsAt, from_no_position, from_position}

@@ -1,5 +1,5 @@
 -- What is found of a group, by its island and the key set there.
-use Rattle.std.proofs.Common.{◌≡◌, ℕ, zero, suc, ◌==◌, true, false, List, [], ◌∷◌, length, Option, Some, None, refl, sym, ap, ◌∙◌, subst}
+use Rattle.std.proofs.Common.{◌≡◌, ℕ, zero, suc, ◌==◌, Bool, true, false, List, [], ◌∷◌, length, Option, Some, None, refl, sym, ap, ◌∙◌, subst}
 use Rattle.std.specs.Prelude.{Result, Ok, Err, OnOk, filter, map, slice_get}
 use Rattle.std.specs.List.{AllByRecursion}
 use Rattle.std.proofs.lemmas.Bool.{cond-true, cond-false}
@@ -15,14 +15,14 @@ use Rattle.dsec_spec.proofs.IslandLemmas.{from_longest}
 use Rattle.dsec_spec.proofs.Members.{from_filter}
 use Rattle.dsec_cause.specs.declared.cause.Cause.TheVariants.{RrsigWithoutRrset}
 use Rattle.dsec_judge.specs.declared.asking.Asked.{Asked}
-use Rattle.dsec_judge.specs.declared.finding.Finding.{Finding}
-use Rattle.dsec_judge.specs.declared.finding.Finding.TheVariants.{Insecure}
 use Rattle.dsec_judge.specs.declared.key_set.KeySet.{KeySet}
 use Rattle.dsec_judge.specs.declared.key_set.KeySet.TheVariants.{Held, Unheld}
-use Rattle.dsec_judge.specs.Findings.{World, finding, finding_from, finding_under, island_of, key_set_at, key_set_from, key_set_in, key_set_of, target_of}
+use Rattle.dsec_judge.specs.Findings.{Finding, insecure, World, finding, finding_from, finding_under, island_of, key_set_at, key_set_from, key_set_in, key_set_of, target_of}
 use Rattle.dsec_judge.specs.Asking.{AreAsked, AreOf, IsAsked, bare, with_island, with_replies}
 use Rattle.dsec_judge.specs.Verdicts.{island_asked}
-use Rattle.dsec_judge.specs.Found.{OfKeys}
+use Rattle.dsec_judge.specs.Found.{OfKeys, kept}
+use Rattle.dsec_judge.specs.declared.finding.Finding.{Finding as Kept}
+use Rattle.dsec_judge.specs.declared.finding.Finding.TheVariants.{Insecure}
 use Rattle.dsec_judge.proofs.FindingLaws.{from_key_set, rests_on_keys}
 
 pub at_index : {A : Type 0} (P : A → Type 0) (xs : List A) (k : ℕ) (x : A) → AllByRecursion P xs → slice_get xs k ≡ Some x → P x
@@ -59,26 +59,27 @@ below_island from name top rtype anchors at is =
     subst (λ (p : Place). is_below p top ≡ true) (sym at) (longest_is_above (looked_for_at name rtype) top (map (λ a. place a.owner) anchors) is)
 
 -- a finding by a key set that was asked for
-pub found_under : (accepts : Accepts) (anchors : List Record) (room t : ℕ) (replies : Place → Option (List ℕ)) (group : Group) (from top : Place) (asked : List Asked) (k : ℕ) (one : Asked) (found : Finding)
-    → found ≡ finding_under (bare accepts [] room t) group top (target (Some top) from (signers group)) one.keys → from ≡ looked_for_at (place group.owner) group.rtype
+pub found_under : (accepts : Accepts) (anchors : List Record) (room t : ℕ) (replies : Place → Option (List ℕ)) (group : Group) (from top : Place) (asked : List Asked) (k : ℕ) (one : Asked) (b : Bool) (found : Kept)
+    → found ≡ kept b (finding_under (bare accepts [] room t) group top (target (Some top) from (signers group)) one.keys) → from ≡ looked_for_at (place group.owner) group.rtype
     → slice_get asked k ≡ Some one → place one.top ≡ top → AreOf (with_replies accepts anchors room t replies) asked
-    → found ≡ finding_from (with_replies accepts anchors room t replies) group (Some top)
-found_under accepts anchors room t replies group from top asked k one found e at there same are =
+    → found ≡ kept b (finding_from (with_replies accepts anchors room t replies) group (Some top))
+found_under accepts anchors room t replies group from top asked k one b found e at there same are =
     let w = with_replies accepts anchors room t replies in
     let keys : one.keys ≡ key_set_at w top = at_index (λ (o : Asked). o.keys ≡ key_set_at w (place o.top)) asked k one are there ∙ ap (key_set_at w) same in
-    e ∙ (ap (λ (p : Place). finding_under (bare accepts [] room t) group top (target (Some top) p (signers group)) one.keys) at
+    e ∙ ap (kept b) (ap (λ (p : Place). finding_under (bare accepts [] room t) group top (target (Some top) p (signers group)) one.keys) at
     ∙ (by one.keys ∙ ap (finding_under w group top (target_of group (Some top))) keys))
   where
     by : (keys : KeySet) → finding_under (bare accepts [] room t) group top (target_of group (Some top)) keys ≡ finding_under (with_replies accepts anchors room t replies) group top (target_of group (Some top)) keys
     by (Held link) = refl
     by (Unheld cause) = refl
 
--- the finding of a group with records, by its island
-pub found_at : (w : World) (group : Group) (o : Option Place) (found : Finding) → (length group.records == 0) ≡ false → o ≡ island_of w.anchors group → found ≡ finding_from w group o → found ≡ finding w group
-found_at w group o found some island e = e ∙ (ap (finding_from w group) island ∙ sym (cond-false (length group.records == 0) (Insecure RrsigWithoutRrset) (finding_from w group (island_of w.anchors group)) some))
+-- what is kept of a group with records, by its island
+pub found_at : (w : World) (group : Group) (o : Option Place) (b : Bool) (found : Kept) → (length group.records == 0) ≡ false → o ≡ island_of w.anchors group → found ≡ kept b (finding_from w group o) → found ≡ kept b (finding w group)
+found_at w group o b found some island e =
+    e ∙ ap (kept b) (ap (finding_from w group) island ∙ sym (cond-false (length group.records == 0) (insecure RrsigWithoutRrset) (finding_from w group (island_of w.anchors group)) some))
 
-pub found_empty : (w : World) (group : Group) → (length group.records == 0) ≡ true → Insecure RrsigWithoutRrset ≡ finding w group
-found_empty w group none = sym (cond-true (length group.records == 0) (Insecure RrsigWithoutRrset) (finding_from w group (island_of w.anchors group)) none)
+pub found_empty : (w : World) (group : Group) (b : Bool) → (length group.records == 0) ≡ true → Insecure RrsigWithoutRrset ≡ kept b (finding w group)
+found_empty w group b none = ap (kept b) (sym (cond-true (length group.records == 0) (insecure RrsigWithoutRrset) (finding_from w group (island_of w.anchors group)) none))
 
 -- where it is asked for
 pub asked_at : (anchors : List Record) (group : Group) (o : Option Place) (before after : List Place) → (length group.records == 0) ≡ false → o ≡ island_of anchors group → after ≡ with_island before o → after ≡ with_island before (island_asked anchors group)

@@ -25,10 +25,9 @@ use Rattle.dsec_spec.proofs.IslandLemmas.{island_is}
 use Rattle.dsec_spec.proofs.NamesBelow.{strictly_below_trans}
 use Rattle.dsec_cause.specs.declared.cause.Cause.{Cause}
 use Rattle.dsec_judge.specs.Admission.{Admitted, matching_at, cause_at, first_cause}
-use Rattle.dsec_judge.specs.Findings.{World, says_key, keys_of, data_of, is_key_set_at, key_set_in, anchor_signs, anchored_link, key_set_by, key_set_under, key_set_of, key_set_at, set_link, finding_by, finding_under, target_of, finding_from, island_of, finding}
+use Rattle.dsec_judge.specs.Findings.{bogus, insecure, shown, World, says_key, keys_of, data_of, is_key_set_at, key_set_in, anchor_signs, anchored_link, key_set_by, key_set_under, key_set_of, key_set_at, set_link, finding_by, finding_under, target_of, finding_from, island_of, finding}
 use Rattle.dsec_judge.specs.declared.key_set.KeySet.{KeySet}
 use Rattle.dsec_judge.specs.declared.key_set.KeySet.TheVariants.{Held as held, Unheld as unheld}
-use Rattle.dsec_judge.specs.declared.finding.Finding.TheVariants.{Shown as shown, Insecure as insecure, Bogus as bogus}
 use Rattle.dsec_judge.proofs.AdmissionLaws.{IsOfAnchors, from_tried_pairs}
 
 -- what comes out as good was tried, and is good

@@ -17,14 +17,15 @@ use Rattle.dsec_link.specs.Sets.{AreOf, octets_of}
 use Rattle.dsec_cause.specs.declared.cause.Cause.{Cause}
 use Rattle.dsec_group.specs.declared.check.KeyCheck.{KeyCheck}
 use Rattle.dsec_group.specs.Checks.{IsCheck}
-use Rattle.dsec_judge.specs.declared.finding.Finding.TheVariants.{Shown, Bogus}
-use Rattle.dsec_judge.specs.Findings.{data_of, finding_by, says_key, set_link}
+use Rattle.dsec_judge.specs.Found.{kept}
+use Rattle.dsec_judge.specs.declared.finding.Finding.TheVariants.{Shown}
+use Rattle.dsec_judge.specs.Findings.{Finding, bogus, shown, data_of, finding_by, says_key, set_link}
 
-pub by_cause : (g : Group) (link : chain.Link) (ks : List Key) (check : KeyCheck) (cause : Cause) (t : Tried (Record × Key)) → IsCheck g ks check t → check.cause ≡ Some cause → Bogus cause ≡ finding_by g link t
+pub by_cause : (g : Group) (link : chain.Link) (ks : List Key) (check : KeyCheck) (cause : Cause) (t : Tried (Record × Key)) → IsCheck g ks check t → check.cause ≡ Some cause → bogus cause ≡ finding_by g link t
 by_cause g link ks check cause (good p) is e = absurd (let n = sym is.cause ∙ e in cc)
-by_cause g link ks check cause nothing is e = ap (λ (c : Cause). Bogus c) (sym (same_Some _ cause (sym is.cause ∙ e)))
-by_cause g link ks check cause all_bad is e = ap (λ (c : Cause). Bogus c) (sym (same_Some _ cause (sym is.cause ∙ e)))
-by_cause g link ks check cause too_many_bad is e = ap (λ (c : Cause). Bogus c) (sym (same_Some _ cause (sym is.cause ∙ e)))
+by_cause g link ks check cause nothing is e = ap (λ (c : Cause). bogus c) (sym (same_Some _ cause (sym is.cause ∙ e)))
+by_cause g link ks check cause all_bad is e = ap (λ (c : Cause). bogus c) (sym (same_Some _ cause (sym is.cause ∙ e)))
+by_cause g link ks check cause too_many_bad is e = ap (λ (c : Cause). bogus c) (sym (same_Some _ cause (sym is.cause ∙ e)))
 
 -- a check without a cause found a pair
 pub record FoundPair (g : Group) (link : chain.Link) (ks : List Key) (i j : ℕ) (t : Tried (Record × Key)) : Type 0 where
@@ -32,7 +33,7 @@ pub record FoundPair (g : Group) (link : chain.Link) (ks : List Key) (i j : ℕ)
   pub there : slice_get g.signatures i ≡ Some one
   pub key : Key
   pub key_there : slice_get ks j ≡ Some key
-  pub shows : Shown (link ∷ []) (set_link g link.records.datas (one, key)) ≡ finding_by g link t
+  pub shows : shown (link ∷ []) (set_link g link.records.datas (one, key)) ≡ finding_by g link t
 
 pub by_good : (g : Group) (link : chain.Link) (ks : List Key) (check : KeyCheck) (i j : ℕ) (t : Tried (Record × Key)) → IsCheck g ks check t → check.signature ≡ Some i → check.key ≡ Some j → FoundPair g link ks i j t
 by_good g link ks check i j (good p) is e f =
@@ -70,9 +71,14 @@ retyped rtype datas e h = subst (λ (n : ℕ). AreOf n datas) e h
 
 -- a group that a key has signed, by the links that were made
 pub shown_by : (group : Group) (keys : chain.Link) (r one : Record) (k other : Key) (links : List chain.Link) (last : chain.Link) → links ≡ keys ∷ [] → last ≡ set_link group keys.records.datas (r, k)
-    → r ≡ one → k ≡ other → Shown links last ≡ Shown (keys ∷ []) (set_link group keys.records.datas (one, other))
+    → r ≡ one → k ≡ other → shown links last ≡ shown (keys ∷ []) (set_link group keys.records.datas (one, other))
 shown_by group keys r one k other links last e f same key_same =
-    ap (λ (ls : List chain.Link). Shown ls last) e
-    ∙ (ap (λ (l : chain.Link). Shown (keys ∷ []) l) f
-    ∙ (ap (λ (x : Record). Shown (keys ∷ []) (set_link group keys.records.datas (x, k))) same
-    ∙ ap (λ (x : Key). Shown (keys ∷ []) (set_link group keys.records.datas (one, x))) key_same))
+    ap (λ (ls : List chain.Link). shown ls last) e
+    ∙ (ap (λ (l : chain.Link). shown (keys ∷ []) l) f
+    ∙ (ap (λ (x : Record). shown (keys ∷ []) (set_link group keys.records.datas (x, k))) same
+    ∙ ap (λ (x : Key). shown (keys ∷ []) (set_link group keys.records.datas (one, x))) key_same))
+
+-- the links of a group that is wanted are kept
+pub kept_shown : (b : Bool) (links : List chain.Link) (last : chain.Link) (f : Finding) → b ≡ true → shown links last ≡ f → Shown (Some (links, last)) ≡ kept b f
+kept_shown true links last f e h = ap (kept true) h
+kept_shown false links last f e h = absurd cc

@@ -1,5 +1,5 @@
 -- The verdict on a message, by what was found of its sections.
-use Rattle.std.proofs.Common.{◌≡◌, ℕ, Bool, true, false, List, [], ◌∷◌, ◌++◌, length, Option, Some, None, sym, ap, ◌∙◌, subst}
+use Rattle.std.proofs.Common.{◌≡◌, ℕ, Bool, true, false, List, [], ◌∷◌, ◌++◌, length, Option, Some, None, refl, sym, ap, ◌∙◌, subst}
 use Rattle.std.specs.Prelude.{◌+◌, ◌%◌, ◌^◌, Result, Ok, Err, IfOk}
 use Rattle.std.specs.List.{list_any}
 use Rattle.std.specs.Bool.{OnFalse}
@@ -7,7 +7,8 @@ use Rattle.dsec_spec.specs.Names.{Place}
 use Rattle.dsec_spec.specs.Records.{Record}
 use Rattle.dsec_spec.specs.Accepts.{Accepts}
 use Rattle.dsec_spec.specs.Outside.{Table}
-use Rattle.dsec_spec.specs.Groups.{groups_of}
+use Rattle.dsec_spec.specs.Groups.{Group, groups_of}
+use Rattle.dsec_spec.specs.Messages.{Question}
 use Rattle.dsec_wire.specs.declared.sections.Sections.{Sections}
 use Rattle.dsec_wire.specs.MessageSections.{sections_of}
 use Rattle.dsec_cause.specs.declared.cause.Cause.{Cause}
@@ -84,3 +85,9 @@ sound_at told accepts anchors others limits seconds t message view r same at h =
     sound_answer told accepts anchors limits seconds message view r
     (subst (λ (n : ℕ). JudgedAs told (with_replies accepts anchors (limits.max_bad_signatures + 1) n) message view r) at
     (subst (λ (records : List Record). JudgedAs told (with_replies accepts records (limits.max_bad_signatures + 1) t) message view r) same h))
+
+-- without one question there is no verdict
+pub not_one : (w : World) (message : List ℕ) (questions : List Question) (answers : List Group) (asked : ℕ) → (length questions ≡ 1 → ⊥) → verdict_on_questions w message questions answers asked ≡ Err errors.FormError
+not_one w message [] answers asked other = refl
+not_one w message (question ∷ []) answers asked other = absurd (other refl)
+not_one w message (question ∷ second ∷ questions) answers asked other = refl

@@ -21,9 +21,7 @@ use Rattle.dsec_wire.specs.declared.sections.Sections.{Sections}
 use Rattle.dsec_wire.specs.MessageSections.{sections_of, sections_and_place}
 use Rattle.dsec_cause.specs.declared.cause.Cause.{Cause}
 use Rattle.dsec_cause.specs.declared.cause.Cause.TheVariants.{NotBuilt}
-use Rattle.dsec_judge.specs.Findings.{World, keys_of, finding, set_link}
-use Rattle.dsec_judge.specs.declared.finding.Finding.{Finding}
-use Rattle.dsec_judge.specs.declared.finding.Finding.TheVariants.{Shown as shown, Insecure as insecure, Bogus as bogus, Indeterminate as indeterminate}
+use Rattle.dsec_judge.specs.Findings.{Finding, bogus, indeterminate, insecure, shown, World, keys_of, finding, set_link}
 use Rattle.dsec_judge.specs.Verdicts.{is_secure, is_bogus, Verdict, bogus_cause, asked_for, is_bare_alias, is_expanded, answered_by, answered_at, answered, no_error_in, is_answered_at_name, judgement, verdict_on_questions, verdict_by_causes, verdict_on_groups, verdict_on_sections, verdict}
 use Rattle.dsec_judge.proofs.AdmissionLaws.{after_those_failing}
 use Rattle.dsec_judge.proofs.FindingLaws.{IsShown, from_finding, shown_holds}

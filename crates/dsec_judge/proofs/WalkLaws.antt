@@ -8,11 +8,9 @@ use Rattle.dsec_spec.specs.Groups.{Group, firsts}
 use Rattle.dsec_spec.proofs.CanonicalNames.{same_place_decides}
 use Rattle.dsec_cause.specs.declared.cause.Cause.{Cause}
 use Rattle.dsec_group.proofs.FirstLaws.{firsts_more}
-use Rattle.dsec_judge.specs.Findings.{World, finding}
+use Rattle.dsec_judge.specs.Findings.{Finding, bogus, indeterminate, insecure, shown, World, finding}
 use Rattle.dsec_judge.specs.Asking.{with_place, with_island}
 use Rattle.dsec_judge.specs.Verdicts.{bogus_cause, ends_judging, judged_of}
-use Rattle.dsec_judge.specs.declared.finding.Finding.{Finding}
-use Rattle.dsec_judge.specs.declared.finding.Finding.TheVariants.{Shown as shown, Insecure as insecure, Bogus as bogus, Indeterminate as indeterminate}
 
 -- being the same place is an equality
 pub place_itself : (p : Place) → same_place p p ≡ true

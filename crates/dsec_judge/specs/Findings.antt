@@ -11,11 +11,10 @@ use Rattle.dsec_spec.specs.Groups.{Group, groups_of, set_in}
 use Rattle.dsec_spec.specs.Trying.{Tried, good, nothing, all_bad, too_many_bad, tried, pair_signs, checked}
 use Rattle.dsec_spec.specs.Islands.{looked_for_at, island, signers, target}
 use Rattle.dsec_spec.specs.Chain as chain
+pub use Rattle.dsec_judge.specs.KeyData.{says_key, keys_of, data_of}
 use Rattle.dsec_judge.specs.Admission.{Admitted, matching_at, cause_at, first_cause}
 use Rattle.dsec_judge.specs.declared.key_set.KeySet.{KeySet}
 use Rattle.dsec_judge.specs.declared.key_set.KeySet.TheVariants.{Held as held, Unheld as unheld}
-use Rattle.dsec_judge.specs.declared.finding.Finding.{Finding}
-use Rattle.dsec_judge.specs.declared.finding.Finding.TheVariants.{Shown as shown, Insecure as insecure, Bogus as bogus, Indeterminate as indeterminate}
 use Rattle.dsec_cause.specs.declared.cause.Cause.{Cause}
 use Rattle.dsec_cause.specs.declared.cause.Cause.TheVariants.{RrsigWithoutRrset, NoTrustAnchor, NoSignature, BadSignature, TooManyBadSignatures, TooManyBadSignaturesForDnskey, NoDnskeyForAnchor, NotBuilt}
 
@@ -28,19 +27,13 @@ pub record World : Type 0 where
   pub moment : ℕ
   pub replies : Place → Option (List ℕ)
 
--- whether DNSKEY data say this key
-abbrev pub says_key : Key → Option Key → Bool
-says_key key None = false
-says_key key (Some other) =
-    (other.flags == key.flags) && (other.protocol == key.protocol) && (other.algorithm == key.algorithm) && bytes_eq other.public_key key.public_key
-
--- the keys that DNSKEY data say
-abbrev pub keys_of : List (List ℕ) → List Key
-keys_of datas = filter_map key_of datas
-
--- the first DNSKEY data that say a key
-abbrev pub data_of : List (List ℕ) → Key → List ℕ
-data_of datas key = unwrap_or (find (λ rdata. says_key key (key_of rdata)) datas) []
+-- What is found of a group: that links show its set, its own link last; or that it is insecure or bogus, or that no anchor says anything of
+-- it, and why.
+pub data Finding : Type 0 where
+  shown : List chain.Link → chain.Link → Finding
+  insecure : Cause → Finding
+  bogus : Cause → Finding
+  indeterminate : Cause → Finding
 
 -- whether a group is the DNSKEY set of class IN at a place
 abbrev pub is_key_set_at : Place → Group → Bool

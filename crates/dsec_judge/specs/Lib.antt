@@ -1,4 +1,5 @@
 pub mod Admission
+pub mod KeyData
 pub mod Findings
 pub mod Verdicts
 pub mod PlainAnswers

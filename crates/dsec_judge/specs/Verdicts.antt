@@ -15,9 +15,7 @@ use Rattle.dsec_wire.specs.declared.sections.Sections.{Sections}
 use Rattle.dsec_wire.specs.MessageSections.{sections_of}
 use Rattle.dsec_cause.specs.declared.cause.Cause.{Cause}
 use Rattle.dsec_cause.specs.declared.cause.Cause.TheVariants.{NotBuilt}
-use Rattle.dsec_judge.specs.Findings.{World, finding, island_of}
-use Rattle.dsec_judge.specs.declared.finding.Finding.{Finding}
-use Rattle.dsec_judge.specs.declared.finding.Finding.TheVariants.{Shown as shown, Insecure as insecure, Bogus as bogus, Indeterminate as indeterminate}
+use Rattle.dsec_judge.specs.Findings.{World, Finding, shown, insecure, bogus, indeterminate, finding, island_of}
 use Rattle.dsec_judge.specs.declared.error.Error.{Error}
 use Rattle.dsec_judge.specs.declared.error.Error.TheVariants.{ParseError, FormError}
 

@@ -13,7 +13,7 @@ use crate::admission::admission;
 use dsec_cause::Cause;
 use dsec_crypto::Verifier;
 use dsec_group::{Group, NoMemo, Steps, Tries, try_all};
-use dsec_link::KeySearch;
+use dsec_link::{KeySearch, TaggedKey};
 use dsec_name::NoMemory;
 use dsec_number::Timestamp;
 use dsec_wire::{Dnskey, Record};
@@ -111,7 +111,7 @@ fn try_key<V: Verifier, L: Ledger>(
         alloc,
         group,
         group.owner(),
-        &[key],
+        &[TaggedKey::new(&key)],
         room,
         t,
         &mut NoMemo,

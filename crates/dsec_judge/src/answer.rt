@@ -1,6 +1,6 @@
 //! The verdict by what was found of the answer (RFC 4033 5, RFC 4035 4.3, 5).
 
-ghost use Rattle.std.specs.Prelude.{◌≡◌, ◌++◌, [], ◌∷◌, List, Option, ℕ, IfOk, find, map, position, true};
+ghost use Rattle.std.specs.Prelude.{◌≡◌, ◌++◌, [], ◌∷◌, List, Option, ℕ, IfOk, find, position, true};
 ghost use Rattle.std.specs.List.{list_any};
 ghost use Rattle.std.specs.Option.{option_map};
 ghost use Rattle.dsec_spec.specs.Answering.{is_at_question as is_at};
@@ -8,11 +8,11 @@ ghost use Rattle.dsec_spec.specs.Names.{Place};
 ghost use Rattle.dsec_link.specs.Links.{kind_view};
 ghost use Rattle.dsec_judge.specs.Anchored.{anchor_type as type_of_anchor, is_anchor_of, is_via};
 ghost use Rattle.dsec_judge.specs.Asking.{with_replies};
-ghost use Rattle.dsec_judge.specs.Findings.{finding};
+ghost use Rattle.dsec_judge.specs.Findings.{finding, shown};
+ghost use Rattle.dsec_judge.specs.Found.{answered_kept, kept, kept_at};
 ghost use Rattle.dsec_judge.specs.Judged.{reason, told_by, told_of};
 ghost use Rattle.dsec_judge.specs.Verdicts.{answered as answered_of, answered_by};
 ghost use Rattle.dsec_judge.specs.Parts.{told_bogus, told_judgement};
-ghost use Rattle.dsec_judge.specs.declared.finding.Finding.TheVariants.{Shown as shown};
 
 use crate::finding::Finding;
 use crate::question::{is_at_question, is_expanded};
@@ -39,36 +39,31 @@ pub(crate) fn bogus<V: Verifier>(cause: Cause, questions: usize) -> Verdict<V>
     }
 }
 
-/// The verdict by the first group at the question, where what was found of each group is given.
+/// The verdict by the first group at the question, where what was found of it is given.
 pub(crate) fn answered<V: Verifier>(
     anchors: &[Record],
     t: Timestamp,
     question: &Question,
     answers: &[Group],
-    found: Vec<Finding>,
+    found: Option<Finding>,
     questions: usize,
 ) -> Result<Verdict<V>, NoMemory>
-    requires { (room : ℕ) × (replies : Place → Option (List ℕ)) × (found.items ≡ map (finding (with_replies V.accepts anchors.now room t replies)) answers.now) }
-    ensures { IfOk result (λ verdict. (room : ℕ) (replies : Place → Option (List ℕ)) → found.items ≡ map (finding (with_replies V.accepts anchors.now room t replies)) answers.now
+    requires { (room : ℕ) × (replies : Place → Option (List ℕ)) × (found ≡ kept_at (with_replies V.accepts anchors.now room t replies) answers.now (position (is_at question.now) answers.now)) }
+    ensures { IfOk result (λ verdict. (room : ℕ) (replies : Place → Option (List ℕ)) → found ≡ kept_at (with_replies V.accepts anchors.now room t replies) answers.now (position (is_at question.now) answers.now)
         → told_by verdict.state verdict.ede (option_map (λ why. reason why.group why.shown) verdict.why) verdict.questions
         ≡ told_judgement (answered_of (with_replies V.accepts anchors.now room t replies) answers.now (position (is_at question.now) answers.now)) questions) }
 {
-    let mut found = found;
-    match position_at(question, answers) {
-        Some(index) => by_finding::<V>(
-            anchors,
-            t,
-            index,
-            &answers[index],
-            found.swap_remove(index),
-            questions,
-        ),
+    let Some(index) = position_at(question, answers) else {
+        return Ok(bogus(Cause::NotBuilt, questions));
+    };
+    match found {
+        Some(found) => by_finding::<V>(anchors, t, index, &answers[index], found, questions),
         None => Ok(bogus(Cause::NotBuilt, questions)),
     }
 }
 
 /// The index of the first group at the question.
-fn position_at(question: &Question, answers: &[Group]) -> Option<usize>
+pub(crate) fn position_at(question: &Question, answers: &[Group]) -> Option<usize>
     ensures { result ≡ position (is_at question.now) answers.now }
 {
     answers
@@ -85,12 +80,13 @@ fn by_finding<V: Verifier>(
     found: Finding,
     questions: usize,
 ) -> Result<Verdict<V>, NoMemory>
-    requires { (room : ℕ) × (replies : Place → Option (List ℕ)) × (found ≡ finding (with_replies V.accepts anchors.now room t replies) group.now) }
+    requires { (room : ℕ) × (replies : Place → Option (List ℕ)) × (found ≡ kept true (finding (with_replies V.accepts anchors.now room t replies) group.now)) }
     ensures { IfOk result (λ verdict. told_by verdict.state verdict.ede (option_map (λ why. reason why.group why.shown) verdict.why) verdict.questions
-        ≡ told_judgement (answered_by index group.now found) questions) }
+        ≡ told_judgement (answered_kept index group.now found) questions) }
 {
     let (state, cause) = match found {
-        Finding::Shown(links, last) => {
+        Finding::Shown(None) => return Ok(bogus(Cause::NotBuilt, questions)),
+        Finding::Shown(Some((links, last))) => {
             return by_links::<V>(anchors, t, index, group, links, last, questions);
         }
         Finding::Insecure(cause) => (ValidationState::Insecure, cause),

@@ -6,7 +6,7 @@ ghost use Rattle.dsec_spec.specs.Names.{is_below as below, place, Place};
 ghost use Rattle.dsec_spec.specs.Numbers.{DNSKEY};
 ghost use Rattle.dsec_judge.specs.Asking.{AreAsked, AreOf, bare, places_of, with_island, with_place, with_replies};
 ghost use Rattle.dsec_judge.specs.Findings.{finding, finding_from, finding_under};
-ghost use Rattle.dsec_judge.specs.Found.{OfKeys};
+ghost use Rattle.dsec_judge.specs.Found.{OfKeys, kept};
 ghost use Rattle.dsec_judge.specs.Judged.{risen_by};
 ghost use Rattle.dsec_judge.specs.declared.key_set.KeySet.TheVariants.{Held};
 ghost use Rattle.dsec_judge.specs.Verdicts.{island_asked};
@@ -14,6 +14,7 @@ ghost use Rattle.dsec_judge.specs.declared.asking.Asked as declared;
 
 use crate::asking::{Asked, key_set_at};
 use crate::finding::{Finding, by_keys};
+use crate::held_keys::HeldKeys;
 use crate::island::parent_for;
 use crate::key_set::KeySet;
 use crate::target::is_signed_at_island;
@@ -21,26 +22,26 @@ use dsec_anchors::island_owner;
 use dsec_cause::Cause;
 use dsec_crypto::Verifier;
 use dsec_group::{Group, Limits};
-use dsec_link::Link;
 use dsec_name::{Name, NoMemory};
 use dsec_number::Timestamp;
 use dsec_outside::Upstream;
 use dsec_wire::Record;
 use std::alloc::Global;
 
-/// What is found of a group; the key set of its island is asked for, where it wasn't yet.
+/// What is found of a group, with its links where it is wanted; the key set of its island is asked for, where it wasn't yet.
 pub(crate) fn find<V: Verifier, U: Upstream>(
     alloc: Global,
     anchors: &[Record],
     limits: &Limits,
     t: Timestamp,
     group: &Group,
+    is_wanted: bool,
     asked: &mut Vec<Asked>,
     upstream: &mut U,
 ) -> Result<Finding, NoMemory>
     requires { AreAsked (U.table upstream.old) (bare V.accepts anchors.now (limits.now.max_bad_signatures + 1) t) asked.old.items }
     ensures found { IfOk result (λ found. (replies : Place → Option (List ℕ)) → AreOf (with_replies V.accepts anchors.now (limits.now.max_bad_signatures + 1) t replies) asked.new.items
-        → found ≡ finding (with_replies V.accepts anchors.now (limits.now.max_bad_signatures + 1) t replies) group.now) }
+        → found ≡ kept is_wanted (finding (with_replies V.accepts anchors.now (limits.now.max_bad_signatures + 1) t replies) group.now)) }
     ensures asked { OnOk result (AreAsked (U.table upstream.old) (bare V.accepts anchors.now (limits.now.max_bad_signatures + 1) t) asked.new.items) }
     ensures places { OnOk result (places_of asked.new.items ≡ with_island (places_of asked.old.items) (island_asked anchors.now group.now)) }
     ensures grown { OnOk result ((more : List declared.Asked) × (asked.new.items ≡ asked.old.items ++ more)) }
@@ -58,7 +59,7 @@ pub(crate) fn find<V: Verifier, U: Upstream>(
     };
     match island_owner(anchors, group.owner(), group.rtype()) {
         Some(top) => find_under::<V, U>(
-            alloc, anchors, limits, t, group, from, top, asked, upstream,
+            alloc, anchors, limits, t, group, is_wanted, from, top, asked, upstream,
         ),
         None => Ok(Finding::Indeterminate(Cause::NoTrustAnchor)),
     }
@@ -71,6 +72,7 @@ fn find_under<V: Verifier, U: Upstream>(
     limits: &Limits,
     t: Timestamp,
     group: &Group,
+    is_wanted: bool,
     from: &Name,
     top: &Name,
     asked: &mut Vec<Asked>,
@@ -80,7 +82,7 @@ fn find_under<V: Verifier, U: Upstream>(
     requires from { place from.now ≡ looked_for_at (place group.now.owner) group.now.rtype }
     requires island { island anchors.now (place group.now.owner) group.now.rtype ≡ Some (place top.now) }
     ensures found { IfOk result (λ found. (replies : Place → Option (List ℕ)) → AreOf (with_replies V.accepts anchors.now (limits.now.max_bad_signatures + 1) t replies) asked.new.items
-        → found ≡ finding_from (with_replies V.accepts anchors.now (limits.now.max_bad_signatures + 1) t replies) group.now (Some (place top.now))) }
+        → found ≡ kept is_wanted (finding_from (with_replies V.accepts anchors.now (limits.now.max_bad_signatures + 1) t replies) group.now (Some (place top.now)))) }
     ensures asked { OnOk result (AreAsked (U.table upstream.old) (bare V.accepts anchors.now (limits.now.max_bad_signatures + 1) t) asked.new.items) }
     ensures places { OnOk result (places_of asked.new.items ≡ with_place (places_of asked.old.items) (place top.now)) }
     ensures grown { OnOk result ((more : List declared.Asked) × (asked.new.items ≡ asked.old.items ++ more)) }
@@ -90,7 +92,16 @@ fn find_under<V: Verifier, U: Upstream>(
 {
     let room = u16::from(limits.max_bad_signatures) + 1;
     let index = key_set_at::<V, U>(alloc, anchors, room, t, asked, top, upstream)?;
-    by_key_set::<V>(alloc, limits, t, group, from, top, &asked[index].keys)
+    by_key_set::<V>(
+        alloc,
+        limits,
+        t,
+        group,
+        is_wanted,
+        from,
+        top,
+        &asked[index].keys,
+    )
 }
 
 /// What is found of a group by the key set of its island.
@@ -99,38 +110,42 @@ fn by_key_set<V: Verifier>(
     limits: &Limits,
     t: Timestamp,
     group: &Group,
+    is_wanted: bool,
     from: &Name,
     top: &Name,
     keys: &KeySet,
 ) -> Result<Finding, NoMemory>
     requires typed { OfKeys keys.now }
     requires below { below (place from.now) (place top.now) ≡ true }
-    ensures { IfOk result (λ found. found ≡ finding_under (bare V.accepts [] (limits.now.max_bad_signatures + 1) t) group.now (place top.now)
-        (target (Some (place top.now)) (place from.now) (signers group.now)) keys.now) }
+    ensures { IfOk result (λ found. found ≡ kept is_wanted (finding_under (bare V.accepts [] (limits.now.max_bad_signatures + 1) t) group.now (place top.now)
+        (target (Some (place top.now)) (place from.now) (signers group.now)) keys.now)) }
 {
     match keys {
-        KeySet::Held(link) => by_link::<V>(alloc, limits, t, group, from, top, link),
+        KeySet::Held(keys) => by_held_keys::<V>(
+            alloc, limits, t, group, is_wanted, from, top, keys,
+        ),
         KeySet::Unheld(cause) => Ok(Finding::Bogus(*cause)),
     }
 }
 
 /// The same, by a held key set; zones below an anchor are left out.
-fn by_link<V: Verifier>(
+fn by_held_keys<V: Verifier>(
     alloc: Global,
     limits: &Limits,
     t: Timestamp,
     group: &Group,
+    is_wanted: bool,
     from: &Name,
     top: &Name,
-    keys: &Link,
+    keys: &HeldKeys,
 ) -> Result<Finding, NoMemory>
     requires typed { keys.now.records.rtype ≡ DNSKEY }
     requires below { below (place from.now) (place top.now) ≡ true }
-    ensures { IfOk result (λ found. found ≡ finding_under (bare V.accepts [] (limits.now.max_bad_signatures + 1) t) group.now (place top.now)
-        (target (Some (place top.now)) (place from.now) (signers group.now)) (Held keys.now)) }
+    ensures { IfOk result (λ found. found ≡ kept is_wanted (finding_under (bare V.accepts [] (limits.now.max_bad_signatures + 1) t) group.now (place top.now)
+        (target (Some (place top.now)) (place from.now) (signers group.now)) (Held keys.now))) }
 {
     if is_signed_at_island(alloc, group, from, top)? {
-        by_keys::<V>(alloc, group, top, keys, limits, t)
+        by_keys::<V>(alloc, group, top, keys, limits, t, is_wanted)
     } else {
         Ok(Finding::Bogus(Cause::NotBuilt))
     }

@@ -5,15 +5,17 @@ ghost use Rattle.dsec_spec.specs.Names.{place};
 ghost use Rattle.dsec_spec.specs.Numbers.{DNSKEY, RRSIG};
 ghost use Rattle.dsec_spec.specs.Records as records;
 ghost use Rattle.dsec_spec.specs.Trying.{checked};
+ghost use Rattle.dsec_link.specs.TaggedKeys.{tagged_view};
 ghost use Rattle.dsec_wire.specs.Views.{key_view};
-ghost use Rattle.dsec_judge.specs.Findings.{data_of, finding_by, keys_of as keys_in, set_link};
-ghost use Rattle.dsec_judge.specs.declared.finding.Finding.TheVariants.{Shown};
+ghost use Rattle.dsec_judge.specs.Findings.{data_of, finding_by, keys_of as keys_in, set_link, shown as shown_by};
+ghost use Rattle.dsec_judge.specs.Found.{kept};
 
-use crate::keys::{first_saying, keys_of};
+use crate::held_keys::HeldKeys;
+use crate::keys::first_saying;
 use dsec_cause::Cause;
 use dsec_crypto::Verifier;
-use dsec_group::{Group, Limits, NoMemo, Steps, check_with_keys, set_of};
-use dsec_link::{Link, LinkKind, Links};
+use dsec_group::{Group, Limits, NoMemo, Steps, check_with_tagged_keys, set_of};
+use dsec_link::{Link, LinkKind, Links, TaggedKey};
 use dsec_name::{Name, NoMemory, Octets};
 use dsec_number::Timestamp;
 use dsec_wire::{Data, Dnskey, Record};
@@ -24,8 +26,8 @@ use std::sync::ledger::{Blank, Ledger};
 /// What is found of a group of records.
 #[derive(Drop)]
 pub enum Finding {
-    /// Its set is secure: the links to its zone's keys, and its own.
-    Shown(Links, Link),
+    /// Its set is secure: the links to its zone's keys, and its own, where the group is wanted.
+    Shown(Option<(Links, Link)>),
     /// It is insecure, and why.
     Insecure(Cause),
     /// It is bogus, and why.
@@ -34,20 +36,22 @@ pub enum Finding {
     Indeterminate(Cause),
 }
 
-/// What is found of a group under a key set: its signatures are tried with the keys of the set.
+/// What is found of a group under a key set: its signatures are tried with the keys of the set. The links are made only where
+/// the group is wanted, for they hold a copy of the key set.
 pub(crate) fn by_keys<V: Verifier>(
     alloc: Global,
     group: &Group,
     top: &Name,
-    keys: &Link,
+    keys: &HeldKeys,
     limits: &Limits,
     t: Timestamp,
+    is_wanted: bool,
 ) -> Result<Finding, NoMemory>
     requires { keys.now.records.rtype ≡ DNSKEY }
-    ensures { IfOk result (λ found. found ≡ finding_by group.now keys.now
-        (checked V.accepts group.now (place top.now) (keys_in keys.now.records.datas) (limits.now.max_bad_signatures + 1) t)) }
+    ensures { IfOk result (λ found. found ≡ kept is_wanted (finding_by group.now keys.now
+        (checked V.accepts group.now (place top.now) (keys_in keys.now.records.datas) (limits.now.max_bad_signatures + 1) t))) }
 {
-    by_counted_keys::<V, Brand>(alloc, group, top, keys, limits, t, Blank::new(1))
+    by_counted_keys::<V, Brand>(alloc, group, top, keys, limits, t, is_wanted, Blank::new(1))
 }
 
 /// The same, on a ledger that the blank opens.
@@ -55,21 +59,22 @@ fn by_counted_keys<V: Verifier, L: Ledger>(
     alloc: Global,
     group: &Group,
     top: &Name,
-    keys: &Link,
+    keys: &HeldKeys,
     limits: &Limits,
     t: Timestamp,
+    is_wanted: bool,
     blank: Blank,
 ) -> Result<Finding, NoMemory>
     requires keys { keys.now.records.rtype ≡ DNSKEY }
     requires name { blank.name ≡ L.name }
     requires parts { blank.parts ≡ L.parts }
     requires shared { 0 < L.parts }
-    ensures { IfOk result (λ found. found ≡ finding_by group.now keys.now
-        (checked V.accepts group.now (place top.now) (keys_in keys.now.records.datas) (limits.now.max_bad_signatures + 1) t)) }
+    ensures { IfOk result (λ found. found ≡ kept is_wanted (finding_by group.now keys.now
+        (checked V.accepts group.now (place top.now) (keys_in keys.now.records.datas) (limits.now.max_bad_signatures + 1) t))) }
 {
     let mut steps = Steps::<L>::begin(blank);
-    let all = keys_of(alloc, keys.records().datas())?;
-    let check = check_with_keys::<V, L>(
+    let all = keys.keys(alloc)?;
+    let check = check_with_tagged_keys::<V, L>(
         alloc,
         group,
         top,
@@ -80,30 +85,42 @@ fn by_counted_keys<V: Verifier, L: Ledger>(
         &mut steps,
     )?;
     match (check.cause, check.signature, check.key) {
-        (None, Some(signature), Some(key)) => shown(alloc, group, keys, signature, &all, key),
+        (None, Some(signature), Some(key)) => {
+            shown(alloc, group, keys.link(), signature, &all, key, is_wanted)
+        }
         (Some(cause), _, _) => Ok(Finding::Bogus(cause)),
         _ => Ok(Finding::Bogus(Cause::NoSignature)),
     }
 }
 
-/// A group that the key at one index has signed by the signature at another.
+/// A group that the key at one index has signed by the signature at another; with its links where it is wanted.
 fn shown(
     alloc: Global,
     group: &Group,
     keys: &Link,
     signature: usize,
-    all: &[Dnskey<'_>],
+    all: &[TaggedKey<'_>],
     key: usize,
+    is_wanted: bool,
 ) -> Result<Finding, NoMemory>
     requires signature { signature < length group.now.signatures }
     requires key { key < length all.now }
     requires typed { keys.now.records.rtype ≡ DNSKEY }
     ensures { IfOk result (λ found. (one : records.Record) → (other : records.Key) → slice_get group.now.signatures signature ≡ Some one
-        → slice_get (map key_view all.now) key ≡ Some other → found ≡ Shown (keys.now ∷ []) (set_link group.now keys.now.records.datas (one, other))) }
+        → slice_get (map tagged_view all.now) key ≡ Some other → found ≡ kept is_wanted (shown_by (keys.now ∷ []) (set_link group.now keys.now.records.datas (one, other)))) }
 {
-    let last = own_link(alloc, group, keys, &group.sig_set()[signature], &all[key])?;
+    if !is_wanted {
+        return Ok(Finding::Shown(None));
+    }
+    let last = own_link(
+        alloc,
+        group,
+        keys,
+        &group.sig_set()[signature],
+        &all[key].key,
+    )?;
     let links = one_link(alloc, keys)?;
-    Ok(Finding::Shown(links, last))
+    Ok(Finding::Shown(Some((links, last))))
 }
 
 /// A link alone.

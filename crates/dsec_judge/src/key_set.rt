@@ -13,6 +13,7 @@ ghost use Rattle.dsec_judge.specs.Findings.{anchor_kind, is_key_set_at as key_se
 ghost use Rattle.dsec_judge.specs.declared.key_set.KeySet.TheVariants.{Held};
 
 use crate::admit::{AnchorTries, try_anchors};
+use crate::held_keys::HeldKeys;
 use crate::target::is_same;
 use dsec_cause::Cause;
 use dsec_crypto::Verifier;
@@ -27,8 +28,8 @@ use std::sync::ledger::Ledger;
 /// The DNSKEY set of an anchor's zone.
 #[derive(Drop)]
 pub enum KeySet {
-    /// A key that an anchor admits has signed the set: its link.
-    Held(Link),
+    /// A key that an anchor admits has signed the set: its link, with the tags of its keys.
+    Held(HeldKeys),
     /// It has no such signature, and why.
     Unheld(Cause),
 }
@@ -121,6 +122,7 @@ fn held(
     anchor: usize,
     key: usize,
 ) -> Result<KeySet, NoMemory>
+    requires typed { group.now.rtype ≡ DNSKEY }
     requires signature { signature < length group.now.signatures }
     requires anchor { anchor < length anchors.now }
     requires key { key < length group.now.records }
@@ -134,7 +136,7 @@ fn held(
         &anchors[anchor],
         &group.rr_set()[key],
     )?;
-    Ok(KeySet::Held(link))
+    Ok(KeySet::Held(HeldKeys::new(alloc, link)?))
 }
 
 /// The link of a key set that has a signature of a key that an anchor admits.

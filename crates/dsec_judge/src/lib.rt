@@ -9,6 +9,7 @@ mod error;
 mod find;
 mod finding;
 mod found;
+mod held_keys;
 mod island;
 mod judging;
 mod key_set;

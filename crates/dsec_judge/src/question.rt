@@ -1,23 +1,21 @@
 //! Which group answers a question, and which lead on from it, as tests (RFC 1034 3.6.2, RFC 4035 5.3.4, RFC 6672 2.2).
 
-ghost use Rattle.std.specs.Prelude.{◌≡◌, List, IfOk};
+ghost use Rattle.std.specs.Prelude.{◌≡◌, List};
 ghost use Rattle.std.specs.List.{list_any};
 ghost use Rattle.std.specs.Option.{option_map};
 ghost use Rattle.dsec_spec.specs.Answering.{is_alias_above as alias_above, is_alias_at as alias_at, is_at_question as at_question, leads_on as on};
 ghost use Rattle.dsec_spec.specs.Islands.{island, is_above};
 ghost use Rattle.dsec_spec.specs.Names.{place};
 ghost use Rattle.dsec_spec.specs.Records as records;
-ghost use Rattle.dsec_judge.specs.Verdicts.{is_bare_alias as bare_alias, is_expanded as expanded, no_error_in};
-ghost use Rattle.dsec_spec.specs.Messages.{rcode_of};
+ghost use Rattle.dsec_judge.specs.Verdicts.{is_bare_alias as bare_alias, is_expanded as expanded};
 
 use crate::target::{is_same, is_strictly_below};
 use dsec_anchors::island_owner;
 use dsec_group::Group;
 use dsec_link::Link;
-use dsec_name::{Name, NoMemory};
-use dsec_number::{Rcode, Rtype};
-use dsec_wire::{Message, Question, Record};
-use std::alloc::Global;
+use dsec_name::Name;
+use dsec_number::Rtype;
+use dsec_wire::{Question, Record};
 
 /// Whether a group is at the question's name, class and type.
 pub(crate) fn is_at_question(question: &Question, group: &Group) -> bool
@@ -40,13 +38,6 @@ pub(crate) fn is_expanded(group: &Group, link: &Link) -> bool
     ensures { result ≡ expanded group.now link.now }
 {
     link.rrsig().labels < group.owner().rrsig_label_count()
-}
-
-/// Whether a message says that there was no error.
-pub(crate) fn is_no_error(alloc: Global, message: &Message) -> Result<bool, NoMemory>
-    ensures { IfOk result (λ yes. yes ≡ no_error_in (rcode_of message.now)) }
-{
-    Ok(message.opt_rcode(alloc)? == Rcode::NOERROR)
 }
 
 /// Whether a group leads on from the question's name.

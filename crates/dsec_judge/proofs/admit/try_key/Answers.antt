@@ -21,7 +21,7 @@ returns-in-Good-clause-tries g c = λ anchor.
     let key = key_view c.in-Some.key in
     let b = from_bind (slice_get group.records c.args.index) (λ r. key_of r.rdata) key (sym c.key_at.ensures ∙ ap (option_map key_view) c.in-Some.is) in
     let h = subst (λ (n : Labels). AreTries group.signatures (key ∷ []) (Good c.in-Good.signature c.in-Good.field-1) (pair_trial accepts group (place n) c.args.t c.args.room group.signatures (key ∷ []))) c.owner.ensures
-    (subst (λ r. AreTries group.signatures (key ∷ []) r (pair_trial accepts group (place c.owner.result.now) c.args.t c.args.room group.signatures (key ∷ []))) c.in-Good.is c.in_ok-signature.ensures.tries) in
+    (subst (λ r. AreTries group.signatures (key ∷ []) r (pair_trial accepts group (place c.owner.result.now) c.args.t c.args.room group.signatures (key ∷ []))) c.in-Good.is (rw c.new.ensures at c.in_ok-signature.ensures.tries)) in
     key_found accepts group c.args.t c.args.room c.args.index c.in-Good.signature b.0 key anchor h.0 h.1 b.1 b.2 h.2 h.4
 
 pub returns-in-Left-clause-tries : goal.returns-in-Left-clause-tries
@@ -31,5 +31,5 @@ returns-in-Left-clause-tries g c = λ anchor.
     let key = key_view c.in-Some.key in
     let b = from_bind (slice_get group.records c.args.index) (λ r. key_of r.rdata) key (sym c.key_at.ensures ∙ ap (option_map key_view) c.in-Some.is) in
     let h = subst (λ (n : Labels). pair_trial accepts group (place n) c.args.t c.args.room group.signatures (key ∷ []) ≡ left c.in-Left.more) c.owner.ensures
-    (subst (λ r. AreTries group.signatures (key ∷ []) r (pair_trial accepts group (place c.owner.result.now) c.args.t c.args.room group.signatures (key ∷ []))) c.in-Left.is c.in_ok-signature.ensures.tries) in
+    (subst (λ r. AreTries group.signatures (key ∷ []) r (pair_trial accepts group (place c.owner.result.now) c.args.t c.args.room group.signatures (key ∷ []))) c.in-Left.is (rw c.new.ensures at c.in_ok-signature.ensures.tries)) in
     key_left accepts group c.args.t c.args.room c.args.index c.in-Left.more b.0 key anchor c.cause_after.result b.1 b.2 h c.cause_after.ensures

@@ -27,7 +27,7 @@ returns-clause-found g c =
     let same : there.0 ≡ c.index.result.now = same_there asked c.in_ok-index.index there.0 c.index.result.now there.1 here in
     let at : place c.index.result.now.top ≡ place c.args.top.now = ap (λ (o : declared.Asked). place o.top) (sym same) ∙ there.2 in
     if_ok c.by_key_set.result
-    (λ found h replies are. found_under g.V.Verifier.accepts c.args.anchors.now (c.args.limits.now.max_bad_signatures + 1) c.args.t replies c.args.group.now (place c.args.from.now) (place c.args.top.now) asked c.in_ok-index.index c.index.result.now found h c.requires.from here at are)
+    (λ found h replies are. found_under g.V.Verifier.accepts c.args.anchors.now (c.args.limits.now.max_bad_signatures + 1) c.args.t replies c.args.group.now (place c.args.from.now) (place c.args.top.now) asked c.in_ok-index.index c.index.result.now c.args.is_wanted found h c.requires.from here at are)
     c.by_key_set.ensures
 
 pub returns-clause-asked : goal.returns-clause-asked

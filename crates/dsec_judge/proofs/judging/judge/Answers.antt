@@ -11,5 +11,5 @@ returns-in-Ok-clause-sound g c =
 
 pub returns-in-Err-ParseError-clause-judged : goal.returns-in-Err-ParseError-clause-judged
 returns-in-Err-ParseError-clause-judged g c =
-    let none = subst (λ e. OnFalse (wants_memory e) (sections_of c.args.message.now ≡ None)) c.in-Err-ParseError.field-0-is c.in-Err-ParseError.ensures in
+    let none = subst (λ e. OnFalse (wants_memory e) (sections_of c.args.message.now ≡ None)) c.in-Err-ParseError.field-0-is c.in-Err-ParseError.ensures.sections in
     judged_unread (g.U.Upstream.table c.args.upstream.now) g.V.Verifier.accepts c.args.anchors.now (c.args.limits.now.max_bad_signatures + 1) (c.args.now % 2 ^ 32) c.args.message.now none
