@@ -31,9 +31,14 @@ def signature(rtype, labels, records, tag=TAG, good=True):
     return head + (hashlib.sha256(KEY + head + b"".join(records)).digest() if good else bytes(32))
 
 
-def message(name, rtype, answers):
-    header = number(0, 2) + number(0x8400, 2) + number(1, 2) + number(len(answers), 2) + bytes(4)
-    return header + name + number(rtype, 2) + number(1, 2) + b"".join(answers)
+def message(name, rtype, answers, additionals=()):
+    header = (number(0, 2) + number(0x8400, 2) + number(1, 2) + number(len(answers), 2) + number(0, 2)
+              + number(len(additionals), 2))
+    return header + name + number(rtype, 2) + number(1, 2) + b"".join(answers) + b"".join(additionals)
+
+
+# An OPT record for 1232 octets with DO, as replies to questions with DO have one (RFC 6891 6.1.2, RFC 3225 3).
+OPT = b"\0" + number(41, 2) + number(1232, 2) + number(0x8000, 4) + number(0, 2)
 
 
 def keys():
@@ -41,10 +46,10 @@ def keys():
     return message(ZONE, 48, [own, record(ZONE, 46, signature(48, 1, [own]))])
 
 
-def small():
+def small(additionals=()):
     """One address and its signature."""
     own = record(WWW, 1, bytes([192, 0, 2, 1]))
-    return message(WWW, 1, [own, record(WWW, 46, signature(1, 2, [own]))])
+    return message(WWW, 1, [own, record(WWW, 46, signature(1, 2, [own]))], additionals)
 
 
 def long():
@@ -58,10 +63,30 @@ def long():
                    + [record(owner, 46, data) for data in signatures])
 
 
-def write_script(path, octets, count):
+def many_keys(count):
+    """The key set with so many more keys, which have signed nothing; owners are pointers."""
+    datas = [KEY] + [bytes.fromhex("01010308") + number(other, 3) for other in range(count)]
+    whole = [record(ZONE, 48, data) for data in sorted(datas)]
+    answers = [record(b"\xc0\x0c", 48, data) for data in datas]
+    return message(ZONE, 48, answers + [record(b"\xc0\x0c", 46, signature(48, 1, whole))])
+
+
+def many_groups(count):
+    """So many names with an address and its good signature each; the first is asked for."""
+    answers = []
+    for index in range(count):
+        label = b"\x03" + number(0x616161 + 256 * (index // 26 % 26) + index % 26 + 65536 * (index // 676), 3)
+        own = record(label + ZONE, 1, bytes([192, 0, 2, 1]))
+        pointer = b"\xc0\x10"
+        answers.append(record(label + pointer, 1, bytes([192, 0, 2, 1])))
+        answers.append(record(label + pointer, 46, signature(1, 2, [own])))
+    return message(b"\x03aaa" + ZONE, 1, answers)
+
+
+def write_script(path, octets, count, reply=None):
     with open(path, "w") as out:
         out.write("now 500\nanchor example. 3600 IN DNSKEY 257 3 13 AQI=\n")
-        out.write("reply example. DNSKEY %s\n" % keys().hex())
+        out.write("reply example. DNSKEY %s\n" % (reply or keys()).hex())
         for _ in range(count):
             out.write("message %s\n" % octets.hex())
 
@@ -94,6 +119,36 @@ def outcomes(program, source):
     return out.count(b" Secure - ")
 
 
+def measure(program, script, yard, name, octets, count, before):
+    """Measures a script of so many messages; gives the time and the count."""
+    write_script(script, octets, count)
+    size = os.path.getsize(script)
+    if outcomes(program, script) != count:
+        sys.exit("not all messages are secure")
+    time, noise = cpu([program, "validate"], script)
+    most = memory([program, "validate"], script)
+    growth = "" if before is None else ", %.2f of linear growth" % (time / before[0] / (count / before[1]))
+    print("%s, %d messages, %d octets: %.3f s CPU (noise %.2f), %.1f us a message, %.2f of the yardstick, "
+          "%.1f MiB, %.1f of the script%s" % (name, count, size, time, noise, 1e6 * time / count, time / yard,
+                                              most / (1 << 20), most / size, growth))
+    return time, count
+
+
+def measure_hostile(program, script):
+    """One message of many good groups under a reply of many keys: its memory against the bound."""
+    octets, reply = many_groups(601), many_keys(3000)
+    write_script(script, octets, 1, reply)
+    if outcomes(program, script) != 1:
+        sys.exit("the hostile message is not secure")
+    time, noise = cpu([program, "validate"], script)
+    most = memory([program, "validate"], script)
+    bound = 16 * (len(octets) + len(reply)) + 4000000
+    print("hostile, 601 good groups in %d octets under 3001 keys in %d: %.3f s CPU (noise %.2f), %d octets of memory, "
+          "bound %d" % (len(octets), len(reply), time, noise, most, bound))
+    if bound < most:
+        sys.exit("the hostile message takes more memory than the bound")
+
+
 def main(program):
     with tempfile.TemporaryDirectory() as folder:
         zeros = os.path.join(folder, "zeros")
@@ -103,20 +158,12 @@ def main(program):
         print("yardstick: SHA-256 of 100 MiB in %.3f s CPU (noise %.2f)" % (yard, noise))
         script = os.path.join(folder, "script")
         for name, octets, counts in (("small", small(), (1000, 10000, 30000)),
+                                     ("small with OPT", small([OPT]), (1000, 10000, 30000)),
                                      ("long", long(), (1000, 10000, 14000))):
             before = None
             for count in counts:
-                write_script(script, octets, count)
-                size = os.path.getsize(script)
-                if outcomes(program, script) != count:
-                    sys.exit("not all messages are secure")
-                time, noise = cpu([program, "validate"], script)
-                most = memory([program, "validate"], script)
-                growth = "" if before is None else ", %.2f of linear growth" % (time / before[0] / (count / before[1]))
-                print("%s, %d messages, %d octets: %.3f s CPU (noise %.2f), %.1f us a message, %.2f of the yardstick, "
-                      "%.1f MiB, %.1f of the script%s" % (name, count, size, time, noise, 1e6 * time / count, time / yard,
-                                                          most / (1 << 20), most / size, growth))
-                before = time, count
+                before = measure(program, script, yard, name, octets, count, before)
+        measure_hostile(program, script)
 
 
 main(sys.argv[1])
