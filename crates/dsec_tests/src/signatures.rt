@@ -2,10 +2,10 @@
 
 use crate::lines::{ADDRESS, GOOD, KEY, KEY_SIGNATURE, name, record};
 use dsec_crypto::{AlgorithmError, StandIn, TableVerifier, Verifier};
-use dsec_link::{RecordSet, RrsigExt, is_signed, signed_bytes};
+use dsec_link::{RrsigExt, TaggedKey, matches, may_sign, signed_bytes};
 use dsec_name::{Name, NoMemory};
 use dsec_number::{Rtype, Timestamp};
-use dsec_wire::{Record, Rrsig};
+use dsec_wire::{Dnskey, Record, Rrsig};
 use std::alloc::Global;
 use std::process::Abort;
 
@@ -48,28 +48,52 @@ const ROWS: [Row; 4] = [
     ("a.z.w.example. 60 IN MX 1 AI.Example.", OVER_EXCHANGE, EXCHANGE_OCTETS, Some("w.example.")),
 ];
 
-/// Whether these octets are signed of a record, by the call for sets.
-fn are_of_set(alloc: Global, rrsig: &Rrsig<'_>, record: &Record, want: &[u8]) -> bool {
-    let Ok(set) = RecordSet::from_records(alloc, record, &[]) else {
-        return false;
-    };
-    match signed_bytes(alloc, rrsig, &set) {
+/// What is signed of a record, by the call that leaves it as it is.
+fn bytes_of(alloc: Global, rrsig: &Rrsig<'_>, record: Record) -> Result<Vec<u8>, NoMemory> {
+    let records = [record];
+    let one = &records[0];
+    let (owner, class, rtype) = (one.owner(), one.class(), one.rtype());
+    signed_bytes(alloc, rrsig, owner, class, rtype, &records)
+}
+
+/// Whether these octets are signed of a record, by that call.
+fn are_of_record(alloc: Global, rrsig: &Rrsig<'_>, record: Record, want: &[u8]) -> bool {
+    match bytes_of(alloc, rrsig, record) {
         Ok(octets) => octets.as_slice() == want,
         Err(NoMemory) => false,
     }
 }
 
-/// The same by the call for records.
+/// The same by the call that brings records into order.
 fn are_of_records(alloc: Global, rrsig: &Rrsig<'_>, record: Record, want: &[u8]) -> bool {
     let mut records = [record];
     let mut buf = Vec::new(alloc);
     rrsig.signed_data(alloc, &mut buf, &mut records).is_ok() && buf.as_slice() == want
 }
 
+/// Whether both calls say so.
+fn are_signed(alloc: Global, rrsig: &Rrsig<'_>, text: &str, want: &[u8]) -> bool {
+    let (Some(one), Some(again)) = (record(alloc, text), record(alloc, text)) else {
+        return false;
+    };
+    are_of_record(alloc, rrsig, one, want) && are_of_records(alloc, rrsig, again, want)
+}
+
+fn is_name(alloc: Global, found: &Name, want: &str) -> bool {
+    match name(alloc, want) {
+        Some(want) => *found == want,
+        None => false,
+    }
+}
+
 /// Whether this is the closest encloser.
-fn has_encloser(alloc: Global, rrsig: &Rrsig<'_>, record: &Record, want: &Option<Name>) -> bool {
+fn has_encloser(alloc: Global, rrsig: &Rrsig<'_>, record: &Record, want: Option<&str>) -> bool {
     match rrsig.wildcard_closest_encloser(alloc, record) {
-        Ok(found) => found == *want,
+        Ok(Some(found)) => match want {
+            Some(want) => is_name(alloc, &found, want),
+            None => false,
+        },
+        Ok(None) => want.is_none(),
         Err(NoMemory) => false,
     }
 }
@@ -81,13 +105,7 @@ fn row_holds(alloc: Global, row: &Row) -> bool {
     let Some(rrsig) = made.rdata().rrsig() else {
         return false;
     };
-    let encloser = match row.3 {
-        Some(text) => name(alloc, text),
-        None => None,
-    };
-    has_encloser(alloc, &rrsig, &record, &encloser)
-        && are_of_set(alloc, &rrsig, &record, row.2)
-        && are_of_records(alloc, &rrsig, record, row.2)
+    has_encloser(alloc, &rrsig, &record, row.3) && are_signed(alloc, &rrsig, row.0, row.2)
 }
 
 fn assert_rows(rt: &impl Abort, alloc: Global, rows: &[Row]) {
@@ -123,24 +141,30 @@ fn are_in_order(alloc: Global, rrsig: &Rrsig<'_>, late: Record, early: Record) -
         && has_data(&records[1], b"\xc0\x00\x02\x09")
 }
 
-fn orders(alloc: Global) -> Option<bool> {
-    let late = record(alloc, "www.example. 60 IN A 192.0.2.9")?;
-    let early = record(alloc, ADDRESS)?;
-    let made = record(alloc, GOOD)?;
-    let Some(rrsig) = made.rdata().rrsig() else {
-        return None;
+fn orders(alloc: Global) -> bool {
+    let (Some(late), Some(early), Some(made)) = (
+        record(alloc, "www.example. 60 IN A 192.0.2.9"),
+        record(alloc, ADDRESS),
+        record(alloc, GOOD),
+    ) else {
+        return false;
     };
-    Some(are_in_order(alloc, &rrsig, late, early))
+    match made.rdata().rrsig() {
+        Some(rrsig) => are_in_order(alloc, &rrsig, late, early),
+        None => false,
+    }
 }
 
 #[test]
 fn records_come_into_order(rt: HostRuntime) {
-    assert!(rt; orders(rt.alloc()) == Some(true));
+    assert!(rt; orders(rt.alloc()));
 }
 
 /// A key, a signature, a moment, and whether the signature counts as the key's over the address.
+type Counts = (&'static str, &'static str, u32, bool);
+
 #[rattlefmt::skip]
-const COUNTS: [(&str, &str, u32, bool); 5] = [
+const COUNTS: [Counts; 5] = [
     (KEY, GOOD, 500, true),
     (KEY, GOOD, 1000, true),
     (KEY, GOOD, 1001, false),
@@ -148,30 +172,67 @@ const COUNTS: [(&str, &str, u32, bool); 5] = [
     ("example. 60 IN DNSKEY 1 3 13 AQI=", "www.example. 60 IN RRSIG \\# 59 00010d0200000e10000003e8000000000410074578616d706c65005740ff5d596306bfe2c5c7bd74ece6c7082af619d51f42ffbb83f974b9ca9083", 500, false),
 ];
 
-fn counts<V: Verifier>(alloc: Global, key: &str, signature: &str, seconds: u32) -> Option<bool> {
-    let address = record(alloc, ADDRESS)?;
-    let key = record(alloc, key)?;
-    let signature = record(alloc, signature)?;
-    let zone = name(alloc, "Example.")?;
-    let Some(rrsig) = signature.rdata().rrsig() else {
-        return None;
-    };
-    let Some(dnskey) = key.rdata().dnskey() else {
-        return None;
-    };
-    let Ok(set) = RecordSet::from_records(alloc, &address, &[]) else {
-        return None;
-    };
-    let t = Timestamp::from_int(seconds);
-    match is_signed::<V>(alloc, &set, &rrsig, &dnskey, &zone, t) {
-        Ok(yes) => Some(yes),
-        Err(NoMemory) => None,
+/// Whether the tests before the verifier's pass.
+fn fits(zone: &Name, address: &Record, rrsig: &Rrsig<'_>, key: &Dnskey<'_>, seconds: u32) -> bool {
+    let (owner, rtype, t) = (
+        address.owner(),
+        address.rtype(),
+        Timestamp::from_int(seconds),
+    );
+    may_sign(owner, rtype, rrsig, key, zone, t) && matches(rrsig, &TaggedKey::new(key), zone)
+}
+
+/// Whether the verifier accepts the signature over the address.
+fn is_accepted<V: Verifier>(
+    alloc: Global,
+    address: Record,
+    rrsig: &Rrsig<'_>,
+    key: &Dnskey<'_>,
+) -> bool {
+    match bytes_of(alloc, rrsig, address) {
+        Ok(octets) => rrsig.verify_signed_data::<V>(key, &octets).is_ok(),
+        Err(NoMemory) => false,
     }
 }
 
-fn assert_counts<V: Verifier>(rt: &impl Abort, alloc: Global, rows: &[(&str, &str, u32, bool)]) {
-    for (key, signature, seconds, want) in rows {
-        assert!(rt; counts::<V>(alloc, key, signature, *seconds) == Some(*want));
+/// Whether the address counts as signed at the moment by all tests, one by one.
+fn is_counted<V: Verifier>(
+    alloc: Global,
+    address: Record,
+    rrsig: &Rrsig<'_>,
+    key: &Dnskey<'_>,
+    seconds: u32,
+) -> bool {
+    match name(alloc, "Example.") {
+        Some(zone) => {
+            fits(&zone, &address, rrsig, key, seconds)
+                && is_accepted::<V>(alloc, address, rrsig, key)
+        }
+        None => false,
+    }
+}
+
+/// Whether the signature counts at the moment, or doesn't.
+fn counts<V: Verifier>(alloc: Global, row: &Counts) -> bool {
+    let (key, signature, seconds, want) = *row;
+    let (Some(address), Some(key), Some(made)) = (
+        record(alloc, ADDRESS),
+        record(alloc, key),
+        record(alloc, signature),
+    ) else {
+        return false;
+    };
+    match (made.rdata().rrsig(), key.rdata().dnskey()) {
+        (Some(rrsig), Some(key)) => {
+            is_counted::<V>(alloc, address, &rrsig, &key, seconds) == want
+        }
+        _ => false,
+    }
+}
+
+fn assert_counts<V: Verifier>(rt: &impl Abort, alloc: Global, rows: &[Counts]) {
+    for row in rows {
+        assert!(rt; counts::<V>(alloc, row));
     }
 }
 
