@@ -90,8 +90,18 @@ fn says_dnskey(key: &Dnskey<'_>) -> bool {
 }
 
 fn says_rrsig(alloc: Global, rrsig: &Rrsig<'_>) -> bool {
-    let signer = is(alloc, rrsig.signer_name, "z.example.");
-    signer && rrsig.key_tag == 4660 && rrsig.signature == [0xa1, 0xb2, 0xc3, 0xd4].as_slice()
+    let numbers = (
+        rrsig.type_covered.to_int(),
+        rrsig.algorithm.to_int(),
+        rrsig.labels,
+    );
+    let times = (rrsig.expiration.to_int(), rrsig.inception.to_int());
+    is(alloc, rrsig.signer_name, "z.example.")
+        && numbers == (1, 13, 2)
+        && rrsig.original_ttl.as_secs() == 3600
+        && times == (0x6592_0080, 0x6567_d700)
+        && rrsig.key_tag == 4660
+        && rrsig.signature == [0xa1, 0xb2, 0xc3, 0xd4].as_slice()
 }
 
 fn says_nsec(alloc: Global, nsec: &Nsec<'_>) -> bool {
