@@ -34,6 +34,7 @@ fn main(rt: HostRuntime) -> ExitCode {
     let mut source = Reading {
         inner: rt.stdin(),
         faults: 0,
+        ended: false,
     };
     let mut sink = Writing {
         inner: rt.stdout(),

@@ -80,6 +80,7 @@ fn a_read_that_fails(rt: HostRuntime) {
         failing: &[1],
         calls: 0,
         faults: 0,
+        ended: false,
     };
     let read = TrustAnchors::from_reader(rt.alloc(), &mut source);
     assert!(rt; read.err() == Some(AnchorError::ReadError) && source.faults == 1);

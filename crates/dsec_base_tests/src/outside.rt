@@ -29,10 +29,12 @@ fn reads_but(alloc: Global, failing: u64, want: Option<&[u8]>, calls: u64) -> bo
         failing: &[failing],
         calls: 0,
         faults: 0,
+        ended: false,
     };
     let read = read_all(alloc, &mut source);
     let faults = if want.is_none() { 1 } else { 0 };
-    source.faults == faults && source.calls == calls && is_read(read, want)
+    let is_counted = source.faults == faults && source.calls == calls;
+    is_counted && is_read(read, want) && source.ended == want.is_some()
 }
 
 #[test]
@@ -95,12 +97,14 @@ fn readers_of_std(rt: HostRuntime) {
     let mut source = Reading {
         inner: Cursor::new(b"octets".as_slice()),
         faults: 0,
+        ended: false,
     };
     let mut front = [0; 2];
     let count = source.read(&mut front);
     assert!(rt; count == Ok(2) && front == *b"oc");
+    assert!(rt; !source.ended);
     let rest = read_all(rt.alloc(), &mut source);
-    assert!(rt; is_read(rest, Some(b"tets")) && source.faults == 0);
+    assert!(rt; is_read(rest, Some(b"tets")) && source.faults == 0 && source.ended);
 }
 
 #[test]

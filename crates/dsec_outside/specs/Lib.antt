@@ -1,3 +1,4 @@
 pub mod Replies
 pub mod Limit
 pub mod Faults
+pub mod Ends

@@ -1,9 +1,10 @@
 //! Sources and sinks in memory: those that never fail by themselves, and those whose calls of given numbers fail.
 
-ghost use Rattle.std.specs.Prelude.{◌≡◌, ◌<◌, ◌≤◌, ◌↔◌, ◌⊎◌, [], Some, Contains, IfOk, IsErr, length, min};
+ghost use Rattle.std.specs.Prelude.{◌≡◌, ◌<◌, ◌≤◌, ◌↔◌, ◌⊎◌, ◌||◌, [], true, Some, Contains, IfOk, IsErr, length, min};
 ghost use Rattle.std.specs.Io.{ReadsAtMost};
 ghost use Rattle.std.specs.Io.KnownBytes.{ReadConsumes, WriteAppends};
 ghost use Rattle.dsec_spec.specs.Outside.{HasCause, risen};
+ghost use Rattle.dsec_outside.specs.Ends.{tells_end};
 ghost use Rattle.dsec_outside.specs.Faults.{CountsFault};
 
 use crate::sink::Sink;
@@ -23,6 +24,9 @@ impl<'a> Source for OctetsSource<'a> {
 
     ghost faults = { λ _. 0 };
 
+    // No read fails, so that none of them is one behind the end needs no telling.
+    ghost ended = { λ _. true };
+
     fn read(&mut self, buffer: &mut [u8]) -> Result<usize, Failed> {
         self.rest.read(buffer).map_err(|_| Failed)
     }
@@ -39,6 +43,8 @@ pub struct FailingSource<'a> {
     pub calls: u64,
     /// How many of them failed: a count that stays at 2^64 - 1.
     pub faults: u64,
+    /// Whether one of them told the end.
+    pub ended: bool,
 }
 
 impl<'a> Source for FailingSource<'a> {
@@ -46,11 +52,14 @@ impl<'a> Source for FailingSource<'a> {
 
     ghost faults = { λ source. source.faults };
 
+    ghost ended = { λ source. source.ended };
+
     fn read(&mut self, buffer: &mut [u8]) -> Result<usize, Failed>
         ensures bound { ReadsAtMost result buffer.new }
         ensures octets { ReadConsumes (Some self.old.rest.now) (Some self.new.rest.now) result buffer.new }
         ensures cause { HasCause self.old.faults self.new.faults result }
         ensures counts { CountsFault self.old.faults self.new.faults result }
+        ensures end { self.new.ended ≡ (self.old.ended || tells_end result buffer.new) }
         ensures as_listed { IsErr result ↔ Contains self.old.failing.now self.old.calls }
         ensures counted { self.new.calls ≡ risen self.old.calls }
         ensures same_list { self.new.failing.now ≡ self.old.failing.now }
@@ -59,6 +68,7 @@ impl<'a> Source for FailingSource<'a> {
         self.calls = self.calls.saturating_add(1);
         if !fails {
             if let Ok(count) = self.rest.read(buffer) {
+                self.ended = self.ended || (count == 0 && !buffer.is_empty());
                 return Ok(count);
             }
         }

@@ -12,6 +12,8 @@ pub struct Reading<R> {
     pub inner: R,
     /// How many reads failed: a count that stays at 2^64 - 1.
     pub faults: u64,
+    /// Whether a read told the end.
+    pub ended: bool,
 }
 
 impl<R: Read> Source for Reading<R> {
@@ -19,9 +21,14 @@ impl<R: Read> Source for Reading<R> {
 
     ghost faults = { λ source. source.faults };
 
+    ghost ended = { λ source. source.ended };
+
     fn read(&mut self, buffer: &mut [u8]) -> Result<usize, Failed> {
         match self.inner.read(buffer) {
-            Ok(count) => Ok(count),
+            Ok(count) => {
+                self.ended = self.ended || (count == 0 && !buffer.is_empty());
+                Ok(count)
+            }
             Err(_) => {
                 self.faults = self.faults.saturating_add(1);
                 Err(Failed)

@@ -3,6 +3,7 @@
 ghost use Rattle.std.specs.Prelude.{◌≡◌, ◌+◌, ◌≤◌, length, IfOk, IsErrOf, OnErr, OnOk};
 ghost use Rattle.std.specs.Io.KnownBytes.{Appends, Consumes, IsAtEnd};
 ghost use Rattle.dsec_spec.specs.Outside.{Rose, SentFront};
+ghost use Rattle.dsec_outside.specs.Ends.{TakesAtMost};
 ghost use Rattle.dsec_outside.specs.Faults.{CountsFault, CountsReads};
 ghost use Rattle.dsec_outside.specs.Limit.{limit};
 ghost use Rattle.dsec_outside.specs.declared.whole.Stop.TheVariants.{Memory};
@@ -45,7 +46,7 @@ impl<T: Drop> From<AllocFailed<T>> for Stop {
     }
 }
 
-/// All octets of the source up to its end, or more than `LIMIT` of them where it has more. After an error
+/// All octets of the source up to its end, or one more than `LIMIT` of them where it has more. After an error
 /// the octets that were read are lost.
 pub fn read_all<S: Source>(alloc: Global, source: &mut S) -> Result<Vec<u8>, Stop>
     ensures later { S.faults source.old ≤ S.faults source.new }
@@ -53,12 +54,15 @@ pub fn read_all<S: Source>(alloc: Global, source: &mut S) -> Result<Vec<u8>, Sto
     ensures counts { CountsReads (S.faults source.old) (S.faults source.new) result }
     ensures taken { IfOk result (λ all. Consumes (S.left source.old) (S.left source.new) all.items) }
     ensures whole { IfOk result (λ all. length all.items ≤ limit → IsAtEnd (S.left source.new)) }
-    ensures bound { IfOk result (λ all. length all.items ≤ limit + PIECE) }
+    ensures bound { IfOk result (λ all. length all.items ≤ limit + 1) }
+    ensures within { TakesAtMost (limit + 1) (S.left source.old) (S.left source.new) }
+    ensures ended { IsErrOf result Stop.Read → S.ended source.new ≡ S.ended source.old }
 {
     let mut all = Vec::new(alloc);
     let mut piece = [0u8; PIECE];
     while all.len() <= LIMIT {
-        let Ok(count) = source.read(&mut piece) else {
+        let room = PIECE.min(LIMIT + 1 - all.len());
+        let Ok(count) = source.read(&mut piece[..room]) else {
             return Err(Stop::Read);
         };
         if count == 0 {

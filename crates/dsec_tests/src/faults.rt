@@ -41,6 +41,7 @@ fn read(alloc: Global, words: &[String], source: &[u8], failing: u64) -> (Vec<u8
         failing: &failing,
         calls: 0,
         faults: 0,
+        ended: false,
     };
     let status = run(alloc, words, &mut source, &mut sink);
     (sink.octets, status, source.faults)

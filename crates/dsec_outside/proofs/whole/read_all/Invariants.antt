@@ -5,7 +5,8 @@ use Rattle.dsec_outside.proofs.whole.read_all.Given as goal
 abbrev pub invariant-loop-piece : goal.invariant-loop-piece
 invariant-loop-piece g l =
     (g.S.Source.faults l.source ≡ g.S.Source.faults l.fn.source)
-    × (length l.all.items ≤ 16781312)
+    × (g.S.Source.ended l.source ≡ g.S.Source.ended l.fn.source)
+    × (length l.all.items ≤ 16777217)
     × Consumes (g.S.Source.left l.fn.source) (g.S.Source.left l.source) l.all.items
 
 abbrev pub decreases-loop-piece : goal.decreases-loop-piece
