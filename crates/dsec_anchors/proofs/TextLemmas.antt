@@ -1,6 +1,6 @@
 -- The records of zone text, entry by entry.
 use Rattle.std.proofs.Common.{◌≡◌, ℕ, List, [], ◌∷◌, ◌++◌, ◌<◌, ◌≤◌, ◌+◌, length, Option, Some, None, Result, Ok, Err, refl, sym, ap, ◌∙◌, subst, append-nil, append_assoc, length-append, arith}
-use Rattle.std.specs.Prelude.{nat_lt, filter_map, IfSome, Bool, true, false, if◌then◌else◌}
+use Rattle.std.specs.Prelude.{nat_lt, filter_map, IfSome, IsErrOf, Bool, true, false, if◌then◌else◌}
 use Rattle.std.specs.Bool.{OnFalse}
 use Rattle.std.proofs.lemmas.Bool.{lt-ltb}
 use Rattle.std.specs.Io.KnownBytes.{Consumes, IsAtEnd}
@@ -20,6 +20,7 @@ use Rattle.dsec_anchors.specs.Texts as texts
 use Rattle.dsec_anchors.specs.declared.error.AnchorError.{AnchorError}
 use Rattle.dsec_anchors.specs.declared.error.AnchorError.TheVariants.{InplaceError, ReadError, NoMemory}
 use Rattle.dsec_zonefile.proofs.EachReading.{found_takes, reading}
+use Rattle.dsec_zonefile.specs.Readings.{reading_of}
 
 abbrev Records : Type 0
 Records = Result (List Record) AnchorError
@@ -27,7 +28,7 @@ Records = Result (List Record) AnchorError
 -- whatever entries a reader has, the records that it has left are those among them
 pub records_are : (reader : Reader) (all : List Entry) (end : Option ℕ) → HasEntries reader all end → records_left reader ≡ records_among all end
 records_are reader all end has =
-    let same = one_reading reader (reading reader).entries all (reading reader).end end (reading reader).are has in
+    let same = one_reading reader (reading_of reader).entries all (reading_of reader).end end (reading reader) has in
     λ i. records_among (same.0 i) (same.1 i)
 
 abbrev pub put : Option Record → Records → Records
@@ -44,8 +45,8 @@ put_among (entries.Include path origin) others (Some line) = refl
 -- an entry comes before the others
 by_found : (reader next : Reader) (it : Entry) → IsNext reader (found it next) → records_left reader ≡ put (record_in it) (records_left next)
 by_found reader next it is =
-    let others = reading next in
-    records_are reader (it ∷ others.entries) others.end (entry_list.goes_on reader next it others.entries others.end is others.are) ∙ put_among it others.entries others.end
+    let others = reading_of next in
+    records_are reader (it ∷ others.entries) others.end (entry_list.goes_on reader next it others.entries others.end is (reading next)) ∙ put_among it others.entries others.end
 
 by_end : (reader last : Reader) → IsNext reader (ended last) → records_left reader ≡ Ok []
 by_end reader last is = records_are reader [] None (no_more reader last is)
@@ -111,11 +112,18 @@ never_among entries (Some line) e = cc
 
 never_by : (t : Bool) (line : ℕ) (reader : Reader) → (if t then texts.refused line else records_left reader) ≡ Err ReadError → ⊥
 never_by true line reader e = cc
-never_by false line reader e = never_among (reading reader).entries (reading reader).end e
+never_by false line reader e = never_among (reading_of reader).entries (reading_of reader).end e
 
 -- no text says that a read failed
 pub never_read : (default : Option ℕ) (text : List ℕ) → anchors_in default text ≡ Err ReadError → ⊥
 never_read default text e = never_by (nat_lt limit (length text)) (line_past text) (start_of default text) e
+
+-- so no answer for a text is that
+pub never_failed : (default : Option ℕ) (text : List ℕ) (result : Records) → Gives wants_memory (λ (anchors : List Record). anchors) result (anchors_in default text) → IsErrOf result ReadError → ⊥
+never_failed default text (Ok records) gives is = absurd cc
+never_failed default text (Err (InplaceError error)) gives is = absurd cc
+never_failed default text (Err ReadError) gives is = never_read default text gives
+never_failed default text (Err NoMemory) gives is = absurd cc
 
 -- no read fails while a text is understood
 pub none_failed : (before now : ℕ) (default : Option ℕ) (text : List ℕ) (result : Records) → now ≡ before → Gives wants_memory (λ (anchors : List Record). anchors) result (anchors_in default text)

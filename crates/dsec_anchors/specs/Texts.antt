@@ -9,8 +9,7 @@ use Rattle.dsec_zonefile.specs.declared.entry.Entry.{Entry}
 use Rattle.dsec_zonefile.specs.declared.entry.Entry.TheVariants as entries
 use Rattle.dsec_zonefile.specs.declared.error.ZonefileError.{ZonefileError}
 use Rattle.dsec_zonefile.specs.declared.error.ZonefileError.TheVariants as zone
-use Rattle.dsec_zonefile.specs.Readings.{Reading}
-use Rattle.dsec_zonefile.proofs.EachReading.{reading}
+use Rattle.dsec_zonefile.specs.Readings.{Reading, reading_of}
 use Rattle.dsec_anchors.specs.declared.error.AnchorError.{AnchorError}
 use Rattle.dsec_anchors.specs.declared.error.AnchorError.TheVariants.{InplaceError, ReadError, NoMemory}
 
@@ -53,12 +52,12 @@ records_among entries None = Ok (filter_map record_in entries)
 records_among entries (Some line) = refused line
 
 -- the records of a reading
-abbrev pub records_of : {reader : Reader} → Reading reader → Result (List Record) AnchorError
-records_of it = records_among it.entries it.end
+abbrev pub records_of : Reading → Result (List Record) AnchorError
+records_of reading = records_among reading.entries reading.end
 
--- the records that a reader has left: each reader has one reading, and no other (`one_reading` of `dsec_zonefile`)
+-- the records that a reader has left
 abbrev pub records_left : Reader → Result (List Record) AnchorError
-records_left reader = records_of (reading reader)
+records_left reader = records_of (reading_of reader)
 
 -- at the start of a text, with this default class, and with the root for the origin
 abbrev pub start_of : Option ℕ → List ℕ → Reader

@@ -1,12 +1,14 @@
 //! Trust anchors (RFC 4033 2).
 
-ghost use Rattle.std.specs.Prelude.{◌≡◌, ◌++◌, ◌∷◌, ◌≤◌, [], find, None, Some, IfSome, IsErrOf, OnOk, OnErr};
+ghost use Rattle.std.specs.Prelude.{◌≡◌, ◌+◌, ◌++◌, ◌∷◌, ◌≤◌, [], find, None, Some, IfSome, IsErrOf, OnOk, OnErr};
 ghost use Rattle.std.specs.Option.{option_and_then, option_map};
 ghost use Rattle.dsec_spec.specs.Islands.{island};
 ghost use Rattle.dsec_spec.specs.Names.{place, same_place};
 ghost use Rattle.dsec_spec.specs.Numbers.{IN};
 ghost use Rattle.dsec_spec.specs.Outside.{Rose};
 ghost use Rattle.dsec_spec.specs.Reading.{Gives};
+ghost use Rattle.dsec_outside.specs.Ends.{TakesAtMost};
+ghost use Rattle.dsec_outside.specs.Limit.{limit};
 ghost use Rattle.dsec_anchors.specs.Anchors.{anchor_view, anchors_at};
 ghost use Rattle.dsec_anchors.specs.Texts.{CountsReads, added, anchors_in, is_from_outside, wants_memory};
 
@@ -89,6 +91,8 @@ impl TrustAnchors {
         ensures later { S.faults source.old ≤ S.faults source.new }
         ensures read { IsErrOf result AnchorError.ReadError → Rose (S.faults source.old) (S.faults source.new) }
         ensures counts { CountsReads (S.faults source.old) (S.faults source.new) result }
+        ensures within { TakesAtMost (limit + 1) (S.left source.old) (S.left source.new) }
+        ensures ended { IsErrOf result AnchorError.ReadError → S.ended source.new ≡ S.ended source.old }
         ensures text { IfSome (S.left source.old) (λ all. Gives is_from_outside (λ anchors. anchors) result (anchors_in None all)) }
     {
         match read_all(alloc, source) {
