@@ -2,7 +2,7 @@
 use Rattle.std.proofs.Common.{◌≡◌, ◌↔◌, ℕ, List, [], ◌∷◌, ◌<◌, ◌≤◌, length, get_or, Option, Some, None, Result, Ok, Err, IfSome, IsTrue, map, Bool, true, false, refl, sym, ap, ◌∙◌, subst, arith}
 use Rattle.std.specs.Prelude.{nat_lt, bytes_eq}
 use Rattle.std.specs.Bool.{OnFalse}
-use Rattle.std.specs.Io.KnownBytes.{Consumes, IsAtEnd}
+use Rattle.std.specs.Io.KnownBytes.{Consumes, IsAtEnd, Keeps}
 use Rattle.std.proofs.KnownBytes.{Consumes-whole}
 use Rattle.std.proofs.lemmas.Bool.{ltb-false}
 use Rattle.std.proofs.lemmas.Slice.Eq.{bytes_eq-Decides}
@@ -16,7 +16,9 @@ use Rattle.dsec_outside.specs.Limit.{limit, line_past}
 use Rattle.dsec_script.specs.Script.{script_of}
 use Rattle.dsec_script.proofs.CallerLemmas.{script_of-taken}
 use Rattle.dsec_spec.specs.Accepts.{Accepts}
-use Rattle.dsec_answer.specs.Headline.{Answered, RefusedAt, Done}
+use Rattle.dsec_spec.specs.Outside.{SentFront}
+use Rattle.dsec_answer.specs.Headline.{Answered, RefusedAt, Done, Makes, SentFor, nothing, refused, answer}
+use Rattle.dsec_answer.specs.Words.{usage as usage_text, IsValidate}
 
 past_limit : (v : List ℕ) → nat_lt limit (length v) ≡ true → script_of v ≡ Err (errors.Refused (record { line = line_past v; word = words.Size }))
 unfolding script_of
@@ -44,6 +46,32 @@ told_refusal None rest before after v c e r = tt
 told_refusal (Some xs) rest before after v c e r =
     let s : script_of xs ≡ script_of v = script_of-taken (Some xs) rest v c e in
     record { refused = r.refused; reads = s ∙ r.reads; sent = r.sent }
+
+-- ---- what went out, by the whole content
+
+same_sent : (accepts : Accepts) (content all : List ℕ) (before after : Option (List ℕ)) → script_of all ≡ script_of content → SentFor accepts content before after → SentFor accepts all before after
+same_sent accepts content all before after same (nothing kept) = nothing kept
+same_sent accepts content all before after same (refused r reads sent) = refused r (same ∙ reads) sent
+same_sent accepts content all before after same (answer script reads text answers sent) = answer script (same ∙ reads) text answers sent
+
+-- what the octets that were read make, all of them make
+pub made_of : (accepts : Accepts) (words : List (List ℕ)) (left rest before after : Option (List ℕ)) (v : List ℕ) → Consumes left rest v → (length v ≤ limit → IsAtEnd rest)
+    → IsValidate words → SentFor accepts v before after → IfSome left (λ all. Makes accepts words all before after)
+made_of accepts words None rest before after v c e valid sent = tt
+made_of accepts words (Some all) rest before after v c e valid sent =
+    let same : script_of all ≡ script_of v = script_of-taken (Some all) rest v c e in
+    record { validates = λ _. same_sent accepts v all before after same sent; others = λ other. absurd (other valid) }
+
+-- other words make the usage
+pub made_usage : (accepts : Accepts) (words : List (List ℕ)) (left before after : Option (List ℕ)) → (IsValidate words → ⊥) → SentFront before after usage_text
+    → IfSome left (λ all. Makes accepts words all before after)
+made_usage accepts words None before after other sent = tt
+made_usage accepts words (Some all) before after other sent = record { validates = λ valid. absurd (other valid); others = λ _. sent }
+
+-- what was not read whole makes nothing
+pub made_nothing : (accepts : Accepts) (words : List (List ℕ)) (left before after : Option (List ℕ)) → IsValidate words → Keeps before after → IfSome left (λ all. Makes accepts words all before after)
+made_nothing accepts words None before after valid kept = tt
+made_nothing accepts words (Some all) before after valid kept = record { validates = λ _. nothing kept; others = λ other. absurd (other valid) }
 
 -- a refusal that was told is the script's
 pub refused_reads : (e : ScriptError) (r : Refused) (read : Result Script ScriptError) → e ≡ errors.Refused r → OnFalse (wants_memory e) (read ≡ Err e) → read ≡ Err (errors.Refused r)

@@ -37,13 +37,19 @@ pub record Refuses (left rest before after : Option (List ℕ)) : Type 0 where
   pub read : Consumes left rest content
   pub refused : RefusedAt content before after
 
--- of what was read, this went out: nothing, or a front of the line that names the refused one, or of the text of the outcomes
+-- of some content, this went out: nothing, or a front of the line that names the refused one, or of the text of the outcomes
 pub data SentFor (accepts : Accepts) (content : List ℕ) (before after : Option (List ℕ)) : Type 0 where
   nothing : Keeps before after → SentFor accepts content before after
   refused : (r : Refused) → script_of content ≡ Err (errors.Refused r) → SentFront before after (refused_text r) → SentFor accepts content before after
   answer : (script : Script) → script_of content ≡ Ok script → (text : List ℕ) → IsAnswer accepts script text → SentFront before after text → SentFor accepts content before after
 
--- at any status this went out: nothing, or a front of the usage, or what a script makes
+-- where this is the whole content that the source held, this went out at any status: for `validate` a front of what the content makes, or
+-- nothing; for other words a front of the usage
+pub record Makes (accepts : Accepts) (words : List (List ℕ)) (content : List ℕ) (before after : Option (List ℕ)) : Type 0 where
+  pub validates : IsValidate words → SentFor accepts content before after
+  pub others : (IsValidate words → ⊥) → SentFront before after usage_text
+
+-- the same by what was read: nothing went out, or a front of the usage, or of what the octets make that were read
 pub data WentOut (accepts : Accepts) (words : List (List ℕ)) (left rest before after : Option (List ℕ)) : Type 0 where
   nothing : Keeps before after → WentOut accepts words left rest before after
   usage : (IsValidate words → ⊥) → SentFront before after usage_text → WentOut accepts words left rest before after

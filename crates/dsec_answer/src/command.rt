@@ -1,12 +1,14 @@
 //! The commands.
 
-ghost use Rattle.std.specs.Prelude.{◌≡◌, ◌≤◌, ◌↔◌, ◌⊎◌, IsTrue, List, map, string_bytes, IfSome};
+ghost use Rattle.std.specs.Prelude.{◌≡◌, ◌+◌, ◌≤◌, ◌↔◌, ◌⊎◌, IsTrue, List, map, string_bytes, IfSome};
 ghost use Rattle.std.specs.Io.KnownBytes.{Appends};
 ghost use Rattle.dsec_crypto.specs.StandIn.{stand_in};
 ghost use Rattle.dsec_spec.specs.Outside.{Rose};
+ghost use Rattle.dsec_outside.specs.Ends.{TakesAtMost};
+ghost use Rattle.dsec_outside.specs.Limit.{limit};
 ghost use Rattle.dsec_answer.specs.Counting.{counted_at};
 ghost use Rattle.dsec_answer.specs.Words.{IsValidate, usage};
-ghost use Rattle.dsec_answer.specs.Headline.{Answered, Done, RefusedAt, Refuses, WentOut};
+ghost use Rattle.dsec_answer.specs.Headline.{Answered, Done, Makes, RefusedAt, Refuses, WentOut};
 
 use crate::judging::send;
 use crate::script::answer;
@@ -40,6 +42,9 @@ pub fn run<S: Source, K: Sink>(alloc: Global, words: &[String], source: &mut S, 
     ensures reads { S.faults source.new ≡ counted_at 4 result (S.faults source.old) }
     ensures writes { K.faults sink.new ≡ counted_at 5 result (K.faults sink.old) }
     ensures front { WentOut stand_in (map (λ w. string_bytes w) words.now) (S.left source.old) (S.left source.new) (K.written sink.old) (K.written sink.new) }
+    ensures made { IfSome (S.left source.old) (λ content. Makes stand_in (map (λ w. string_bytes w) words.now) content (K.written sink.old) (K.written sink.new)) }
+    ensures within { TakesAtMost (limit + 1) (S.left source.old) (S.left source.new) }
+    ensures ended { result ≡ 4 → S.ended source.new ≡ S.ended source.old }
     ensures statuses { (result ≡ 0) ⊎ ((result ≡ 2) ⊎ ((result ≡ 3) ⊎ ((result ≡ 4) ⊎ ((result ≡ 5) ⊎ (result ≡ 6))))) }
 {
     run_by::<StandIn, S, K>(alloc, words, source, sink)
@@ -65,6 +70,9 @@ pub fn run_by<V: Verifier, S: Source, K: Sink>(
     ensures reads { S.faults source.new ≡ counted_at 4 result (S.faults source.old) }
     ensures writes { K.faults sink.new ≡ counted_at 5 result (K.faults sink.old) }
     ensures front { WentOut V.accepts (map (λ w. string_bytes w) words.now) (S.left source.old) (S.left source.new) (K.written sink.old) (K.written sink.new) }
+    ensures made { IfSome (S.left source.old) (λ content. Makes V.accepts (map (λ w. string_bytes w) words.now) content (K.written sink.old) (K.written sink.new)) }
+    ensures within { TakesAtMost (limit + 1) (S.left source.old) (S.left source.new) }
+    ensures ended { result ≡ 4 → S.ended source.new ≡ S.ended source.old }
     ensures statuses { (result ≡ 0) ⊎ ((result ≡ 2) ⊎ ((result ≡ 3) ⊎ ((result ≡ 4) ⊎ ((result ≡ 5) ⊎ (result ≡ 6))))) }
 {
     if !is_validate(words) {
