@@ -2,8 +2,8 @@
 use Rattle.std.proofs.Common.{◌≡◌, ◌↔◌, ℕ, List, [], ◌∷◌, ◌<◌, ◌≤◌, length, get_or, Option, Some, None, Result, Ok, Err, IfSome, IsTrue, map, Bool, true, false, refl, sym, ap, ◌∙◌, subst, arith}
 use Rattle.std.specs.Prelude.{nat_lt, bytes_eq}
 use Rattle.std.specs.Bool.{OnFalse}
-use Rattle.std.specs.Io.KnownBytes.{Consumes, IsAtEnd, Keeps}
-use Rattle.std.proofs.KnownBytes.{Consumes-whole}
+use Rattle.std.specs.Io.KnownBytes.{Consumes, IsAtEnd}
+use Rattle.std.proofs.KnownBytes.{Consumes-whole, Keeps-refl}
 use Rattle.std.proofs.lemmas.Bool.{ltb-false}
 use Rattle.std.proofs.lemmas.Slice.Eq.{bytes_eq-Decides}
 use Rattle.dsec_script.specs.declared.script.Script.{Script}
@@ -68,10 +68,10 @@ pub made_usage : (accepts : Accepts) (words : List (List ℕ)) (left before afte
 made_usage accepts words None before after other sent = tt
 made_usage accepts words (Some all) before after other sent = record { validates = λ valid. absurd (other valid); others = λ _. sent }
 
--- what was not read whole makes nothing
-pub made_nothing : (accepts : Accepts) (words : List (List ℕ)) (left before after : Option (List ℕ)) → IsValidate words → Keeps before after → IfSome left (λ all. Makes accepts words all before after)
-made_nothing accepts words None before after valid kept = tt
-made_nothing accepts words (Some all) before after valid kept = record { validates = λ _. nothing kept; others = λ other. absurd (other valid) }
+-- nothing went out where it wasn't read whole
+pub made_nothing : (accepts : Accepts) (words : List (List ℕ)) (left sent : Option (List ℕ)) → IsValidate words → IfSome left (λ all. Makes accepts words all sent sent)
+made_nothing accepts words None sent valid = tt
+made_nothing accepts words (Some all) sent valid = record { validates = λ _. nothing (Keeps-refl sent); others = λ other. absurd (other valid) }
 
 -- a refusal that was told is the script's
 pub refused_reads : (e : ScriptError) (r : Refused) (read : Result Script ScriptError) → e ≡ errors.Refused r → OnFalse (wants_memory e) (read ≡ Err e) → read ≡ Err (errors.Refused r)

@@ -53,6 +53,7 @@ pub fn run<S: Source, K: Sink>(alloc: Global, words: &[String], source: &mut S, 
 /// Runs the command that the words name over a verifier, and gives the status: 0 where all messages were judged, 2 where the
 /// words name no command, 3 where the script is refused, 4 where a read failed, 5 where a write failed, 6 where there was no
 /// memory.
+#[tactic(auto, using(crate::proofs::Top::made_nothing))]
 pub fn run_by<V: Verifier, S: Source, K: Sink>(
     alloc: Global,
     words: &[String],

@@ -24,7 +24,7 @@ impl<'a> Source for OctetsSource<'a> {
 
     ghost faults = { λ _. 0 };
 
-    // No read fails, so that none of them is one behind the end needs no telling.
+    // No read fails, so none can be blamed that is behind the end.
     ghost ended = { λ _. true };
 
     fn read(&mut self, buffer: &mut [u8]) -> Result<usize, Failed> {

@@ -1,11 +1,10 @@
 use Rattle.std.proofs.Common.{◌≤◌, subst, refl, length}
 use Rattle.std.proofs.lemmas.Bool.{false≢true}
 use Rattle.std.specs.Io.KnownBytes.{Consumes, IsAtEnd}
-use Rattle.std.proofs.KnownBytes.{Keeps-refl}
 use Rattle.dsec_outside.specs.Limit.{limit}
 use Rattle.dsec_spec.specs.Outside.{SentFront}
 use Rattle.dsec_answer.specs.Headline.{usage, script}
-use Rattle.dsec_answer.proofs.Top.{done_of, made_nothing, made_of, made_usage, told_answer, told_refusal}
+use Rattle.dsec_answer.proofs.Top.{done_of, made_of, made_usage, told_answer, told_refusal}
 use Rattle.dsec_answer.proofs.command.run_by.Goals as goal
 
 pub returns-in-Ok-clause-front : goal.returns-in-Ok-clause-front
@@ -50,11 +49,3 @@ returns-in-Ok-read_all-clause-made g c =
     let taken : Consumes (g.S.Source.left c.args.source.now) (g.S.Source.left c.read_all.new.source) c.deref.result.now = rw c.deref.ensures.value c.in-Ok-read_all.ensures.taken in
     let whole : length c.deref.result.now ≤ limit → IsAtEnd (g.S.Source.left c.read_all.new.source) = rw c.deref.ensures.value c.in-Ok-read_all.ensures.whole in
     made_of g.V.Verifier.accepts _ _ _ _ _ c.deref.result.now taken whole (c.if-not-is_validate.ensures.0 refl) c.answer.ensures.front
-
-pub returns-in-Err-Read-clause-made : goal.returns-in-Err-Read-clause-made
-returns-in-Err-Read-clause-made g c =
-    made_nothing _ _ (g.S.Source.left c.args.source.now) _ _ (c.if-not-is_validate.ensures.0 refl) (Keeps-refl _)
-
-pub returns-in-Err-Memory-clause-made : goal.returns-in-Err-Memory-clause-made
-returns-in-Err-Memory-clause-made g c =
-    made_nothing _ _ (g.S.Source.left c.args.source.now) _ _ (c.if-not-is_validate.ensures.0 refl) (Keeps-refl _)
