@@ -28,3 +28,12 @@ pub mod IslandLemmas
 pub mod AnsweringLemmas
 pub mod OutsideLaws
 pub mod ListLemmas
+pub mod ZoneLaws
+pub mod NsecTruthLaws
+pub mod Choosing
+pub mod InsideLaws
+pub mod InsideOwners
+pub mod CanonicalOrder
+pub mod BitmapLaws
+pub mod ZoneOfLaws
+pub mod NsecChainLaws

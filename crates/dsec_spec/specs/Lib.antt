@@ -25,3 +25,11 @@ pub mod Islands
 pub mod Answering
 pub mod Sound
 pub mod Outside
+pub mod TypeBitmaps
+pub mod Zones
+pub mod ZonesOfRecords
+pub mod DenyingRecords
+pub mod DenialTruth
+pub mod CanonicalRecords
+pub mod OwnersInside
+pub mod NsecChains
