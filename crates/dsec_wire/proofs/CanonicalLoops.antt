@@ -24,7 +24,7 @@ lowered_octets : (name : List (List ℕ)) → IsName name → map to_ascii_lower
 lowered_octets name is = map-append to_ascii_lowercase (labels_octets name) (0 ∷ []) ∙ ap (λ (x : List ℕ). x ++ 0 ∷ []) (lower-octets name is.labels)
 
 -- so a part's octets are signed by their field alone
-piece_of_part : (field : layouts.Field) (part : Part) → Fits field part → canonical_piece field (part_octets part) ≡ canonical_part part
+pub piece_of_part : (field : layouts.Field) (part : Part) → Fits field part → canonical_piece field (part_octets part) ≡ canonical_part part
 piece_of_part lowered_name (lowered name) fits = lowered_octets name fits
 piece_of_part kept_name (kept name) fits = refl
 piece_of_part (octets n) (plain x) fits = refl

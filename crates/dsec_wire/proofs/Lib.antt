@@ -10,3 +10,4 @@ pub mod KeyTags
 pub mod RrsigReading
 pub mod ViewsFound
 pub mod CanonicalLoops
+pub mod SignedOctetsLaws

@@ -10,3 +10,4 @@ pub mod Views
 pub mod DataViews
 pub mod RrsigHeads
 pub mod Canonical
+pub mod SignedOctets

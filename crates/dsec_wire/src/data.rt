@@ -1,10 +1,13 @@
 //! A record's data with their type.
 
-ghost use Rattle.std.specs.Prelude.{◌≡◌, ◌↔◌, ◌++◌, IsTrue, IsSome, OnOk, OnErr};
+ghost use Rattle.std.specs.Prelude.{◌≡◌, ◌↔◌, ◌++◌, IsTrue, IsSome, OnOk, OnErr, Some};
+ghost use Rattle.std.specs.Cmp.Lexicographic.{slice_cmp};
 ghost use Rattle.std.specs.Option.{option_map};
+ghost use Rattle.std.specs.Ordering.{nat_cmp};
 ghost use Rattle.dsec_spec.specs.Numbers.{CNAME, SOA, DNAME, OPT, DS, RRSIG, NSEC, DNSKEY, NSEC3, NSEC3PARAM};
 ghost use Rattle.dsec_spec.specs.RecordData.{IsReadable, canonical_data};
 ghost use Rattle.dsec_wire.specs.DataViews.{cname_in, cname_view, dname_in, dname_view, soa_in, soa_view, ds_in, ds_view, nsec_in, nsec_view, nsec3_in, nsec3_view, nsec3param_in, hashing_view, opt_in, opt_view};
+ghost use Rattle.dsec_wire.specs.SignedOctets.{octets_left};
 ghost use Rattle.dsec_wire.specs.Views.{dnskey_in, key_view, rrsig_in, rrsig_view};
 
 use crate::canonical::push_canonical;
@@ -16,10 +19,12 @@ use crate::nsec::{Nsec, read_nsec};
 use crate::nsec3::{Nsec3, Nsec3param, read_nsec3, read_nsec3param};
 use crate::part::takes_all;
 use crate::rrsig::{Rrsig, read_rrsig};
+use crate::signed_octets::{SignedOctets, compare};
 use crate::soa::{Soa, read_soa};
 use crate::target::{Cname, Dname, read_cname, read_dname};
 use dsec_name::{NoMemory, Octets};
 use dsec_number::Rtype;
+use std::cmp::Ordering;
 use std::marker::Model;
 
 /// The octets of a record's data at most (RFC 1035 3.2.1).
@@ -196,5 +201,19 @@ impl Data {
         out.reserve(octets.len())?;
         push_canonical(out, layout(self.rtype), octets);
         Ok(())
+    }
+
+    /// The order of data in a set of records: as strings of the octets that signatures take (RFC 4034 6.3).
+    pub fn canonical_cmp(&self, other: &Self) -> Ordering
+        ensures { result ≡ slice_cmp nat_cmp (canonical_data self.now.rtype self.now.octets) (canonical_data other.now.rtype other.now.octets) }
+    {
+        compare(&self.signed_octets(), &other.signed_octets())
+    }
+
+    /// The data as signatures take them.
+    fn signed_octets(&self) -> SignedOctets<'_>
+        ensures { octets_left result ≡ Some (canonical_data self.now.rtype self.now.octets) }
+    {
+        SignedOctets::new(layout(self.rtype), self.octets.as_slice())
     }
 }

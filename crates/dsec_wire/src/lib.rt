@@ -22,6 +22,7 @@ mod reading;
 mod record;
 mod rrsig;
 mod sections;
+mod signed_octets;
 mod soa;
 mod target;
 
