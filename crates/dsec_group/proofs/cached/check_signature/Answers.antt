@@ -22,7 +22,7 @@ returns g c =
     let key = tagged_view c.args.key.now in
     let set = set_in c.args.group.now in
     let message : c.deref.result.now ≡ signed_bytes sig set =
-        c.deref.ensures.value ∙ rw (← c.owner-owner.ensures, ← c.class.ensures, ← c.rtype-rtype.ensures, ← c.rr_set.ensures.records) c.in_ok-message.ensures in
+    c.deref.ensures.value ∙ rw (← c.owner-owner.ensures, ← c.class.ensures, ← c.rtype-rtype.ensures, ← c.rr_set.ensures.records) c.in_ok-message.ensures in
     signed_by_answer g.V.Verifier.accepts set sig key (place c.args.zone.now) c.args.t c.may_sign.result c.names_key.result c.is_accepted.result c.if-not-may_sign.false
     (rw (c.owner-owner.ensures, c.rtype-rtype.ensures) at c.may_sign.ensures) c.if-not-names_key.false c.names_key.ensures
     (heard g.V.Verifier.accepts set sig key (place c.args.zone.now) c.args.t c.is_accepted.result c.deref.result.now c.is_accepted.ensures message)
