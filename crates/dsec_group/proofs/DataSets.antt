@@ -1,5 +1,8 @@
 -- The set of the canonical data of records, and one more of them.
-use Rattle.std.proofs.Common.{◌≡◌, ℕ, Bool, true, false, ◌||◌, cond, List, [], ◌∷◌, ◌++◌, refl, sym, ap, ◌∙◌}
+use Rattle.std.proofs.Common.{◌≡◌, ℕ, Bool, true, false, ◌||◌, cond, List, [], ◌∷◌, ◌++◌, length, ◌≤◌, Some, refl, sym, ap, ◌∙◌, arith}
+use Rattle.std.specs.Prelude.{slice_get}
+use Rattle.std.specs.Option.{is_some}
+use Rattle.std.proofs.lemmas.Option.{same_Some}
 use Rattle.std.specs.Str.{bytes_eq}
 use Rattle.std.specs.Ordering.{nat_cmp, is_eq}
 use Rattle.std.specs.Cmp.Lexicographic.{slice_cmp, texts_ties}
@@ -37,3 +40,10 @@ data_kept r rs with_room more key o was is said keyed known room pushed =
     ∙ sym (data_more r rs o)
     ∙ ap (λ xs. has_data o (xs ++ r ∷ [])) (sym room)
     ∙ ap (has_data o) (sym pushed)
+
+-- the canonical data of a record that is there alone
+pub data_first : (r : Record) (rs : List Record) (key o : List ℕ) (was is : Bool) → Some r ≡ slice_get rs 0 → length rs ≤ 1 → is ≡ cond (is_eq (slice_cmp nat_cmp key o)) true was → key ≡ canonical_of r → was ≡ false → is ≡ has_data o rs
+data_first r [] key o was is there one said keyed none = absurd (let n = ap is_some there in cc)
+data_first r (x ∷ []) key o was is there one said keyed none =
+    data_kept r [] [] (x ∷ []) key o was is said keyed none refl (ap (λ y. y ∷ []) (sym (same_Some r x there)))
+data_first r (x ∷ y ∷ rs) key o was is there one said keyed none = absurd (omega (arith, one))

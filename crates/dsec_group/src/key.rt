@@ -24,7 +24,7 @@ impl GroupKey {
     pub(crate) fn of(alloc: Global, next: &Record) -> Result<GroupKey, NoMemory>
         ensures { IfOk result (λ key. key ≡ key_of next.now) }
     {
-        let mut owner = Vec::new(alloc);
+        let mut owner = Vec::with_capacity(alloc, next.owner().wire_len())?;
         next.owner().compose_canonical(&mut owner)?;
         Ok(GroupKey {
             owner: Octets::new(owner),

@@ -1,7 +1,10 @@
 //! Records of one group, without duplicates (RFC 2181 5, RFC 4034 6.3).
 
-ghost use Rattle.std.specs.Prelude.{◌≡◌, IfOk, OnOk, OnErr, []};
-ghost use Rattle.dsec_group.specs.Adding.{canonical_of, has_data, with_record};
+ghost use Rattle.std.specs.Prelude.{◌≡◌, IfOk, OnOk, OnErr, [], true};
+ghost use Rattle.std.specs.BTreeSet.{contains};
+ghost use Rattle.std.specs.Cmp.Lexicographic.{slice_cmp};
+ghost use Rattle.std.specs.Ordering.{nat_cmp};
+ghost use Rattle.dsec_group.specs.Adding.{AreKnown, canonical_of, has_data, with_record};
 
 use dsec_name::{NoMemory, Octets};
 use dsec_wire::Record;
@@ -10,11 +13,12 @@ use std::collections::BTreeSet;
 use std::marker::Model;
 
 /// Records of one owner, class and type, in order of arrival; and the set of their canonical data, by which
-/// a record's duplicate is found.
+/// a record's duplicate is found. Where there is one record alone the set isn't made yet: most sets have no other.
 #[derive(Drop)]
 pub(crate) struct Members {
     records: Vec<Record>,
     canonical: BTreeSet<Octets>,
+    is_indexed: bool,
 }
 
 impl Model for Members {
@@ -23,13 +27,13 @@ impl Model for Members {
     ghost use Rattle.std.specs.Cmp.Lexicographic.{slice_cmp};
     ghost use Rattle.std.specs.Ordering.{nat_cmp};
     ghost use Rattle.dsec_spec.specs.Records as entries;
-    ghost use Rattle.dsec_group.specs.Adding.{has_data};
+    ghost use Rattle.dsec_group.specs.Adding.{AreKnown};
 
     ghost Value = { List entries.Record };
 
     ghost view = { λ it. it.records.items };
 
-    ghost invariant = { λ it. (octets : List ℕ) → contains (slice_cmp nat_cmp) it.canonical octets ≡ has_data octets it.records.items };
+    ghost invariant = { λ it. AreKnown it.is_indexed (contains (slice_cmp nat_cmp) it.canonical) it.records.items };
 }
 
 impl Members {
@@ -40,6 +44,7 @@ impl Members {
         Members {
             records: Vec::new(alloc),
             canonical: BTreeSet::new(alloc),
+            is_indexed: false,
         }
     }
 
@@ -56,7 +61,14 @@ impl Members {
         ensures duplicate { IfOk result (λ found. found ≡ has_data (canonical_of next) self.old) }
         ensures err { OnErr result (self.new ≡ self.old) }
     {
-        let octets = canonical_octets(*self.records.allocator(), &next)?;
+        let alloc = *self.records.allocator();
+        if !self.is_indexed && self.records.is_empty() {
+            self.records.push(next)?;
+            return Ok(false);
+        }
+        index(alloc, &mut self.canonical, &self.records, self.is_indexed)?;
+        self.is_indexed = true;
+        let octets = canonical_octets(alloc, &next)?;
         self.records.reserve(1)?;
         let is_new = self.canonical.insert(octets)?;
         if is_new {
@@ -66,11 +78,32 @@ impl Members {
     }
 }
 
+/// Adds the canonical data of the record that is there alone, where this wasn't done yet.
+fn index(
+    alloc: Global,
+    canonical: &mut BTreeSet<Octets>,
+    records: &[Record],
+    is_indexed: bool,
+) -> Result<(), NoMemory>
+    requires { AreKnown is_indexed (contains (slice_cmp nat_cmp) canonical.old) records.now }
+    ensures ok { OnOk result (AreKnown true (contains (slice_cmp nat_cmp) canonical.new) records.now) }
+    ensures err { OnErr result (canonical.new ≡ canonical.old) }
+{
+    if is_indexed {
+        return Ok(());
+    }
+    if let Some(first) = records.first() {
+        let octets = canonical_octets(alloc, first)?;
+        canonical.insert(octets)?;
+    }
+    Ok(())
+}
+
 /// A record's data as they are signed (RFC 4034 6.2).
 fn canonical_octets(alloc: Global, next: &Record) -> Result<Octets, NoMemory>
     ensures { IfOk result (λ octets. octets ≡ canonical_of next.now) }
 {
-    let mut octets = Vec::new(alloc);
+    let mut octets = Vec::with_capacity(alloc, next.rdata().octets().len())?;
     next.rdata().compose_canonical(&mut octets)?;
     Ok(Octets::new(octets))
 }
