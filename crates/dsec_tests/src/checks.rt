@@ -4,7 +4,7 @@ ghost use Rattle.std.specs.Prelude.{◌≡◌, ◌<◌};
 
 use crate::lines::{ADDRESS, GOOD, KEY, NO_ZONE_KEY, name, records};
 use dsec_cause::Cause;
-use dsec_crypto::StandIn;
+use dsec_crypto::{StandIn, Verifier};
 use dsec_group::{
     Group, KeyCheck, Limits, Memo, NoMemo, Steps, ValidationState, check_with_keys, groups,
 };
@@ -27,13 +27,13 @@ fn views_of<'a>(alloc: Global, keys: &'a [Record]) -> Result<Vec<Dnskey<'a>>, No
 }
 
 /// The check of a group, with steps that nobody counts.
-fn check_by<L: Ledger>(
+fn check_by<V: Verifier, L: Ledger>(
     alloc: Global,
     group: &Group,
     keys: &[Record],
     max_bad: u8,
     seconds: u32,
-    memo: &mut impl Memo<StandIn>,
+    memo: &mut impl Memo<V>,
     blank: Blank,
 ) -> Option<KeyCheck>
     requires name { blank.name ≡ L.name }
@@ -48,20 +48,20 @@ fn check_by<L: Ledger>(
     limits.max_bad_signatures = max_bad;
     let mut steps: Steps<L> = Steps::begin(blank);
     let t = Timestamp::from_int(seconds);
-    match check_with_keys::<StandIn, L>(alloc, group, &zone, &views, &limits, t, memo, &mut steps) {
+    match check_with_keys::<V, L>(alloc, group, &zone, &views, &limits, t, memo, &mut steps) {
         Ok(check) => Some(check),
         Err(NoMemory) => None,
     }
 }
 
 /// The check of the first group of a section under these keys, where so many signatures may be bad, at a moment.
-pub(crate) fn check(
+pub(crate) fn check<V: Verifier>(
     alloc: Global,
     section: &[&str],
     keys: &[&str],
     max_bad: u8,
     seconds: u32,
-    memo: &mut impl Memo<StandIn>,
+    memo: &mut impl Memo<V>,
 ) -> Option<KeyCheck> {
     let section = records(alloc, section)?;
     let keys = records(alloc, keys)?;
@@ -69,7 +69,7 @@ pub(crate) fn check(
         return None;
     };
     let group = found.as_slice().first()?;
-    check_by::<Brand>(alloc, group, &keys, max_bad, seconds, memo, Blank::new(1))
+    check_by::<V, Brand>(alloc, group, &keys, max_bad, seconds, memo, Blank::new(1))
 }
 
 /// What a check says: the indexes of the signature and the key that are good, the closest encloser of a wildcard's expansion
@@ -181,7 +181,7 @@ const ROWS: [Row; 12] = [
 ];
 
 fn row_holds(alloc: Global, row: &Row) -> bool {
-    match check(alloc, row.1, row.2, 1, 500, &mut NoMemo) {
+    match check::<StandIn>(alloc, row.1, row.2, 1, 500, &mut NoMemo) {
         Some(check) => says(alloc, &check, row.3),
         None => false,
     }

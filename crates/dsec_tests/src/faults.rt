@@ -1,8 +1,7 @@
 //! Reads and writes that fail, at each call.
 
-use crate::runs::owned;
+use crate::runs::{owned, status_of};
 use crate::vectors::{ANCHOR, FOUR, GOOD, KEYS, UNSIGNED};
-use dsec_answer::run;
 use dsec_outside::{FailingSink, FailingSource, OctetsSink, OctetsSource, PIECE};
 use std::alloc::Global;
 
@@ -43,7 +42,7 @@ fn read(alloc: Global, words: &[String], source: &[u8], failing: u64) -> (Vec<u8
         faults: 0,
         ended: false,
     };
-    let status = run(alloc, words, &mut source, &mut sink);
+    let status = status_of(alloc, words, &mut source, &mut sink);
     (sink.octets, status, source.faults)
 }
 
@@ -89,7 +88,7 @@ fn written<'a>(
         calls: 0,
         faults: 0,
     };
-    let status = run(alloc, words, &mut OctetsSource { rest: source }, &mut sink);
+    let status = status_of(alloc, words, &mut OctetsSource { rest: source }, &mut sink);
     (sink, status)
 }
 

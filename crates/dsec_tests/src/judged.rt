@@ -5,7 +5,7 @@ use crate::vectors::{FOUR, GOOD, KEYS, ONE_BAD};
 use dsec_anchors::TrustAnchors;
 use dsec_answer::ValidationContext;
 use dsec_cause::Cause;
-use dsec_crypto::StandIn;
+use dsec_crypto::{StandIn, Verifier};
 use dsec_group::{Limits, ValidationState};
 use dsec_judge::Verdict;
 use dsec_link::LinkKind;
@@ -42,7 +42,7 @@ fn message(alloc: Global, text: &str) -> Option<Message> {
 }
 
 /// Whether the first group is shown from the anchor's key.
-fn shows_first(verdict: &Verdict<StandIn>) -> bool {
+fn shows_first<V: Verifier>(verdict: &Verdict<V>) -> bool {
     let Some(why) = &verdict.why else {
         return false;
     };
@@ -55,7 +55,7 @@ fn shows_first(verdict: &Verdict<StandIn>) -> bool {
 }
 
 /// Whether a verdict after one question is bogus by this cause, or secure without one.
-fn is_said(verdict: &Verdict<StandIn>, cause: Option<Cause>) -> bool {
+fn is_said<V: Verifier>(verdict: &Verdict<V>, cause: Option<Cause>) -> bool {
     let is_so = if cause.is_none() {
         verdict.state == ValidationState::Secure && shows_first(verdict)
     } else {
@@ -65,9 +65,9 @@ fn is_said(verdict: &Verdict<StandIn>, cause: Option<Cause>) -> bool {
 }
 
 /// Whether these are the verdicts on a message in turn, at the moment 500.
-fn are_turns(
+fn are_turns<V: Verifier>(
     alloc: Global,
-    context: &mut ValidationContext<StandIn>,
+    context: &mut ValidationContext<V>,
     upstream: &mut FailingUpstream<'_, TableUpstream>,
     message: &mut Message,
     causes: &[Option<Cause>],

@@ -6,7 +6,7 @@ ghost use Rattle.dsec_crypto.specs.StandIn.{stand_in};
 use crate::checks::{Want, check, says};
 use crate::lines::{ADDRESS, GOOD, KEY, NO_ZONE_KEY, name, record, records};
 use dsec_cause::Cause;
-use dsec_crypto::StandIn;
+use dsec_crypto::{StandIn, Verifier};
 use dsec_group::{Group, Memo, groups};
 use dsec_name::{Name, NoMemory};
 use dsec_number::Timestamp;
@@ -126,7 +126,7 @@ impl Memo<StandIn> for Last {
 /// Whether the address comes to this under its signatures.
 fn comes_to(memo: &mut Last, section: &[&str], max_bad: u8, seconds: u32, want: Want) -> bool {
     let alloc = memo.alloc;
-    match check(alloc, section, &[NO_ZONE_KEY, KEY], max_bad, seconds, memo) {
+    match check::<StandIn>(alloc, section, &[NO_ZONE_KEY, KEY], max_bad, seconds, memo) {
         Some(check) => says(alloc, &check, want),
         None => false,
     }
@@ -191,18 +191,18 @@ const ROWS: [Row; 6] = [
 ];
 
 /// Whether the group is signed or isn't, as the row says, by the one call for a record.
-fn is_signed(
+fn is_signed<V: Verifier>(
     alloc: Global,
+    memo: &mut impl Memo<V>,
     group: &Group,
     sig: &Record,
     key: &Dnskey<'_>,
     names: &[Name; 2],
     row: &Row,
 ) -> bool {
-    let mut memo = memo(alloc, false);
     let t = Timestamp::from_int(500);
     let [zone, key_name] = names;
-    match group.check_sig_cached::<StandIn>(alloc, sig, zone, key, key_name, row.2, &mut memo, t) {
+    match group.check_sig_cached::<V>(alloc, sig, zone, key, key_name, row.2, memo, t) {
         Ok(yes) => yes == row.3,
         Err(NoMemory) => false,
     }
@@ -215,8 +215,17 @@ fn is_group_signed(alloc: Global, group: &Group, row: &Row) -> bool {
     let (Some(zone), Some(key_name)) = (name(alloc, "Example."), name(alloc, row.1)) else {
         return false;
     };
+    let mut memo = memo(alloc, false);
     match key.rdata().dnskey() {
-        Some(view) => is_signed(alloc, group, &sig, &view, &[zone, key_name], row),
+        Some(view) => is_signed::<StandIn>(
+            alloc,
+            &mut memo,
+            group,
+            &sig,
+            &view,
+            &[zone, key_name],
+            row,
+        ),
         None => false,
     }
 }

@@ -1,7 +1,7 @@
 //! What `run` writes for words that name no command and for a source past its limit, and its status.
 
 use dsec_answer::run;
-use dsec_outside::{LIMIT, OctetsSink, OctetsSource};
+use dsec_outside::{LIMIT, OctetsSink, OctetsSource, Sink, Source};
 use std::alloc::Global;
 use std::process::Abort;
 
@@ -22,6 +22,16 @@ pub(crate) fn owned(alloc: Global, words: &[&str]) -> Option<Vec<String>> {
     Some(strings)
 }
 
+/// The status of a run.
+pub(crate) fn status_of<S: Source, K: Sink>(
+    alloc: Global,
+    words: &[String],
+    source: &mut S,
+    sink: &mut K,
+) -> u8 {
+    run(alloc, words, source, sink)
+}
+
 /// Whether this is written where the command of these words is run, and this is the status.
 fn writes(alloc: Global, words: &[&str], source: &[u8], want: &str, status: u8) -> bool {
     let Some(words) = owned(alloc, words) else {
@@ -29,7 +39,7 @@ fn writes(alloc: Global, words: &[&str], source: &[u8], want: &str, status: u8) 
     };
     let mut sink = OctetsSink::new(alloc);
     let mut source = OctetsSource { rest: source };
-    let found = run(alloc, &words, &mut source, &mut sink);
+    let found = status_of(alloc, &words, &mut source, &mut sink);
     found == status && sink.octets.as_slice() == want.as_bytes()
 }
 

@@ -243,14 +243,17 @@ fn signatures(rt: HostRuntime) {
 }
 
 /// Whether this comes of the address's signature under the key over the message.
-fn verifies(alloc: Global, key: &str, message: &[u8], want: Result<(), AlgorithmError>) -> bool {
+fn verifies<V: Verifier>(
+    alloc: Global,
+    key: &str,
+    message: &[u8],
+    want: Result<(), AlgorithmError>,
+) -> bool {
     let (Some(key), Some(made)) = (record(alloc, key), record(alloc, GOOD)) else {
         return false;
     };
     match (made.rdata().rrsig(), key.rdata().dnskey()) {
-        (Some(rrsig), Some(key)) => {
-            rrsig.verify_signed_data::<TableVerifier>(&key, message) == want
-        }
+        (Some(rrsig), Some(key)) => { rrsig.verify_signed_data::<V>(&key, message) == want }
         _ => false,
     }
 }
@@ -258,6 +261,6 @@ fn verifies(alloc: Global, key: &str, message: &[u8], want: Result<(), Algorithm
 #[test]
 fn verifying(rt: HostRuntime) {
     let alloc = rt.alloc();
-    assert!(rt; verifies(alloc, KEY, ADDRESS_OCTETS, Ok(())));
-    assert!(rt; verifies(alloc, KEY, KEY_OCTETS, Err(AlgorithmError::BadSig)));
+    assert!(rt; verifies::<TableVerifier>(alloc, KEY, ADDRESS_OCTETS, Ok(())));
+    assert!(rt; verifies::<TableVerifier>(alloc, KEY, KEY_OCTETS, Err(AlgorithmError::BadSig)));
 }
