@@ -17,6 +17,9 @@ use dsec_name::NoMemory;
 use dsec_word::push_number;
 use std::alloc::Global;
 
+/// Most texts of verdicts have no more octets.
+const USUAL_TEXT: usize = 1024;
+
 /// What is written for the outcome of the message of an index: a line of its own, and after a verdict `Secure` a
 /// line for each link of what shows it.
 pub fn text<V: Verifier>(
@@ -40,16 +43,15 @@ fn verdict_text<V: Verifier>(
 ) -> Result<Vec<u8>, NoMemory>
     ensures { IfOk result (λ text. text.items ≡ outcome_text index (Ok (told_by verdict.now.state verdict.now.ede (option_map (λ why. reason why.group why.shown) verdict.now.why) verdict.now.questions))) }
 {
-    let mut out = Vec::new(alloc);
+    let mut out = Vec::with_capacity(alloc, USUAL_TEXT)?;
     push_verdict(
-        alloc,
         &mut out,
         index,
         verdict.state,
         verdict.ede,
         verdict.questions,
     )?;
-    push_why(alloc, &mut out, index, &verdict.why)?;
+    push_why(&mut out, index, &verdict.why)?;
     Ok(out)
 }
 
@@ -58,14 +60,13 @@ fn refusal_text(alloc: Global, index: u64, error: Error) -> Result<Vec<u8>, NoMe
     ensures { IfOk result (λ text. text.items ≡ outcome_text index (Err error)) }
 {
     let mut out = Vec::new(alloc);
-    push_error(alloc, &mut out, index, error)?;
+    push_error(&mut out, index, error)?;
     Ok(out)
 }
 
 /// Adds the line of a verdict.
 #[tactic(auto, unfolding(crate::specs::Texts::verdict_line))]
 fn push_verdict(
-    alloc: Global,
     out: &mut Vec<u8>,
     index: u64,
     state: ValidationState,
@@ -74,25 +75,20 @@ fn push_verdict(
 ) -> Result<(), NoMemory>
     ensures { OnOk result (out.new.items ≡ out.old.items ++ verdict_line index state ede questions) }
 {
-    push_status(alloc, out, index, state)?;
-    push_cause(alloc, out, ede)?;
+    push_status(out, index, state)?;
+    push_cause(out, ede)?;
     out.extend_from_slice(b" questions=")?;
-    push_number(alloc, out, questions as u64)?;
+    push_number(out, questions as u64)?;
     out.push(b'\n')?;
     Ok(())
 }
 
 /// Adds a message's index and status.
 #[tactic(auto, unfolding(crate::specs::Texts::status_text))]
-fn push_status(
-    alloc: Global,
-    out: &mut Vec<u8>,
-    index: u64,
-    state: ValidationState,
-) -> Result<(), NoMemory>
+fn push_status(out: &mut Vec<u8>, index: u64, state: ValidationState) -> Result<(), NoMemory>
     ensures { OnOk result (out.new.items ≡ out.old.items ++ status_text index state) }
 {
-    push_number(alloc, out, index)?;
+    push_number(out, index)?;
     out.extend_from_slice(b" ")?;
     out.extend_from_slice(state_word(state).as_bytes())?;
     out.extend_from_slice(b" ")?;
@@ -112,14 +108,14 @@ fn state_word(state: ValidationState) -> &'static str
 }
 
 /// Adds a cause's code and text.
-fn push_cause(alloc: Global, out: &mut Vec<u8>, ede: Option<Cause>) -> Result<(), NoMemory>
+fn push_cause(out: &mut Vec<u8>, ede: Option<Cause>) -> Result<(), NoMemory>
     ensures { OnOk result (out.new.items ≡ out.old.items ++ cause_text ede) }
 {
     let Some(cause) = ede else {
         out.extend_from_slice(b"- \"\"")?;
         return Ok(());
     };
-    push_number(alloc, out, u64::from(cause.code()))?;
+    push_number(out, u64::from(cause.code()))?;
     out.extend_from_slice(b" \"")?;
     out.extend_from_slice(cause.text().as_bytes())?;
     out.extend_from_slice(b"\"")?;
@@ -128,7 +124,6 @@ fn push_cause(alloc: Global, out: &mut Vec<u8>, ede: Option<Cause>) -> Result<()
 
 /// Adds the lines of what shows a verdict, where something does.
 fn push_why<V: Verifier>(
-    alloc: Global,
     out: &mut Vec<u8>,
     index: u64,
     why: &Option<Why<V>>,
@@ -136,27 +131,27 @@ fn push_why<V: Verifier>(
     ensures { OnOk result (out.new.items ≡ out.old.items ++ why_lines index (option_map (λ why. reason why.group why.shown) why.now)) }
 {
     match why {
-        Some(why) => push_links(alloc, out, index, why.shown.links().as_slice()),
+        Some(why) => push_links(out, index, why.shown.links().as_slice()),
         None => Ok(()),
     }
 }
 
 /// Adds the lines of links.
-fn push_links(alloc: Global, out: &mut Vec<u8>, index: u64, links: &[Link]) -> Result<(), NoMemory>
+fn push_links(out: &mut Vec<u8>, index: u64, links: &[Link]) -> Result<(), NoMemory>
     ensures { OnOk result (out.new.items ≡ out.old.items ++ flat_map (λ link. link_line index link) links.now) }
 {
     for link in links {
-        push_link(alloc, out, index, link)?;
+        push_link(out, index, link)?;
     }
     Ok(())
 }
 
 /// Adds the line of an error.
 #[tactic(auto, unfolding(crate::specs::Texts::error_line))]
-fn push_error(alloc: Global, out: &mut Vec<u8>, index: u64, error: Error) -> Result<(), NoMemory>
+fn push_error(out: &mut Vec<u8>, index: u64, error: Error) -> Result<(), NoMemory>
     ensures { OnOk result (out.new.items ≡ out.old.items ++ error_line index error) }
 {
-    push_number(alloc, out, index)?;
+    push_number(out, index)?;
     out.extend_from_slice(b" error:")?;
     out.extend_from_slice(error_name(error).as_bytes())?;
     out.push(b'\n')?;

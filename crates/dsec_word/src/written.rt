@@ -4,22 +4,29 @@ ghost use Rattle.std.specs.Prelude.{◌≡◌, ◌++◌, OnOk, decimal};
 ghost use Rattle.hex.specs.Hex.{encode_lower};
 
 use dsec_name::NoMemory;
-use std::alloc::Global;
+use std::io::Write;
 
 /// A number in decimal.
-pub fn push_number(alloc: Global, out: &mut Vec<u8>, n: u64) -> Result<(), NoMemory>
+pub fn push_number(out: &mut Vec<u8>, n: u64) -> Result<(), NoMemory>
     ensures { OnOk result (out.new.items ≡ out.old.items ++ decimal n) }
 {
-    let text = format!(in alloc; "{n}")?;
-    out.extend_from_slice(text.as_bytes())?;
-    Ok(())
+    match write!(out, "{n}") {
+        Ok(()) => Ok(()),
+        Err(_) => Err(NoMemory),
+    }
 }
 
 /// Octets in lower-case hex.
-pub fn push_hex(alloc: Global, out: &mut Vec<u8>, octets: &[u8]) -> Result<(), NoMemory>
+pub fn push_hex(out: &mut Vec<u8>, octets: &[u8]) -> Result<(), NoMemory>
     ensures { OnOk result (out.new.items ≡ out.old.items ++ encode_lower octets.now) }
 {
-    let text = hex::encode(alloc, octets)?;
-    out.extend_from_slice(text.as_bytes())?;
-    Ok(())
+    let at = out.len();
+    let Some(end) = at.checked_add(2 * octets.len()) else {
+        return Err(NoMemory);
+    };
+    out.resize(end, 0)?;
+    match hex::encode_to_slice(octets, &mut out[at..]) {
+        Ok(()) => Ok(()),
+        Err(_) => Err(NoMemory),
+    }
 }
