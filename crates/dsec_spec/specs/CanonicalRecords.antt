@@ -1,5 +1,5 @@
 -- The canonical order of records (RFC 4034 6).
-use Rattle.std.specs.Prelude.{◌≡◌, ℕ, List, All, AllPairs}
+use Rattle.std.specs.Prelude.{◌≡◌, ℕ, List, All, AllPairs, find, Some}
 use Rattle.std.specs.Cmp.Lexicographic.{slice_cmp}
 use Rattle.std.specs.Ordering.{nat_cmp, on, then_cmp}
 use Rattle.std.specs.declared.cmp.Ordering.{Ordering}
@@ -7,6 +7,7 @@ use Rattle.std.specs.declared.cmp.Ordering.TheVariants.{Less}
 use Rattle.dsec_spec.specs.Names.{place, name_cmp, Before}
 use Rattle.dsec_spec.specs.RecordData.{canonical_data}
 use Rattle.dsec_spec.specs.Records.{Record}
+use Rattle.dsec_spec.specs.Groups.{are_duplicates}
 
 -- the canonical order of records: by class, owner, type and canonical data (RFC 4034 6.1, 6.3)
 abbrev pub record_cmp : Record → Record → Ordering
@@ -25,3 +26,7 @@ AreOrdered records = AllPairs (λ r s. Before (place s.owner) (place r.owner) �
 -- all of one class
 abbrev pub AreOfClass : ℕ → List Record → Type 0
 AreOfClass class records = All (λ r. r.class ≡ class) records
+
+-- the record is the first of its duplicates among these
+abbrev pub IsFirst : List Record → Record → Type 0
+IsFirst records r = find (are_duplicates r) records ≡ Some r

@@ -1,0 +1,4 @@
+pub mod Written
+pub mod Blocks
+pub mod BlockViews
+pub mod Inserting
