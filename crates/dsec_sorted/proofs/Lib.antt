@@ -6,3 +6,4 @@ pub mod Rising
 pub mod Orderings
 pub mod Places
 pub mod Extending
+pub mod OwnerRuns

@@ -2,3 +2,5 @@ pub mod Written
 pub mod Blocks
 pub mod BlockViews
 pub mod Inserting
+pub mod OwnersOf
+pub mod IterViews

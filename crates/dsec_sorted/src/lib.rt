@@ -2,11 +2,17 @@
 #![tactic(auto)]
 
 mod bitmap;
+mod config;
+mod hash;
 mod order;
 mod reading;
+mod records_iter;
 mod sorted;
 
 pub use bitmap::push_bitmap;
+pub use config::{DenialConfig, Nsec3Config};
+pub use hash::{Nsec3Salt, Nsec3SaltError, OwnerHash, OwnerHashError};
 pub use order::{canonical_cmp, is_sorted_canonical};
 pub use reading::RtypeBitmap;
+pub use records_iter::{OwnerRrs, RecordsIter};
 pub use sorted::{InsertError, SortedRecords};

@@ -13,7 +13,7 @@ use Rattle.dsec_spec.specs.Names.{place, place_cmp, same_place, Before}
 use Rattle.dsec_spec.specs.RecordData.{canonical_data}
 use Rattle.dsec_spec.specs.Records.{Record}
 use Rattle.dsec_spec.specs.Groups.{are_duplicates}
-use Rattle.dsec_spec.specs.CanonicalRecords.{record_cmp, IsCanonical, AreOrdered, AreOfClass}
+use Rattle.dsec_spec.specs.CanonicalRecords.{record_cmp, IsCanonical, AreOrdered, AreOfOneClass}
 use Rattle.dsec_spec.proofs.NameOrder.{place_cmp_total, name_cmp_total, place_cmp_same}
 use Rattle.dsec_spec.proofs.CanonicalNames.{same_place_decides}
 use Rattle.dsec_spec.proofs.Choosing.{both}
@@ -32,9 +32,8 @@ not_behind r s class less before =
     same_number : (n : ℕ) → nat_cmp n n ≡ Equal
     same_number n = tied_itself nat_cmp_total n
 
-pub canonical_ordered : (records : List Record) (class : ℕ) → AreOfClass class records → IsCanonical records → AreOrdered records
-canonical_ordered records class one canonical i j d lt lj before =
-    not_behind (get_or records i d) (get_or records j d) (one i d (omega arith) ∙ sym (one j d lj)) (canonical i j d lt lj) before
+pub canonical_ordered : (records : List Record) → AreOfOneClass records → IsCanonical records → AreOrdered records
+canonical_ordered records one canonical i j d lt lj before = not_behind (get_or records i d) (get_or records j d) (one i j d lt lj) (canonical i j d lt lj) before
 
 both_equal : (a b : Ordering) → ordering_then a b ≡ Equal → (a ≡ Equal) × (b ≡ Equal)
 both_equal Less b h = absurd cc

@@ -6,7 +6,7 @@ use Rattle.dsec_spec.specs.Names.{Place, place, same_place, is_below, is_strictl
 use Rattle.dsec_spec.specs.Numbers.{NS, SOA}
 use Rattle.dsec_spec.specs.Records.{Record}
 use Rattle.dsec_spec.specs.Zones.{Owns, Stands}
-use Rattle.dsec_spec.specs.ZonesOfRecords.{is_cut, is_delegation, is_cut_off, is_inside, is_own, is_of_zone, set_key, zone_of, soas_at}
+use Rattle.dsec_spec.specs.ZonesOfRecords.{is_cut, is_delegation, is_cut_off, is_inside, is_own, is_of_zone, set_key, zone_of, is_soa_at, soas_at}
 use Rattle.dsec_spec.proofs.CanonicalNames.{same_place_decides}
 use Rattle.dsec_spec.proofs.SignedTests.{below_decides, strictly_below_decides}
 use Rattle.dsec_spec.proofs.NamesBelow.{below_itself, not_strictly_itself, not_both_below, at_or_below}
@@ -50,7 +50,7 @@ apex_inside apex records = rw ((below_decides apex apex).1 (below_itself apex), 
 -- where a record says where the zone starts, SOA stands at its apex
 pub apex_owns : (apex : Place) (records : List Record) (soa : Record) → soas_at apex records ≡ soa ∷ [] → Owns (zone_of apex records) apex SOA
 apex_owns apex records soa one =
-    let f = from_filter (λ r. (r.rtype == SOA) && same_place (place r.owner) apex) records soa (subst (λ (xs : List Record). Contains xs soa) (sym one) (first_in soa [])) in
+    let f = from_filter (is_soa_at apex) records soa (subst (λ (xs : List Record). Contains xs soa) (sym one) (first_in soa [])) in
     let b = both (soa.rtype == SOA) (same_place (place soa.owner) apex) f.0 in
     let at : place soa.owner ≡ apex = (same_place_decides (place soa.owner) apex).0 b.1 in
     let kind : soa.rtype ≡ SOA = eqb-true soa.rtype SOA b.0 in

@@ -1,5 +1,5 @@
 -- The canonical order of records (RFC 4034 6).
-use Rattle.std.specs.Prelude.{◌≡◌, ℕ, List, All, AllPairs, find, Some}
+use Rattle.std.specs.Prelude.{◌≡◌, ℕ, List, AllPairs, find, Some}
 use Rattle.std.specs.Cmp.Lexicographic.{slice_cmp}
 use Rattle.std.specs.Ordering.{nat_cmp, on, then_cmp}
 use Rattle.std.specs.declared.cmp.Ordering.{Ordering}
@@ -24,8 +24,8 @@ abbrev pub AreOrdered : List Record → Type 0
 AreOrdered records = AllPairs (λ r s. Before (place s.owner) (place r.owner) → ⊥) records
 
 -- all of one class
-abbrev pub AreOfClass : ℕ → List Record → Type 0
-AreOfClass class records = All (λ r. r.class ≡ class) records
+abbrev pub AreOfOneClass : List Record → Type 0
+AreOfOneClass records = AllPairs (λ r s. r.class ≡ s.class) records
 
 -- the record is the first of its duplicates among these
 abbrev pub IsFirst : List Record → Record → Type 0

@@ -36,17 +36,23 @@ AreNsecsOf apex class ttl [] [] = Unit {0}
 AreNsecsOf apex class ttl (o ∷ owners) (r ∷ nsecs) = IsNsecOf o (next_name apex owners) class ttl r × AreNsecsOf apex class ttl owners nsecs
 AreNsecsOf apex class ttl _ _ = ⊥
 
+-- how long an NSEC record is kept: the lesser of the SOA record's TTL and its minimum field (RFC 9077 3)
+pub record IsChainTtl (soa : Record) (ttl : ℕ) : Type 0 where
+  pub start : Soa
+  pub says : soa_of soa.rdata ≡ Some start
+  pub is : ttl ≡ lesser soa.ttl start.minimum
+
 -- these are the NSEC records of the zone that the records make: one of each of its owners, of the class of the one SOA record at the
--- apex, with the lesser of its TTL and its minimum field as the TTL (RFC 4035 2.3, RFC 9077 3)
+-- apex, and kept as long as that says (RFC 4035 2.3)
 pub record IsNsecChain (apex : Labels) (records nsecs : List Record) : Type 0 where
   pub soa : Record
   pub one : soas_at (place apex) records ≡ soa ∷ []
-  pub start : Soa
-  pub says : soa_of soa.rdata ≡ Some start
+  pub ttl : ℕ
+  pub kept : IsChainTtl soa ttl
   pub owners : List Owner
   pub are : AreOwners (zone_of (place apex) records) owners
   pub written : All (λ o. IsWritten records o.name) owners
-  pub each : AreNsecsOf apex soa.class (lesser soa.ttl start.minimum) owners nsecs
+  pub each : AreNsecsOf apex soa.class ttl owners nsecs
 
 -- the zone once its NSEC records and the signatures stand
 abbrev pub signed_zone : Zone → Zone

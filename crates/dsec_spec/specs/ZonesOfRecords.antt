@@ -49,6 +49,10 @@ set_key r = (place r.owner, r.rtype)
 abbrev pub zone_of : Place → List Record → Zone
 zone_of apex records = record { apex = apex; sets = map set_key (filter (is_of_zone apex records) records) }
 
--- the records that say where a zone's authority starts
+-- whether the record says where the zone's authority starts
+abbrev pub is_soa_at : Place → Record → Bool
+is_soa_at apex r = (r.rtype == SOA) && same_place (place r.owner) apex
+
+-- the records that say so
 abbrev pub soas_at : Place → List Record → List Record
-soas_at apex records = filter (λ r. (r.rtype == SOA) && same_place (place r.owner) apex) records
+soas_at apex records = filter (is_soa_at apex) records

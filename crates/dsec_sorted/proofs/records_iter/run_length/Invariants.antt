@@ -1,0 +1,13 @@
+use Rattle.std.proofs.Common.{◌≡◌, ◌≤◌, ◌-◌, take, length}
+use Rattle.std.specs.Prelude.{All}
+use Rattle.dsec_spec.specs.Names.{place}
+use Rattle.dsec_sorted.proofs.records_iter.run_length.Given as goal
+
+abbrev pub invariant-loop-size : goal.invariant-loop-size
+invariant-loop-size l = record {
+  fits : l.size ≤ length l.records;
+  run : All (λ r. place r.owner ≡ place l.name) (take l.size l.records);
+}
+
+abbrev pub decreases-loop-size : goal.decreases-loop-size
+decreases-loop-size l = length l.records - l.size
