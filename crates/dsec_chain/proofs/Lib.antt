@@ -1,0 +1,5 @@
+pub mod InsideWalk
+pub mod InsideSteps
+pub mod NsecData
+pub mod Chained
+pub mod SoaLaws

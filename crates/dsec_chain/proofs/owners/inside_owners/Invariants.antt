@@ -1,0 +1,12 @@
+use Rattle.std.proofs.Common.{length, map}
+use Rattle.dsec_spec.specs.Names.{place}
+use Rattle.dsec_sorted.specs.IterViews.{left_of}
+use Rattle.dsec_chain.proofs.InsideWalk.{Entered}
+use Rattle.dsec_chain.specs.Views.{cut_place, inside_view}
+use Rattle.dsec_chain.proofs.owners.inside_owners.Given as goal
+
+abbrev pub invariant-loop-owner : goal.invariant-loop-owner
+invariant-loop-owner l = Entered (place l.apex) (left_of l.records) (left_of l.rest) (cut_place l.has_cut l.cut) (map inside_view l.all.items)
+
+abbrev pub decreases-loop-owner : goal.decreases-loop-owner
+decreases-loop-owner l = length (left_of l.rest)
