@@ -24,17 +24,17 @@ use std::alloc::Global;
 pub fn generate_nsecs(
     alloc: Global,
     apex: &Name,
-    records: &RecordsIter<'_>,
+    records: RecordsIter<'_>,
 ) -> Result<Vec<Record>, DenialError>
-    requires canonical { IsCanonical (left_of records.now) }
-    requires class { AreOfOneClass (left_of records.now) }
-    ensures chain { IfOk result (λ nsecs. IsNsecChain apex.now (left_of records.now) nsecs.items) }
-    ensures soa { IsErrOf result DenialError.SoaRecordCouldNotBeDetermined ↔ (length (soas_at (place apex.now) (left_of records.now)) ≢ 1) }
+    requires canonical { IsCanonical (left_of records) }
+    requires class { AreOfOneClass (left_of records) }
+    ensures chain { IfOk result (λ nsecs. IsNsecChain apex.now (left_of records.entry) nsecs.items) }
+    ensures soa { IsErrOf result DenialError.SoaRecordCouldNotBeDetermined ↔ (length (soas_at (place apex.now) (left_of records.entry)) ≢ 1) }
 {
     let Some(soa) = the_soa(apex, records.as_slice()) else {
         return Err(DenialError::SoaRecordCouldNotBeDetermined);
     };
-    let nsecs = chain_of(alloc, apex, records, soa)?;
+    let nsecs = chain_of(alloc, apex, &records, soa)?;
     Ok(nsecs)
 }
 

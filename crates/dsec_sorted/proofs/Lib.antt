@@ -7,3 +7,4 @@ pub mod Orderings
 pub mod Places
 pub mod Extending
 pub mod OwnerRuns
+pub mod SetLaws

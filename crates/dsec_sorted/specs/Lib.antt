@@ -4,3 +4,5 @@ pub mod BlockViews
 pub mod Inserting
 pub mod OwnersOf
 pub mod IterViews
+pub mod Sets
+pub mod SetViews

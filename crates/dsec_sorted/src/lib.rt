@@ -7,6 +7,7 @@ mod hash;
 mod order;
 mod reading;
 mod records_iter;
+mod rrset;
 mod sorted;
 
 pub use bitmap::push_bitmap;
@@ -15,4 +16,5 @@ pub use hash::{Nsec3Salt, Nsec3SaltError, OwnerHash, OwnerHashError};
 pub use order::{canonical_cmp, is_sorted_canonical};
 pub use reading::RtypeBitmap;
 pub use records_iter::{OwnerRrs, RecordsIter};
+pub use rrset::{Rrset, RrsetError, RrsetIter};
 pub use sorted::{InsertError, SortedRecords};
