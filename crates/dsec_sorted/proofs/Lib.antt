@@ -8,3 +8,4 @@ pub mod Places
 pub mod Extending
 pub mod OwnerRuns
 pub mod SetLaws
+pub mod OneClass

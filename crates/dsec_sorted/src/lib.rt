@@ -13,7 +13,7 @@ mod sorted;
 pub use bitmap::push_bitmap;
 pub use config::{DenialConfig, Nsec3Config};
 pub use hash::{Nsec3Salt, Nsec3SaltError, OwnerHash, OwnerHashError};
-pub use order::{canonical_cmp, is_sorted_canonical};
+pub use order::{canonical_cmp, is_of_one_class, is_sorted_canonical};
 pub use reading::RtypeBitmap;
 pub use records_iter::{OwnerRrs, RecordsIter};
 pub use rrset::{Rrset, RrsetError, RrsetIter};
