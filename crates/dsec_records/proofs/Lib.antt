@@ -1,6 +1,0 @@
-pub mod DisplayLemmas
-pub mod KeyLemmas
-pub mod KeyWords
-pub mod LineLemmas
-pub mod PlainWords
-pub mod ReadBack

@@ -1,14 +1,13 @@
-//! Records as other programs write them: DNSKEY records in the text that BIND keeps keys in.
+//! What a zone's records are brought into before they are signed, as one crate: it passes on what `dsec_sorted`, `dsec_chain` and
+//! `dsec_bind` make public.
 #![tactic(auto)]
 
-mod bind;
-mod display;
-mod error;
-mod key;
-mod laws;
-mod line;
-
-pub use bind::parse_from_bind;
-pub use display::{BindDisplay, display_as_bind};
-pub use error::ParseDnskeyTextError;
-pub use laws::law_of_bind_text;
+pub use dsec_bind::{
+    BindDisplay, ParseDnskeyTextError, display_as_bind, law_of_bind_text, parse_from_bind,
+};
+pub use dsec_chain::{DenialError, InsideOwner, Nsec3HashError, generate_nsecs, inside_owners};
+pub use dsec_sorted::{
+    DenialConfig, InsertError, Nsec3Config, Nsec3Salt, Nsec3SaltError, OwnerHash, OwnerHashError,
+    OwnerRrs, RecordsIter, Rrset, RrsetError, RrsetIter, RtypeBitmap, SortedRecords, canonical_cmp,
+    is_of_one_class, is_sorted_canonical, push_bitmap,
+};
