@@ -6,7 +6,7 @@ use dsec_chain::{DenialError, generate_nsecs};
 use dsec_name::{Name, NoMemory, Octets};
 use dsec_number::{Class, Rtype, Ttl};
 use dsec_outside::{Reading, Stop, Writing, read_all, write_all};
-use dsec_sorted::{RecordsIter, SortedRecords, is_of_one_class};
+use dsec_sorted::{InsertError, RecordsIter, SortedRecords, is_of_one_class};
 use dsec_wire::{Data, Record};
 use dsec_word::{ReadError, push_hex, push_number, read_hex, read_name};
 use dsec_zonefile::{Entry, Zonefile, ZonefileError};
@@ -120,10 +120,10 @@ fn show(rt: &HostRuntime) -> Result<(), Status> {
         faults: 0,
     };
     let text = read_all(alloc, &mut source)?;
-    let mut records = records_of(alloc, &text)?;
-    records.push(key_record(alloc, &apex, &key)?)?;
+    let records = records_of(alloc, &text)?;
     let mut sorted = SortedRecords::new(alloc);
     sorted.extend(records)?;
+    add(&mut sorted, key_record(alloc, &apex, &key)?)?;
     let nsecs = nsecs_of(alloc, &apex, &sorted)?;
     write_records(rt, &nsecs)
 }
@@ -166,6 +166,14 @@ fn key_record(alloc: Global, apex: &Name, key: &Octets) -> Result<Record, Status
     }
     let rdata = Data::new(Rtype::DNSKEY, Octets::new(octets));
     Ok(Record::new(apex.clone()?, Class::IN, Ttl::from_secs(3600), rdata))
+}
+
+/// Adds a record, unless a duplicate of it is there.
+fn add(sorted: &mut SortedRecords, one: Record) -> Result<(), Status> {
+    match sorted.insert(one) {
+        Err(InsertError::NoMemory(_)) => Err(Status::NoMemory),
+        _ => Ok(()),
+    }
 }
 
 /// The NSEC records of sorted records.
