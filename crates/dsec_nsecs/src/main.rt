@@ -110,21 +110,37 @@ fn main(rt: HostRuntime) -> ExitCode {
 fn show(rt: &HostRuntime) -> Result<(), Status> {
     let alloc = rt.alloc();
     let words = words_of(rt)?;
-    if words.len() != 2 {
+    if words.is_empty() || words.len() % 2 != 0 {
         return Err(Status::Words);
     }
-    let apex = read_name(alloc, words[0].as_bytes())?;
-    let key = read_hex(alloc, words[1].as_bytes())?;
     let mut source = Reading {
         inner: rt.stdin(),
         faults: 0,
+        ended: false,
     };
     let text = read_all(alloc, &mut source)?;
-    let records = records_of(alloc, &text)?;
     let mut sorted = SortedRecords::new(alloc);
-    sorted.extend(records)?;
-    add(&mut sorted, key_record(alloc, &apex, &key)?)?;
-    let nsecs = nsecs_of(alloc, &apex, &sorted)?;
+    sorted.extend(records_of(alloc, &text)?)?;
+    for pair in words.chunks(2) {
+        if let [apex, key] = pair {
+            show_zone(rt, &mut sorted, apex, key)?;
+        }
+    }
+    Ok(())
+}
+
+/// Prints the records of the zone of an apex, with its key.
+fn show_zone(
+    rt: &HostRuntime,
+    sorted: &mut SortedRecords,
+    apex: &str,
+    key: &str,
+) -> Result<(), Status> {
+    let alloc = rt.alloc();
+    let apex = read_name(alloc, apex.as_bytes())?;
+    let key = read_hex(alloc, key.as_bytes())?;
+    add(sorted, key_record(alloc, &apex, &key)?)?;
+    let nsecs = nsecs_of(alloc, &apex, sorted)?;
     write_records(rt, &nsecs)
 }
 
@@ -208,15 +224,15 @@ fn line_of(alloc: Global, one: &Record) -> Result<Vec<u8>, Status> {
     let owner = one.owner();
     let rdata = one.rdata().octets();
     let mut line = format!(in alloc; "{owner} ")?.into_bytes();
-    push_number(alloc, &mut line, u64::from(one.ttl().as_secs()))?;
+    push_number(&mut line, u64::from(one.ttl().as_secs()))?;
     line.extend_from_slice(b" CLASS")?;
-    push_number(alloc, &mut line, u64::from(one.class().to_int()))?;
+    push_number(&mut line, u64::from(one.class().to_int()))?;
     line.extend_from_slice(b" TYPE")?;
-    push_number(alloc, &mut line, u64::from(one.rtype().to_int()))?;
+    push_number(&mut line, u64::from(one.rtype().to_int()))?;
     line.extend_from_slice(b" \\# ")?;
-    push_number(alloc, &mut line, rdata.len() as u64)?;
+    push_number(&mut line, rdata.len() as u64)?;
     line.push(b' ')?;
-    push_hex(alloc, &mut line, rdata.as_slice())?;
+    push_hex(&mut line, rdata.as_slice())?;
     line.push(b'\n')?;
     Ok(line)
 }
