@@ -33,3 +33,4 @@ pub mod DenialTruth
 pub mod CanonicalRecords
 pub mod OwnersInside
 pub mod NsecChains
+pub mod SetsToSign

@@ -121,6 +121,14 @@ NSEC3 = 50
 abbrev pub NSEC3PARAM : ℕ
 NSEC3PARAM = 51
 
+-- the DS records that a zone asks its parent for (RFC 7344 3.1)
+abbrev pub CDS : ℕ
+CDS = 59
+
+-- the keys for which a zone asks its parent for DS records (RFC 7344 3.2)
+abbrev pub CDNSKEY : ℕ
+CDNSKEY = 60
+
 -- a question for all types (RFC 1035 3.2.3)
 abbrev pub ANY : ℕ
 ANY = 255
