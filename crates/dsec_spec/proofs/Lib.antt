@@ -37,3 +37,4 @@ pub mod CanonicalOrder
 pub mod BitmapLaws
 pub mod ZoneOfLaws
 pub mod NsecChainLaws
+pub mod Base32hexLaws

@@ -1,10 +1,11 @@
 -- When what NSEC and NSEC3 records say is true of a zone (RFC 4034 4, RFC 5155 3.1, 6, 7.1).
-use Rattle.std.specs.Prelude.{◌≡◌, ◌↔◌, ◌⊎◌, ℕ, ◌<◌, true, false, IsTrue, Some}
-use Rattle.dsec_spec.specs.Names.{Place, Before, IsAtOrBelow}
-use Rattle.dsec_spec.specs.Numbers.{DS, NSEC}
+use Rattle.std.specs.Prelude.{◌≡◌, ◌↔◌, ◌⊎◌, ℕ, ◌<◌, List, ◌∷◌, true, false, IsTrue, Some}
+use Rattle.dsec_spec.specs.Names.{Labels, Place, place, Before, IsAtOrBelow}
+use Rattle.dsec_spec.specs.Base32hex.{octets_in_base32hex}
+use Rattle.dsec_spec.specs.Numbers.{NSEC, NSEC3}
 use Rattle.dsec_spec.specs.Records.{Record}
-use Rattle.dsec_spec.specs.RecordViews.{Hashing, Nsec, nsec_of}
-use Rattle.dsec_spec.specs.Zones.{Zone, Owns, Stands, IsDelegation, Exists}
+use Rattle.dsec_spec.specs.RecordViews.{Hashing, Nsec, nsec_of, Nsec3, nsec3_of}
+use Rattle.dsec_spec.specs.Zones.{Zone, Owns, Stands, IsInsecureDelegation, Exists}
 use Rattle.dsec_spec.specs.DenyingRecords.{NsecAt, owner_of, next_of, has, Nsec3At, has_hashed, opts_out, hash_by, hashed_by, CoversHash}
 
 -- no name of the zone stands between the two, or the second is the apex and none stands after the first
@@ -30,7 +31,7 @@ pub record IsTrueNsec (z : Zone) (r : Record) : Type 0 where
 
 -- what stands at or below the name are delegations without DS alone (RFC 5155 6)
 abbrev pub IsOptedOut : Zone → Place → Type 0
-IsOptedOut z n = (m : Place) → Stands z m → IsAtOrBelow m n → IsDelegation z m × (Owns z m DS → ⊥)
+IsOptedOut z n = (m : Place) → Stands z m → IsAtOrBelow m n → IsInsecureDelegation z m
 
 -- the owner's hash is that of a name that exists, with the types of the bitmap; the gap has the hash of no such name, or with Opt-Out of
 -- those alone that are opted out (RFC 5155 3.1, 7.1)
@@ -42,6 +43,18 @@ pub record IsNsec3True (z : Zone) (r : Nsec3At) : Type 0 where
   pub types : (t : ℕ) → t < 65536 → IsTrue (has_hashed r t) ↔ Owns z name t
   pub gap : opts_out r ≡ false → (n : Place) → Exists z n → CoversHash r n → ⊥
   pub gap_but_opted_out : opts_out r ≡ true → (n : Place) → Exists z n → CoversHash r n → IsOptedOut z n
+
+-- the record is an NSEC3 record that is true of the zone: its owner is a label with the hash, before the zone's apex (RFC 5155 3)
+pub record IsTrueNsec3 (z : Zone) (r : Record) : Type 0 where
+  pub rtype : r.rtype ≡ NSEC3
+  pub label : List ℕ
+  pub above : Labels
+  pub owner : r.owner ≡ label ∷ above
+  pub owner_hash : List ℕ
+  pub writes : octets_in_base32hex label ≡ Some owner_hash
+  pub nsec3 : Nsec3
+  pub says : nsec3_of r.rdata ≡ Some nsec3
+  pub holds : IsNsec3True z (record { zone = place above; owner_hash = owner_hash; says = nsec3 })
 
 -- no two of the names that exist in the zone and of the listed ones share a hash
 abbrev pub IsFree : Hashing → Zone → (Place → Type 0) → Type 0

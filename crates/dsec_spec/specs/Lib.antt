@@ -26,6 +26,7 @@ pub mod Answering
 pub mod Sound
 pub mod Outside
 pub mod TypeBitmaps
+pub mod Base32hex
 pub mod Zones
 pub mod ZonesOfRecords
 pub mod DenyingRecords
@@ -34,3 +35,5 @@ pub mod CanonicalRecords
 pub mod OwnersInside
 pub mod NsecChains
 pub mod SetsToSign
+pub mod HashedNames
+pub mod Nsec3Chains

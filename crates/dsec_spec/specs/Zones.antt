@@ -2,7 +2,7 @@
 use Rattle.std.specs.Prelude.{◌≡◌, ◌≢◌, ℕ, List, [], ◌∷◌, ◌++◌, Contains, map}
 use Rattle.std.specs.List.{flat_map}
 use Rattle.dsec_spec.specs.Names.{Place, IsAtOrBelow, IsStrictlyBelow, asterisk}
-use Rattle.dsec_spec.specs.Numbers.{NS, SOA}
+use Rattle.dsec_spec.specs.Numbers.{NS, SOA, DS}
 
 -- a zone: its apex, and each owner with each type that stands there
 pub record Zone : Type 0 where
@@ -21,6 +21,10 @@ Stands z n = (t : ℕ) × Owns z n t
 pub record IsDelegation (z : Zone) (n : Place) : Type 0 where
   pub ns : Owns z n NS
   pub below : n ≢ z.apex
+
+-- another zone begins at the name, without DS (RFC 4035 5.2, RFC 5155 6)
+abbrev pub IsInsecureDelegation : Zone → Place → Type 0
+IsInsecureDelegation z n = IsDelegation z n × (Owns z n DS → ⊥)
 
 -- the apex has SOA and NS, SOA stands nowhere else, and nothing stands outside, or below a delegation (RFC 1034 4.2.1, RFC 2181 6)
 pub record IsZone (z : Zone) : Type 0 where
