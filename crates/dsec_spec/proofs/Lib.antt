@@ -38,3 +38,5 @@ pub mod BitmapLaws
 pub mod ZoneOfLaws
 pub mod NsecChainLaws
 pub mod Base32hexLaws
+pub mod SignedOwner
+pub mod SigningLaws

@@ -37,3 +37,5 @@ pub mod NsecChains
 pub mod SetsToSign
 pub mod HashedNames
 pub mod Nsec3Chains
+pub mod Signatures
+pub mod SignedZones
