@@ -1,6 +1,7 @@
 pub mod KeyOrder
 pub mod NameParts
 pub mod NamePrefix
+pub mod NamePieces
 pub mod NameRefs
 pub mod WireReading
 pub mod NameReading

@@ -4,6 +4,7 @@ pub mod Keys
 pub mod NameLaws
 pub mod Wire
 pub mod Parts
+pub mod JoinedNames
 pub mod NamePrefix
 pub mod NameRefs
 pub mod NameText

@@ -9,6 +9,8 @@ mod name;
 mod name_ref;
 mod octets;
 mod order;
+mod parts;
+mod push_name;
 mod text;
 
 pub use error::{NameError, NoMemory};
@@ -16,4 +18,5 @@ pub use laws::{law_of_display, law_of_equality, law_of_text, law_of_wire};
 pub use name::Name;
 pub use name_ref::NameRef;
 pub use octets::Octets;
+pub use push_name::PushNameError;
 pub use text::octet_of_digits;
