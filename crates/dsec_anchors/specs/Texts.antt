@@ -61,7 +61,7 @@ records_left reader = records_of (reading_of reader)
 
 -- at the start of a text, with this default class, and with the root for the origin
 abbrev pub start_of : Option ℕ → List ℕ → Reader
-start_of default text = record { text = text; passed = 0; setting = record at_first { class = default }; refused = None }
+start_of default text = record { text = text; passed = 0; setting = record at_first { class = default }; refused = None; begun = 0 }
 
 -- the records of a zone text with this default class; or the line that is refused, or that of the first octet past the limit
 abbrev pub anchors_in : Option ℕ → List ℕ → Result (List Record) AnchorError

@@ -89,9 +89,9 @@ found_takes reader next it is = next_takes reader (found it next) is
 abbrev Has : Reader → Reading → Type 0
 Has reader reading = HasEntries reader reading.entries reading.end
 
--- a reader that refused nothing
-abbrev at_text : List ℕ → ℕ → Setting → Reader
-at_text text passed setting = record { text = text; passed = passed; setting = setting; refused = None }
+-- a reader that refused nothing, where what was read last begins on this line
+abbrev at_text : ℕ → List ℕ → ℕ → Setting → Reader
+at_text begun text passed setting = record { text = text; passed = passed; setting = setting; refused = None; begun = begun }
 
 not_refused : (refusal : Option ℕ) (line : ℕ) → refusal ≡ Some line → refusal ≡ None → ⊥
 not_refused refusal line a b = let e : Some line ≡ None = sym a ∙ b in absurd cc
@@ -115,7 +115,7 @@ all_comes reader _ _ _ on (goes_on other next it all last h rest) = goes_on read
 
 -- a step behind a line
 abbrev step_behind : List ℕ → Step → Step
-step_behind line step = record { said = step.said; octets = length line + step.octets; lines = line_ends line + step.lines }
+step_behind line step = record { said = step.said; octets = length line + step.octets; lines = line_ends line + step.lines; begins = step.begins }
 
 abbrev shifted : List ℕ → Stepped → Stepped
 shifted line (Ok (Some step)) = Ok (Some (step_behind line step))
@@ -130,31 +130,31 @@ slice_behind line rest a b =
 told_shifted : (passed : ℕ) (line at : List ℕ) (span : Span) (said : Option Said)
     → told passed (record { before = line_ends line + span.before; start = length line + span.start; end = length line + span.end }) at said ≡ shifted line (told (passed + line_ends line) span at said)
 told_shifted passed line at span None = λ i. Err (errors.Inplace (record { line = plus_assoc passed (line_ends line) span.before i + 1 }))
-told_shifted passed line at span (Some said) = λ i. Ok (Some (record { said = said; octets = length line + span.end; lines = sym (plus_assoc (line_ends line) span.before (line_ends at)) i }))
+told_shifted passed line at span (Some said) = λ i. Ok (Some (record { said = said; octets = length line + span.end; lines = sym (plus_assoc (line_ends line) span.before (line_ends at)) i; begins = plus_assoc passed (line_ends line) span.before i + 1 }))
 
-first_shifted : (line rest : List ℕ) (passed : ℕ) (setting : Setting) (first : Result (Option Span) BadLine)
-    → first_told (at_text (line ++ rest) passed setting) (moved (length line) (line_ends line) first) ≡ shifted line (first_told (at_text rest (passed + line_ends line) setting) first)
-first_shifted line rest passed setting (Err refusal) = λ i. Err (errors.Inplace (record { line = plus_assoc passed (line_ends line) refusal.before i + 1 }))
-first_shifted line rest passed setting (Ok None) = refl
-first_shifted line rest passed setting (Ok (Some span)) =
+first_shifted : (begun : ℕ) (line rest : List ℕ) (passed : ℕ) (setting : Setting) (first : Result (Option Span) BadLine)
+    → first_told (at_text begun (line ++ rest) passed setting) (moved (length line) (line_ends line) first) ≡ shifted line (first_told (at_text begun rest (passed + line_ends line) setting) first)
+first_shifted begun line rest passed setting (Err refusal) = λ i. Err (errors.Inplace (record { line = plus_assoc passed (line_ends line) refusal.before i + 1 }))
+first_shifted begun line rest passed setting (Ok None) = refl
+first_shifted begun line rest passed setting (Ok (Some span)) =
     ap (λ (at : List ℕ). told passed (record { before = line_ends line + span.before; start = length line + span.start; end = length line + span.end }) at (said_in setting at)) (slice_behind line rest span.start span.end)
     ∙ told_shifted passed line (line_at rest span) span (said_in setting (line_at rest span))
 
-step_shifted : (line rest : List ℕ) (passed : ℕ) (setting : Setting) → lines_of (line ++ rest) ≡ Some line ∷ lines_of rest → words_of line ≡ []
-    → step_of (at_text (line ++ rest) passed setting) ≡ shifted line (step_of (at_text rest (passed + line_ends line) setting))
-step_shifted line rest passed setting cut none =
-    ap (λ (lines : List (Option (List ℕ))). first_told (at_text (line ++ rest) passed setting) (first_of lines)) cut
-    ∙ ap (λ (words : List Word). first_told (at_text (line ++ rest) passed setting) (line_or line words (first_line_of rest))) none
-    ∙ first_shifted line rest passed setting (first_line_of rest)
+step_shifted : (begun : ℕ) (line rest : List ℕ) (passed : ℕ) (setting : Setting) → lines_of (line ++ rest) ≡ Some line ∷ lines_of rest → words_of line ≡ []
+    → step_of (at_text begun (line ++ rest) passed setting) ≡ shifted line (step_of (at_text begun rest (passed + line_ends line) setting))
+step_shifted begun line rest passed setting cut none =
+    ap (λ (lines : List (Option (List ℕ))). first_told (at_text begun (line ++ rest) passed setting) (first_of lines)) cut
+    ∙ ap (λ (words : List Word). first_told (at_text begun (line ++ rest) passed setting) (line_or line words (first_line_of rest))) none
+    ∙ first_shifted begun line rest passed setting (first_line_of rest)
 
-behind_shifted : (line rest : List ℕ) (passed : ℕ) (setting : Setting) (step : Step)
-    → behind (at_text (line ++ rest) passed setting) (step_behind line step) ≡ behind (at_text rest (passed + line_ends line) setting) step
-behind_shifted line rest passed setting step =
-    λ i. record { text = drop-append-add line rest step.octets i; passed = plus_assoc passed (line_ends line) step.lines i; setting = after setting step.said; refused = None }
+behind_shifted : (begun : ℕ) (line rest : List ℕ) (passed : ℕ) (setting : Setting) (step : Step)
+    → behind (at_text begun (line ++ rest) passed setting) (step_behind line step) ≡ behind (at_text begun rest (passed + line_ends line) setting) step
+behind_shifted begun line rest passed setting step =
+    λ i. record { text = drop-append-add line rest step.octets i; passed = plus_assoc passed (line_ends line) step.lines i; setting = after setting step.said; refused = None; begun = step.begins }
 
-end_shifted : (line rest : List ℕ) (passed : ℕ) (setting : Setting) → entries.at_end (at_text (line ++ rest) passed setting) ≡ entries.at_end (at_text rest (passed + line_ends line) setting)
-end_shifted line rest passed setting =
-    λ i. record { text = []; passed = (ap (λ (n : ℕ). passed + n) (line_ends-append line rest) ∙ plus_assoc passed (line_ends line) (line_ends rest)) i; setting = setting; refused = None }
+end_shifted : (begun : ℕ) (line rest : List ℕ) (passed : ℕ) (setting : Setting) → entries.at_end (at_text begun (line ++ rest) passed setting) ≡ entries.at_end (at_text begun rest (passed + line_ends line) setting)
+end_shifted begun line rest passed setting =
+    λ i. record { text = []; passed = (ap (λ (n : ℕ). passed + n) (line_ends-append line rest) ∙ plus_assoc passed (line_ends line) (line_ends rest)) i; setting = setting; refused = None; begun = begun }
 
 -- what comes next behind a line without a word comes next
 comes_behind : (reader other : Reader) (line : List ℕ) → reader.refused ≡ None → other.refused ≡ None → step_of reader ≡ shifted line (step_of other)
@@ -177,17 +177,17 @@ front_span line = record { before = 0; start = 0; end = length line }
 slice_line : (line rest : List ℕ) → slice_range (line ++ rest) 0 (length line) ≡ line
 slice_line line rest = let size : length line - 0 ≡ length line = omega arith in ap (λ (n : ℕ). take n (line ++ rest)) size ∙ take_at line rest (length line) refl
 
-step_here : (line rest : List ℕ) (passed : ℕ) (setting : Setting) (word : Word) (words : List Word) → lines_of (line ++ rest) ≡ Some line ∷ lines_of rest → words_of line ≡ word ∷ words
-    → step_of (at_text (line ++ rest) passed setting) ≡ told passed (front_span line) line (said_in setting line)
-step_here line rest passed setting word words cut some =
-    ap (λ (lines : List (Option (List ℕ))). first_told (at_text (line ++ rest) passed setting) (first_of lines)) cut
-    ∙ ap (λ (all : List Word). first_told (at_text (line ++ rest) passed setting) (line_or line all (first_line_of rest))) some
+step_here : (begun : ℕ) (line rest : List ℕ) (passed : ℕ) (setting : Setting) (word : Word) (words : List Word) → lines_of (line ++ rest) ≡ Some line ∷ lines_of rest → words_of line ≡ word ∷ words
+    → step_of (at_text begun (line ++ rest) passed setting) ≡ told passed (front_span line) line (said_in setting line)
+step_here begun line rest passed setting word words cut some =
+    ap (λ (lines : List (Option (List ℕ))). first_told (at_text begun (line ++ rest) passed setting) (first_of lines)) cut
+    ∙ ap (λ (all : List Word). first_told (at_text begun (line ++ rest) passed setting) (line_or line all (first_line_of rest))) some
     ∙ ap (λ (at : List ℕ). told passed (front_span line) at (said_in setting at)) (slice_line line rest)
 
-behind_here : (line rest : List ℕ) (passed : ℕ) (setting : Setting) (said : Said)
-    → behind (at_text (line ++ rest) passed setting) (record { said = said; octets = length line; lines = 0 + line_ends line }) ≡ at_text rest (passed + line_ends line) (after setting said)
-behind_here line rest passed setting said =
-    λ i. record { text = drop_at line rest (length line) refl i; passed = passed + none_plus (line_ends line) i; setting = after setting said; refused = None }
+behind_here : (begun begins : ℕ) (line rest : List ℕ) (passed : ℕ) (setting : Setting) (said : Said)
+    → behind (at_text begun (line ++ rest) passed setting) (record { said = said; octets = length line; lines = 0 + line_ends line; begins = begins }) ≡ at_text begins rest (passed + line_ends line) (after setting said)
+behind_here begun begins line rest passed setting said =
+    λ i. record { text = drop_at line rest (length line) refl i; passed = passed + none_plus (line_ends line) i; setting = after setting said; refused = None; begun = begins }
 
 -- what the line gives comes before what the others say
 has_entry : (reader : Reader) (step : Step) (given : Option Entry) (others : Reading) → reader.refused ≡ None → step_of reader ≡ Ok (Some step) → entry_of step.said ≡ given
@@ -200,40 +200,40 @@ has_refused : (reader : Reader) → reader.refused ≡ None → step_of reader �
 has_refused reader none says =
     subst (λ (n : ℕ). HasEntries reader [] (Some (n + 1))) (plus_none reader.passed) (stops reader (reader.passed + 0 + 1) (bad reader (record { line = reader.passed + 0 + 1 }) none says))
 
-has_said : (line rest : List ℕ) (passed : ℕ) (setting : Setting) (said : Option Said) (others : Setting → Reading)
-    → step_of (at_text (line ++ rest) passed setting) ≡ told passed (front_span line) line said → ((next : Setting) → Has (at_text rest (passed + line_ends line) next) (others next))
-    → Has (at_text (line ++ rest) passed setting) (with_said passed setting said others)
-has_said line rest passed setting None others says go = has_refused (at_text (line ++ rest) passed setting) refl says
-has_said line rest passed setting (Some said) others says go =
-    has_entry (at_text (line ++ rest) passed setting) (record { said = said; octets = length line; lines = 0 + line_ends line }) (entry_of said) (others (after setting said)) refl says refl
-    (subst (λ (r : Reader). Has r (others (after setting said))) (sym (behind_here line rest passed setting said)) (go (after setting said)))
+has_said : (begun : ℕ) (line rest : List ℕ) (passed : ℕ) (setting : Setting) (said : Option Said) (others : Setting → Reading)
+    → step_of (at_text begun (line ++ rest) passed setting) ≡ told passed (front_span line) line said → ((begins : ℕ) (next : Setting) → Has (at_text begins rest (passed + line_ends line) next) (others next))
+    → Has (at_text begun (line ++ rest) passed setting) (with_said passed setting said others)
+has_said begun line rest passed setting None others says go = has_refused (at_text begun (line ++ rest) passed setting) refl says
+has_said begun line rest passed setting (Some said) others says go =
+    has_entry (at_text begun (line ++ rest) passed setting) (record { said = said; octets = length line; lines = 0 + line_ends line; begins = passed + 0 + 1 }) (entry_of said) (others (after setting said)) refl says refl
+    (subst (λ (r : Reader). Has r (others (after setting said))) (sym (behind_here begun (passed + 0 + 1) line rest passed setting said)) (go (passed + 0 + 1) (after setting said)))
 
 -- ---- each line
 
-has_line : (line rest : List ℕ) (passed : ℕ) (setting : Setting) (words : List Word) (others : Setting → Reading) → words_of line ≡ words → lines_of (line ++ rest) ≡ Some line ∷ lines_of rest
-    → ((next : Setting) → Has (at_text rest (passed + line_ends line) next) (others next)) → Has (at_text (line ++ rest) passed setting) (with_line passed setting line words others)
-has_line line rest passed setting [] others none cut go =
-    all_comes (at_text (line ++ rest) passed setting) (at_text rest (passed + line_ends line) setting) (others setting).entries (others setting).end
-    (comes_behind (at_text (line ++ rest) passed setting) (at_text rest (passed + line_ends line) setting) line refl refl (step_shifted line rest passed setting cut none)
-    (behind_shifted line rest passed setting) (end_shifted line rest passed setting))
-    (go setting)
-has_line line rest passed setting (word ∷ words) others some cut go =
-    has_said line rest passed setting (said_in setting line) others (step_here line rest passed setting word words cut some) go
+has_line : (begun : ℕ) (line rest : List ℕ) (passed : ℕ) (setting : Setting) (words : List Word) (others : Setting → Reading) → words_of line ≡ words → lines_of (line ++ rest) ≡ Some line ∷ lines_of rest
+    → ((begins : ℕ) (next : Setting) → Has (at_text begins rest (passed + line_ends line) next) (others next)) → Has (at_text begun (line ++ rest) passed setting) (with_line passed setting line words others)
+has_line begun line rest passed setting [] others none cut go =
+    all_comes (at_text begun (line ++ rest) passed setting) (at_text begun rest (passed + line_ends line) setting) (others setting).entries (others setting).end
+    (comes_behind (at_text begun (line ++ rest) passed setting) (at_text begun rest (passed + line_ends line) setting) line refl refl (step_shifted begun line rest passed setting cut none)
+    (behind_shifted begun line rest passed setting) (end_shifted begun line rest passed setting))
+    (go begun setting)
+has_line begun line rest passed setting (word ∷ words) others some cut go =
+    has_said begun line rest passed setting (said_in setting line) others (step_here begun line rest passed setting word words cut some) go
 
-has_lines : (lines : List (Option (List ℕ))) (text : List ℕ) (passed : ℕ) (setting : Setting) → lines_of text ≡ lines → Has (at_text text passed setting) (reading_from passed setting lines)
+has_lines : (begun : ℕ) (lines : List (Option (List ℕ))) (text : List ℕ) (passed : ℕ) (setting : Setting) → lines_of text ≡ lines → Has (at_text begun text passed setting) (reading_from passed setting lines)
 unfolding reading_from
-has_lines [] text passed setting is =
-    no_more (at_text text passed setting) (entries.at_end (at_text text passed setting))
-    (end (at_text text passed setting) refl (ap (λ (lines : List (Option (List ℕ))). first_told (at_text text passed setting) (first_of lines)) is))
-has_lines (None ∷ lines) text passed setting is =
-    has_refused (at_text text passed setting) refl (ap (λ (all : List (Option (List ℕ))). first_told (at_text text passed setting) (first_of all)) is)
-has_lines (Some line ∷ lines) text passed setting is =
+has_lines begun [] text passed setting is =
+    no_more (at_text begun text passed setting) (entries.at_end (at_text begun text passed setting))
+    (end (at_text begun text passed setting) refl (ap (λ (lines : List (Option (List ℕ))). first_told (at_text begun text passed setting) (first_of lines)) is))
+has_lines begun (None ∷ lines) text passed setting is =
+    has_refused (at_text begun text passed setting) refl (ap (λ (all : List (Option (List ℕ))). first_told (at_text begun text passed setting) (first_of all)) is)
+has_lines begun (Some line ∷ lines) text passed setting is =
     let h = line_begins text line lines is in
     let cut : lines_of (line ++ h.rest) ≡ Some line ∷ lines_of h.rest =
     ap lines_of (sym h.is) ∙ is ∙ ap (λ (others : List (Option (List ℕ))). Some line ∷ others) h.follow in
-    subst (λ (t : List ℕ). Has (at_text t passed setting) (reading_from passed setting (Some line ∷ lines))) (sym h.is)
-    (has_line line h.rest passed setting (words_of line) (λ next. reading_from (passed + line_ends line) next lines) refl cut
-    (λ next. has_lines lines h.rest (passed + line_ends line) next (sym h.follow)))
+    subst (λ (t : List ℕ). Has (at_text begun t passed setting) (reading_from passed setting (Some line ∷ lines))) (sym h.is)
+    (has_line begun line h.rest passed setting (words_of line) (λ next. reading_from (passed + line_ends line) next lines) refl cut
+    (λ begins next. has_lines begins lines h.rest (passed + line_ends line) next (sym h.follow)))
 
 -- each reader has its reading
 pub reading : (reader : Reader) → HasEntries reader (reading_of reader).entries (reading_of reader).end
@@ -242,5 +242,5 @@ reading reader = by reader.refused refl
     by : (refusal : Option ℕ) → reader.refused ≡ refusal → Has reader (left_unless refusal reader)
     by (Some line) e = stops reader line (again reader line e)
     by None e = subst (λ (r : Reader). Has r (reading_from reader.passed reader.setting (lines_of reader.text)))
-        (λ i. record { text = reader.text; passed = reader.passed; setting = reader.setting; refused = sym e i })
-        (has_lines (lines_of reader.text) reader.text reader.passed reader.setting refl)
+        (λ i. record { text = reader.text; passed = reader.passed; setting = reader.setting; refused = sym e i; begun = reader.begun })
+        (has_lines reader.begun (lines_of reader.text) reader.text reader.passed reader.setting refl)

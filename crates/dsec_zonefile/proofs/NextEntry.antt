@@ -5,7 +5,7 @@ use Rattle.std.proofs.lemmas.List.{drop-drop, drop_all}
 use Rattle.std.proofs.lemmas.Option.{same_Some}
 use Rattle.dsec_text.specs.Lines.{line_ends}
 use Rattle.dsec_zonefile.specs.Entries.{IsNext, Next, Reader, again, at_end, bad, behind, end, ended, entry, found, later, refused, step_of, wants_memory}
-use Rattle.dsec_zonefile.specs.Places.{Finds, IsSized, IsWithin, led, place_behind, reader_at}
+use Rattle.dsec_zonefile.specs.Places.{Finds, IsSized, IsWithin, Steps, led, place_behind, reader_at}
 use Rattle.dsec_zonefile.specs.Setting.{after, entry_of}
 use Rattle.dsec_zonefile.specs.declared.entry.Entry.{Entry}
 use Rattle.dsec_zonefile.specs.declared.error.InplaceError.{InplaceError}
@@ -13,6 +13,7 @@ use Rattle.dsec_zonefile.specs.declared.error.ZonefileError.{ZonefileError}
 use Rattle.dsec_zonefile.specs.declared.error.ZonefileError.TheVariants as errors
 use Rattle.dsec_zonefile.specs.declared.place.Place.{Place}
 use Rattle.dsec_zonefile.specs.declared.place.Way.{Way}
+use Rattle.dsec_zonefile.specs.declared.step.Ahead.{Ahead}
 use Rattle.dsec_zonefile.specs.declared.step.Ahead.TheVariants as ahead
 use Rattle.dsec_zonefile.specs.declared.step.Step.{Step}
 
@@ -35,20 +36,20 @@ finds_error (errors.Inplace error) text start place says on = on (refused error.
 finds_error errors.NoMemory text start place says on = tt
 
 -- the reader at the end of a text
-end_is : (text : List ℕ) (place : Place) (at lines : ℕ) → at ≡ length text → lines ≡ place.lines + line_ends (drop place.at text) → at_end (reader_at text place) ≡ reader_at text (record { at = at; lines = lines; setting = place.setting })
+end_is : (text : List ℕ) (place : Place) (at lines : ℕ) → at ≡ length text → lines ≡ place.lines + line_ends (drop place.at text) → at_end (reader_at text place) ≡ reader_at text (record { at = at; lines = lines; setting = place.setting; begun = place.begun })
 end_is text place at lines e f =
-    λ i. record { text = sym (drop_all at text (omega (arith, e))) i; passed = sym f i; setting = place.setting; refused = None }
+    λ i. record { text = sym (drop_all at text (omega (arith, e))) i; passed = sym f i; setting = place.setting; refused = None; begun = place.begun }
 
 -- no line with a word
 pub finds_end : (text : List ℕ) (start place : Place) (at lines : ℕ) → step_of (reader_at text place) ≡ Ok None → at ≡ length text → lines ≡ place.lines + line_ends (drop place.at text) → Leads text start place
-    → IsNext (reader_at text start) (ended (reader_at text (record { at = at; lines = lines; setting = place.setting })))
+    → IsNext (reader_at text start) (ended (reader_at text (record { at = at; lines = lines; setting = place.setting; begun = place.begun })))
 finds_end text start place at lines says e f on =
     subst (λ (r : Reader). IsNext (reader_at text start) (ended r)) (end_is text place at lines e f) (on (ended (at_end (reader_at text place))) (end (reader_at text place) refl says))
 
 -- the reader behind a step is the one at the place behind it
 reader_behind : (text : List ℕ) (place : Place) (step : Step) → behind (reader_at text place) step ≡ reader_at text (place_behind place step)
 reader_behind text place step =
-    ap {B = Reader} (λ (rest : List ℕ). record { text = rest; passed = place.lines + step.lines; setting = after place.setting step.said; refused = None })
+    ap {B = Reader} (λ (rest : List ℕ). record { text = rest; passed = place.lines + step.lines; setting = after place.setting step.said; refused = None; begun = step.begins })
     (drop-drop step.octets place.at text)
 
 -- a line that gives an entry
@@ -72,7 +73,7 @@ within_next text place next step sized e within =
 
 -- a refusal stays
 pub still_refused : (reader : Reader) (line : ℕ) → reader.refused ≡ Some line → IsNext reader (refused line) × (reader ≡ record reader { refused = Some line })
-still_refused reader line e = (again reader line e, λ i. record { text = reader.text; passed = reader.passed; setting = reader.setting; refused = e i })
+still_refused reader line e = (again reader line e, λ i. record { text = reader.text; passed = reader.passed; setting = reader.setting; refused = e i; begun = reader.begun })
 
 not_refused : (refusal : Option ℕ) (line : ℕ) → refusal ≡ Some line → refusal ≡ None → ⊥
 not_refused refusal line a b = let e : Some line ≡ None = sym a ∙ b in absurd cc
@@ -139,3 +140,9 @@ one_next reader _ _ (later _ step next n s i h) (entry _ other it m t j) =
 one_next reader _ _ (later _ step next n s i h) (later _ other that m t j g) =
     let e : other ≡ step = same_step (step_of reader) other step t s in
     one_next (behind reader step) next that h (subst (λ (x : Step). IsNext (behind reader x) that) e g)
+
+-- what stands ahead doesn't depend on where the line before begins
+pub steps_alike : (reader : Reader) (n : ℕ) (result : Result Ahead ZonefileError) → Steps (record reader { begun = n }) result → Steps reader result
+steps_alike reader n (Ok (ahead.Step step)) h = h
+steps_alike reader n (Ok (ahead.End lines)) h = h
+steps_alike reader n (Err error) h = h

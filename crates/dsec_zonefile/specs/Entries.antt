@@ -19,21 +19,24 @@ abbrev pub wants_memory : ZonefileError → Bool
 wants_memory errors.NoMemory = true
 wants_memory (errors.Inplace error) = false
 
--- how far a text was read: what is left of it, how many line ends were passed, the setting, and the line that was refused
+-- how far a text was read: what is left of it, how many line ends were passed, the setting, the line that was refused, and the line on
+-- which what was read last begins, 0 before that
 pub record Reader : Type 0 where
   pub text : List ℕ
   pub passed : ℕ
   pub setting : Setting
   pub refused : Option ℕ
+  pub begun : ℕ
 
 -- the line behind so many line ends is refused; lines are numbered from 1
 abbrev pub refused_behind : ℕ → Result (Option Step) ZonefileError
 refused_behind lines = Err (errors.Inplace (record { line = lines + 1 }))
 
--- what a line says, how many octets it and those before it take, and how many line ends are in these; or its refusal
+-- what a line says, how many octets it and those before it take, how many line ends are in these, and on which line it begins; or its
+-- refusal
 abbrev pub told : ℕ → Span → List ℕ → Option Said → Result (Option Step) ZonefileError
 told passed span line None = refused_behind (passed + span.before)
-told passed span line (Some said) = Ok (Some (record { said = said; octets = span.end; lines = span.before + line_ends line }))
+told passed span line (Some said) = Ok (Some (record { said = said; octets = span.end; lines = span.before + line_ends line; begins = passed + span.before + 1 }))
 
 -- the same, where the first line with a word was looked for
 abbrev pub first_told : Reader → Result (Option Span) BadLine → Result (Option Step) ZonefileError
@@ -53,6 +56,7 @@ behind reader step = record {
   passed = reader.passed + step.lines;
   setting = after reader.setting step.said;
   refused = None;
+  begun = step.begins;
 }
 
 -- at the end: nothing is left, and what was left was passed

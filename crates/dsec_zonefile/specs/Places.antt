@@ -18,7 +18,7 @@ use Rattle.dsec_zonefile.specs.declared.step.Ahead.TheVariants as ahead
 
 -- a place in a text, of which no line was refused, as a reader
 abbrev pub reader_at : List ℕ → Place → Reader
-reader_at text place = record { text = drop place.at text; passed = place.lines; setting = place.setting; refused = None }
+reader_at text place = record { text = drop place.at text; passed = place.lines; setting = place.setting; refused = None; begun = place.begun }
 
 -- a place within a text, where each line end that was passed or is still to come can be counted
 abbrev pub IsWithin : List ℕ → Place → Type 0
@@ -42,11 +42,11 @@ setting_or setting (Some changed) = changed
 
 -- the place that a way leads to
 abbrev pub led : Place → Way → Place
-led start way = record { at = way.at; lines = way.lines; setting = setting_or start.setting way.changed }
+led start way = record { at = way.at; lines = way.lines; setting = setting_or start.setting way.changed; begun = way.begun }
 
 -- the place behind what a line says
 abbrev pub place_behind : Place → Step → Place
-place_behind place step = record { at = place.at + step.octets; lines = place.lines + step.lines; setting = after place.setting step.said }
+place_behind place step = record { at = place.at + step.octets; lines = place.lines + step.lines; setting = after place.setting step.said; begun = step.begins }
 
 -- an entry as the record before; `$INCLUDE` is none
 abbrev pub before_in : Option Entry → Option Before

@@ -20,6 +20,8 @@ pub struct Place {
     pub lines: usize,
     /// What the lines before it leave.
     pub setting: Setting,
+    /// The line where what was read last begins.
+    pub begun: usize,
 }
 
 /// The way from one place to another.
@@ -31,6 +33,8 @@ pub struct Way {
     pub lines: usize,
     /// The setting that control lines on the way made, if there were any.
     pub changed: Option<Setting>,
+    /// The line where what was read last begins.
+    pub begun: usize,
 }
 
 impl Place {
@@ -40,6 +44,7 @@ impl Place {
     {
         self.at = way.at;
         self.lines = way.lines;
+        self.begun = way.begun;
         self.setting.change(way.changed);
         self.setting.put_before(before);
     }
@@ -61,6 +66,7 @@ pub fn find(
         at: start.at,
         lines: start.lines,
         changed: None,
+        begun: start.begun,
     };
     loop {
         match look(alloc, text, start, &way)? {
@@ -101,8 +107,17 @@ impl Way {
     {
         let at = self.at + step.octets;
         let lines = self.lines + step.lines;
+        let begun = step.begins;
         let (changed, entry) = said_on(self.changed, &start.setting, step.said)?;
-        Ok((Way { at, lines, changed }, entry))
+        Ok((
+            Way {
+                at,
+                lines,
+                changed,
+                begun,
+            },
+            entry,
+        ))
     }
 }
 

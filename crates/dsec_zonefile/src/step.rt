@@ -19,6 +19,8 @@ pub struct Step {
     pub octets: usize,
     /// How many line ends are in these.
     pub lines: usize,
+    /// The line where it begins. The first line has the number 1.
+    pub begins: usize,
 }
 
 /// What stands ahead in a text.
@@ -41,7 +43,7 @@ pub fn read_step(
     text: &[u8],
 ) -> Result<Ahead, ZonefileError>
     requires { passed + length text.now < 2 ^ 63 }
-    ensures exact { Steps (record { text = text.now; passed = passed; setting = setting.now; refused = None }) result }
+    ensures exact { Steps (record { text = text.now; passed = passed; setting = setting.now; refused = None; begun = 0 }) result }
     ensures sized { IfOk result (λ ahead. IsSized (length text.now) ahead) }
 {
     let line = match first_line(alloc, text) {
@@ -55,6 +57,7 @@ pub fn read_step(
             said,
             octets: line.span.end,
             lines: line.span.before + line.line_ends,
+            begins: passed + line.span.before + 1,
         })),
         Err(ReadError::Bad) => Err(refused(passed + line.span.before)),
         Err(ReadError::NoMemory) => Err(ZonefileError::NoMemory),

@@ -29,7 +29,7 @@ impl Model for Zonefile {
 
     ghost Value = { entries.Reader };
 
-    ghost view = { λ it. record { text = drop it.place.at it.text.items; passed = it.place.lines; setting = it.place.setting; refused = it.refused } };
+    ghost view = { λ it. record { text = drop it.place.at it.text.items; passed = it.place.lines; setting = it.place.setting; refused = it.refused; begun = it.place.begun } };
 
     ghost invariant = { λ it. IsWithin it.text.items it.place };
 }
@@ -40,7 +40,7 @@ const MOST_LINE_ENDS: usize = usize::MAX / 2;
 impl Zonefile {
     /// No text, no class, and the root for the origin.
     pub fn new(alloc: Global) -> Self
-        ensures { result ≡ record { text = []; passed = 0; setting = at_first; refused = None } }
+        ensures { result ≡ record { text = []; passed = 0; setting = at_first; refused = None; begun = 0 } }
     {
         Zonefile {
             text: Vec::new(alloc),
@@ -48,6 +48,7 @@ impl Zonefile {
                 at: 0,
                 lines: 0,
                 setting: Setting::new(alloc),
+                begun: 0,
             },
             refused: None,
         }
@@ -74,6 +75,14 @@ impl Zonefile {
         give_up_read(&mut self.text, &mut self.place.at);
         self.text.extend_from_slice(more)?;
         Ok(())
+    }
+
+    /// The line where the entry begins that was given last; once no entry is left, that of the last line that said something; 0 before
+    /// any. The first line has the number 1, and lines that are passed over count.
+    pub fn line(&self) -> usize
+        ensures { result ≡ self.now.begun }
+    {
+        self.place.begun
     }
 
     /// The next entry; none where no entry is left, and then the text that was left is passed. A refusal is answered again at
