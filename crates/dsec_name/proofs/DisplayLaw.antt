@@ -4,14 +4,15 @@ use Rattle.std.specs.Prelude.{All, true, false, if◌then◌else◌}
 use Rattle.std.specs.Char.{IsAsciiDigit}
 use Rattle.std.specs.List.{flat_map}
 use Rattle.std.proofs.lemmas.List.{append-nil, take_at, drop_at}
-use Rattle.std.proofs.lemmas.List.Elements.{All-head, All-tail, All-take, All-drop}
+use Rattle.std.proofs.lemmas.List.Elements.{All-cons, All-nil, All-head, All-tail, All-take, All-drop}
 use Rattle.dsec_spec.specs.Names.{Labels, IsLabel}
 use Rattle.dsec_name.specs.Keys.{labels_octets}
-use Rattle.dsec_name.specs.NameText.{number_of, WritesOctet, WritesOctets, WritesLabels, WritesName}
+use Rattle.dsec_name.specs.NameText.{number_of, WritesOctet, WritesOctets, WritesLabels, WritesName, WritesNameIn}
 use Rattle.dsec_name.specs.NameText.WritesOctet.{plain, numbered}
 use Rattle.dsec_name.specs.NameText.WritesOctets.{none, more}
 use Rattle.dsec_name.specs.NameText.WritesLabels.{last, before}
-use Rattle.dsec_name.specs.NameText.WritesName.{root, ended}
+use Rattle.dsec_name.specs.NameText.WritesName.{root as lone_dot, ended}
+use Rattle.dsec_name.specs.NameText.WritesNameIn.{root, absolute}
 use Rattle.dsec_name.specs.NameDisplay.{is_shown, octet_text, octets_text, label_text, name_text}
 
 no_special : (octet other : ℕ) → is_shown octet ≡ true → is_shown other ≡ false → octet ≢ other
@@ -79,8 +80,21 @@ labels_shown label (next ∷ name) h g =
     more_shown label (next ∷ name) (All-head IsLabel label (next ∷ name) h).not_empty (octets_shown label fits.0)
     (labels_shown next name (All-tail IsLabel label (next ∷ name) h) fits.1)
 
+pub name_shown_in : (origin name : Labels) → All IsLabel name → All (λ (x : ℕ). x < 256) (labels_octets name) → WritesNameIn origin name (name_text name)
+name_shown_in origin [] h g = root
+name_shown_in origin (label ∷ name) h g =
+    let l = labels_shown label name h g in
+    subst (λ (x : List ℕ). WritesNameIn origin (label ∷ name) x) (sym l.is) (absolute (label ∷ name) l.text l.writes)
+
+abbrev AreOctets : List ℕ → Type 0
+AreOctets label = All (λ octet. octet < 256) label
+
+pub octets_fit : (name : Labels) → All (λ (x : ℕ). x < 256) (labels_octets name) → All AreOctets name
+octets_fit [] g = All-nil AreOctets
+octets_fit (label ∷ name) g = let fits = label_fits label name g in All-cons AreOctets label name fits.0 (octets_fit name fits.1)
+
 pub name_shown : (name : Labels) → All IsLabel name → All (λ (x : ℕ). x < 256) (labels_octets name) → WritesName name (name_text name)
-name_shown [] h g = root
+name_shown [] h g = lone_dot
 name_shown (label ∷ name) h g =
     let l = labels_shown label name h g in
     subst (λ (x : List ℕ). WritesName (label ∷ name) x) (sym l.is) (ended (label ∷ name) l.text l.writes)

@@ -1,11 +1,11 @@
 //! Laws of names, for whoever reads or keeps them.
 
-ghost use Rattle.std.specs.Prelude.{◌≡◌, ◌↔◌, ℕ, List, IsTrue, Some, Ok};
+ghost use Rattle.std.specs.Prelude.{◌≡◌, ◌↔◌, ◌<◌, ℕ, List, All, IsTrue, Some, Ok};
 ghost use Rattle.dsec_spec.specs.Names.{IsName, Labels, place, wire_octets};
 ghost use Rattle.dsec_name.specs.NameDisplay.{name_text};
 ghost use Rattle.dsec_name.specs.NameText.{WritesName};
 ghost use Rattle.dsec_name.specs.Parts.{same_name};
-ghost use Rattle.dsec_name.specs.TextReading.{name_of_text, text_labels};
+ghost use Rattle.dsec_name.specs.TextReading.{name_of_text, name_of_text_in, text_labels};
 ghost use Rattle.dsec_name.specs.Wire.{IsOnWire, name_on_wire, wire_labels};
 
 use crate::display::in_range;
@@ -32,6 +32,8 @@ pub fn law_of_text()
 pub fn law_of_display(name: &Name)
     ensures writes { WritesName name.now (name_text name.now) }
     ensures back { name_of_text (name_text name.now) ≡ Ok name.now }
+    ensures in_zone { (origin : Labels) → name_of_text_in origin (name_text name.now) ≡ Ok name.now }
+    ensures octets { All (λ label. All (λ octet. octet < 256) label) name.now }
 {
     in_range(name.octets())
 }
