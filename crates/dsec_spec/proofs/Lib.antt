@@ -40,3 +40,7 @@ pub mod NsecChainLaws
 pub mod Base32hexLaws
 pub mod SignedOwner
 pub mod SigningLaws
+pub mod HashOctets
+pub mod HashedNameLaws
+pub mod HashCircle
+pub mod Nsec3ChainLaws
