@@ -9,5 +9,8 @@ mod soa;
 mod zone;
 
 pub use error::{DenialError, Nsec3HashError};
+pub use names::{is_below, is_same, is_strictly_below};
 pub use nsec::generate_nsecs;
 pub use owners::{InsideOwner, inside_owners};
+pub use soa::{chain_ttl, the_soa};
+pub use zone::{has_own, is_own, is_signed};

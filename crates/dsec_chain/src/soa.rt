@@ -12,7 +12,7 @@ use dsec_number::{Rtype, Ttl};
 use dsec_wire::Record;
 
 /// The one SOA record at the apex; none where there is none, or several.
-pub(crate) fn the_soa<'a>(apex: &Name, records: &'a [Record]) -> Option<&'a Record>
+pub fn the_soa<'a>(apex: &Name, records: &'a [Record]) -> Option<&'a Record>
     ensures one { IfSome result (λ soa. soas_at (place apex.now) records.now ≡ soa.now ∷ []) }
     ensures none { IfNone result (length (soas_at (place apex.now) records.now) ≢ 1) }
 {
@@ -48,7 +48,7 @@ fn is_soa(apex: &Name, one: &Record) -> bool
 }
 
 /// How long the records of a chain are kept: the lesser of the SOA record's TTL and its minimum field (RFC 9077 3).
-pub(crate) fn chain_ttl(soa: &Record) -> Ttl
+pub fn chain_ttl(soa: &Record) -> Ttl
     requires { soa.now.rtype ≡ SOA }
     ensures { IsChainTtl soa.now result }
 {

@@ -1,14 +1,15 @@
 //! Which records cut a zone of their own off, and which types are the zone's at its owners (RFC 4035 2.3, RFC 5155 7.1).
 
-ghost use Rattle.std.specs.Prelude.{◌≡◌};
+ghost use Rattle.std.specs.Prelude.{◌≡◌, ◌&&◌};
 ghost use Rattle.std.specs.List.{list_any};
-ghost use Rattle.dsec_spec.specs.Names.{place};
+ghost use Rattle.dsec_spec.specs.Names.{place, same_place};
 ghost use Rattle.dsec_spec.specs.Groups.{grouped_type as type_of};
+ghost use Rattle.dsec_spec.specs.SetsToSign.{is_of_keys as of_keys, is_signed as signed_at, is_signed_at_cuts as signed_at_cuts};
 ghost use Rattle.dsec_spec.specs.ZonesOfRecords.{is_at_cuts as at_cuts, is_cut as cut_by, is_own as own};
 ghost use Rattle.dsec_chain.specs.Walk.{cuts as cuts_by, is_open as open_at};
 ghost use Rattle.dsec_chain.specs.Views.{cut_place};
 
-use crate::names::{is_below, is_strictly_below};
+use crate::names::{is_below, is_same, is_strictly_below};
 use dsec_name::Name;
 use dsec_number::Rtype;
 use dsec_wire::Record;
@@ -35,14 +36,14 @@ fn is_cut_by(apex: &Name, one: &Record) -> bool
 }
 
 /// Whether a type stands at an owner with these records.
-pub(crate) fn has_own(is_cut: bool, records: &[Record]) -> bool
+pub fn has_own(is_cut: bool, records: &[Record]) -> bool
     ensures { result ≡ list_any (own is_cut) records.now }
 {
     records.iter().any(|one| is_own(is_cut, one))
 }
 
 /// Whether the record's type stands at its owner, where that is a delegation or isn't.
-pub(crate) fn is_own(is_cut: bool, next: &Record) -> bool
+pub fn is_own(is_cut: bool, next: &Record) -> bool
     ensures { result ≡ own is_cut next.now }
 {
     grouped_type(next) != Rtype::NSEC3 && (!is_cut || is_at_cuts(next.rtype()))
@@ -53,6 +54,36 @@ fn is_at_cuts(rtype: Rtype) -> bool
     ensures { result ≡ at_cuts rtype }
 {
     rtype == Rtype::NS || rtype == Rtype::DS || rtype == Rtype::NSEC || rtype == Rtype::RRSIG
+}
+
+/// Whether the set of a record inside the zone is signed, where its owner is a delegation or isn't: signatures aren't, nor the zone's keys
+/// at the apex, nor what belongs to the zone below a delegation (RFC 4035 2.2).
+pub fn is_signed(apex: &Name, is_cut: bool, one: &Record) -> bool
+    ensures { result ≡ signed_at (place apex.now) is_cut one.now }
+{
+    let rtype = one.rtype();
+    rtype != Rtype::RRSIG && !is_key_at(apex, one) && (!is_cut || is_signed_at_cuts(rtype))
+}
+
+/// Whether the record is of the zone's keys, which are signed apart (RFC 4035 2.2, RFC 7344 4.1).
+fn is_key_at(apex: &Name, one: &Record) -> bool
+    ensures { result ≡ (same_place (place one.now.owner) (place apex.now) && of_keys one.now.rtype) }
+{
+    is_of_keys(one.rtype()) && is_same(one.owner(), apex)
+}
+
+/// Whether a set of the type at the apex is of the zone's keys.
+fn is_of_keys(rtype: Rtype) -> bool
+    ensures { result ≡ of_keys rtype }
+{
+    rtype == Rtype::DNSKEY || rtype == Rtype::CDS || rtype == Rtype::CDNSKEY
+}
+
+/// Whether the type is signed at a delegation (RFC 4035 2.2).
+fn is_signed_at_cuts(rtype: Rtype) -> bool
+    ensures { result ≡ signed_at_cuts rtype }
+{
+    rtype == Rtype::DS || rtype == Rtype::NSEC
 }
 
 /// The type that a record is grouped by: of a signature the type that it covers (RFC 4034 3.1.1).
