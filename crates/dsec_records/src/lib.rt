@@ -9,5 +9,5 @@ pub use dsec_chain::{DenialError, InsideOwner, Nsec3HashError, generate_nsecs, i
 pub use dsec_sorted::{
     DenialConfig, InsertError, Nsec3Config, Nsec3Salt, Nsec3SaltError, OwnerHash, OwnerHashError,
     OwnerRrs, RecordsIter, Rrset, RrsetError, RrsetIter, RtypeBitmap, SortedRecords, canonical_cmp,
-    is_of_one_class, is_sorted_canonical, push_bitmap,
+    extend_sorted, is_of_one_class, is_sorted_canonical, push_bitmap,
 };

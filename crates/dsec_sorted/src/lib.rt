@@ -17,4 +17,4 @@ pub use order::{canonical_cmp, is_of_one_class, is_sorted_canonical};
 pub use reading::RtypeBitmap;
 pub use records_iter::{OwnerRrs, RecordsIter};
 pub use rrset::{Rrset, RrsetError, RrsetIter};
-pub use sorted::{InsertError, SortedRecords};
+pub use sorted::{InsertError, SortedRecords, extend_sorted};

@@ -1,6 +1,6 @@
 //! Record sets (RFC 2181 5).
 
-ghost use Rattle.std.specs.Prelude.{◌≡◌, ◌↔◌, ◌==◌, ◌∷◌, [], List, Some, true, IfNone, IfOk, IfSome, IsErrOf, slice_get};
+ghost use Rattle.std.specs.Prelude.{◌≡◌, ◌≢◌, ◌↔◌, ◌==◌, ◌∷◌, [], List, Some, true, false, drop, IfNone, IfOk, IfSome, IsErrOf, slice_get};
 ghost use Rattle.std.proofs.Props.{props};
 ghost use Rattle.std.proofs.Math.Bool.{not};
 ghost use Rattle.std.specs.List.{list_any};
@@ -21,6 +21,7 @@ pub struct Rrset<'a> {
     places: Option<&'a [usize]>,
     ghost within: { IfSome places (λ p. AreWithin records.now p.now) } by { Prim.hlevel props },
     ghost begins: { slice_get (chosen records.now places) 0 ≡ Some first.now },
+    ghost one_set: { AreOfOneSet (chosen records.now places) } by { Prim.hlevel props },
 }
 
 /// Why records are no set. The first of these that holds is the answer.
@@ -77,6 +78,27 @@ impl<'a> Rrset<'a> {
             records,
             places: Some(places),
         })
+    }
+
+    /// The set of these records, which are to be of one owner, class, type and TTL, one at least.
+    pub fn from_checked(records: &'a [Record]) -> Self
+        requires set { AreOfOneSet records.now }
+        requires some { records.now ≢ [] }
+        requires ttls { differ_in_ttl records.now ≡ false }
+        ensures { members_of result ≡ records.now }
+    {
+        Rrset {
+            first: &records[0],
+            records,
+            places: None,
+        }
+    }
+
+    /// The first record.
+    pub fn first(&self) -> &'a Record
+        ensures { members_of self.now ≡ result.now ∷ drop 1 (members_of self.now) }
+    {
+        self.first
     }
 
     /// The owner, as the first record has it.

@@ -6,6 +6,7 @@ ghost use Rattle.std.specs.List.Sorted.{IsSorted, IsStable};
 ghost use Rattle.std.specs.Ordering.{eq_by_cmp};
 ghost use Rattle.dsec_spec.specs.CanonicalRecords.{IsCanonical, IsFirst, record_cmp};
 ghost use Rattle.dsec_spec.specs.Records as entries;
+ghost use Rattle.dsec_spec.specs.SignedZones.{IsUnion};
 ghost use Rattle.dsec_sorted.specs.Inserting.{IsNew, IsPlace, IsPresent, IsReason};
 
 use crate::order::canonical_cmp;
@@ -23,6 +24,7 @@ pub struct SortedRecords {
 impl Model for SortedRecords {
     ghost use Rattle.std.specs.Prelude.{List};
     ghost use Rattle.dsec_spec.specs.Records as entries;
+    ghost use Rattle.dsec_spec.specs.SignedZones.{IsUnion};
 
     ghost Value = { List entries.Record };
 
@@ -83,16 +85,40 @@ impl SortedRecords {
         ensures canonical { IsCanonical self.new }
         ensures err { OnErr result (self.new ≡ self.old) }
     {
-        let mut records = records;
-        let old = self.records.len();
-        self.records.append(&mut records)?;
-        if let Err(error) = sort(&mut self.records) {
-            self.records.truncate(old);
-            return Err(error);
-        }
-        drop_duplicates(&mut self.records);
-        Ok(())
+        extend_sorted(&mut self.records, records)
     }
+
+    /// The records, in canonical order.
+    pub fn into_vec(self) -> Vec<Record>
+        ensures value { result.items ≡ self }
+        ensures canonical { IsCanonical result.items }
+    {
+        self.records
+    }
+
+    /// Records that are in canonical order, without duplicates.
+    pub fn from_vec(records: Vec<Record>) -> Self
+        requires { IsCanonical records.items }
+        ensures { result ≡ records.items }
+    {
+        SortedRecords { records }
+    }
+}
+
+/// Adds records to others, of duplicates the first alone, and brings all into canonical order; a refusal changes nothing.
+pub fn extend_sorted(records: &mut Vec<Record>, added: Vec<Record>) -> Result<(), NoMemory>
+    ensures ok { OnOk result (IsUnion records.old.items added.items records.new.items) }
+    ensures err { OnErr result (records.new.items ≡ records.old.items) }
+{
+    let mut added = added;
+    let old = records.len();
+    records.append(&mut added)?;
+    if let Err(error) = sort(records) {
+        records.truncate(old);
+        return Err(error);
+    }
+    drop_duplicates(records);
+    Ok(())
 }
 
 /// Where a duplicate of a record stands, or where the record is to stand.
