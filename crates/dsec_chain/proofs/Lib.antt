@@ -3,3 +3,4 @@ pub mod InsideSteps
 pub mod NsecData
 pub mod Chained
 pub mod SoaLaws
+pub mod Placed

@@ -1,11 +1,11 @@
 //! The owners inside a zone, met in canonical order: only the last delegation that was met has to be looked at.
 
-ghost use Rattle.std.specs.Prelude.{◌≡◌, IfOk, map, if◌then◌else◌};
+ghost use Rattle.std.specs.Prelude.{◌≡◌, All, IfOk, map, if◌then◌else◌};
 ghost use Rattle.dsec_spec.specs.Names.{place};
 ghost use Rattle.dsec_spec.specs.CanonicalRecords.{AreOrdered};
 ghost use Rattle.dsec_spec.specs.OwnersInside.{AreInside};
 ghost use Rattle.dsec_sorted.specs.IterViews.{left_of};
-ghost use Rattle.dsec_chain.specs.Views.{inside_view};
+ghost use Rattle.dsec_chain.specs.Views.{IsPlaced, inside_view};
 
 use crate::zone::{cuts, is_open};
 use dsec_name::{Name, NoMemory};
@@ -20,6 +20,8 @@ pub struct InsideOwner<'a> {
     pub name: &'a Name,
     /// All records of the owner.
     pub records: &'a [Record],
+    /// How many records stand before them.
+    pub start: usize,
     /// Whether another zone begins there.
     pub is_cut: bool,
 }
@@ -32,7 +34,8 @@ pub fn inside_owners<'a>(
     records: &RecordsIter<'a>,
 ) -> Result<Vec<InsideOwner<'a>>, NoMemory>
     requires { AreOrdered (left_of records.now) }
-    ensures { IfOk result (λ all. AreInside (place apex.now) (left_of records.now) (map inside_view all.items)) }
+    ensures inside { IfOk result (λ all. AreInside (place apex.now) (left_of records.now) (map inside_view all.items)) }
+    ensures placed { IfOk result (λ all. All (IsPlaced (left_of records.now)) all.items) }
 {
     let mut all = Vec::new(alloc);
     let mut cut = apex;
@@ -41,9 +44,11 @@ pub fn inside_owners<'a>(
     while let Some(owner) = rest.next() {
         if is_open(apex, has_cut, cut, owner.name) {
             let is_cut = cuts(apex, owner.records);
+            let before = records.as_slice().len() - rest.as_slice().len();
             all.push(InsideOwner {
                 name: owner.name,
                 records: owner.records,
+                start: before - owner.records.len(),
                 is_cut,
             })?;
             cut = last_cut(is_cut, owner.name, cut);

@@ -23,7 +23,7 @@ returns c =
       ttl = c.chain_ttl.result;
       kept = c.chain_ttl.ensures;
       owners = typed_of inside;
-      are = inside_are_owners (place c.args.apex.now) (left_of c.args.records.now) inside c.in_ok-owners.ensures;
-      written = owners_written (place c.args.apex.now) (left_of c.args.records.now) inside c.in_ok-owners.ensures;
+      are = inside_are_owners (place c.args.apex.now) (left_of c.args.records.now) inside c.in_ok-owners.ensures.inside;
+      written = owners_written (place c.args.apex.now) (left_of c.args.records.now) inside c.in_ok-owners.ensures.inside;
       each = rw (← typed_view c.in_ok-owners.owners.items, ← c.keep_typed.ensures, ← c.deref.ensures.value, ← c.class.ensures) c.in_ok-nsecs.ensures;
     }
