@@ -89,7 +89,7 @@ pub(crate) fn front_of(
 }
 
 /// Adds the RRSIG's data up to the signature.
-pub(crate) fn push_head(out: &mut Vec<u8>, rrsig: &Rrsig<'_>) -> Result<(), NoMemory>
+pub fn push_head(out: &mut Vec<u8>, rrsig: &Rrsig<'_>) -> Result<(), NoMemory>
     ensures { OnOk result (out.new.items ≡ out.old.items ++ head_octets (rrsig_view rrsig.now)) }
 {
     push_fixed(out, rrsig)?;
@@ -107,7 +107,7 @@ fn push_all(out: &mut Vec<u8>, front: &[u8], canonical: &[Octets]) -> Result<(),
 }
 
 /// Adds the 18 octets before the signer's name (RFC 4034 3.1).
-fn push_fixed(out: &mut Vec<u8>, rrsig: &Rrsig<'_>) -> Result<(), NoMemory>
+pub fn push_fixed(out: &mut Vec<u8>, rrsig: &Rrsig<'_>) -> Result<(), NoMemory>
     ensures { OnOk result (out.new.items ≡ out.old.items ++ fixed_octets (rrsig_view rrsig.now)) }
 {
     out.extend_from_slice(&rrsig.type_covered.to_int().to_be_bytes())?;

@@ -19,7 +19,7 @@ mod supported;
 mod tagged_key;
 mod verified;
 
-pub use bytes::signed_bytes;
+pub use bytes::{push_fixed, push_head, signed_bytes};
 pub use check::{matches, may_sign};
 pub use dnskey_ext::DnskeyExt;
 pub use ds_ext::DsExt;
