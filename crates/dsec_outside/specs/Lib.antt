@@ -2,3 +2,4 @@ pub mod Replies
 pub mod Limit
 pub mod Faults
 pub mod Ends
+pub mod Sending

@@ -1,5 +1,5 @@
 use Rattle.std.proofs.Common.{arith, ◌∙◌}
-use Rattle.dsec_outside.proofs.Sending.{more_sent}
+use Rattle.dsec_outside.proofs.Pieces.{more_sent}
 use Rattle.dsec_outside.proofs.whole.write_all.Goals as goal
 
 pub loop-at-preserved : goal.loop-at-preserved

@@ -1,0 +1,65 @@
+//! Texts that go out whole, or in blocks.
+
+ghost use Rattle.std.specs.Prelude.{◌≡◌, ◌≤◌, [], IsErrOf, OnOk};
+ghost use Rattle.std.specs.Io.KnownBytes.{Appends};
+ghost use Rattle.dsec_spec.specs.Outside.{Rose, SentFront};
+ghost use Rattle.dsec_outside.specs.Faults.{CountsWrites};
+ghost use Rattle.dsec_outside.specs.Sending.{SentBut};
+ghost use Rattle.dsec_outside.specs.declared.sending.Halt.TheVariants.{Memory};
+
+use crate::sink::Sink;
+use crate::source::Failed;
+use crate::whole::write_all;
+use dsec_name::NoMemory;
+
+/// How many octets of a text are gathered before they go out.
+pub const BLOCK: usize = 65536;
+
+/// Why not all of a text went out.
+#[derive(Clone, Copy, Debug, PartialEq, Eq)]
+pub enum Halt {
+    /// A write failed.
+    Write,
+    /// There was no memory left.
+    Memory,
+}
+
+impl From<NoMemory> for Halt {
+    ghost from_gives = { λ _ halt. halt ≡ Memory };
+
+    fn from(_error: NoMemory) -> Halt {
+        Halt::Memory
+    }
+}
+
+/// Sends a text.
+pub fn send<K: Sink>(sink: &mut K, octets: &[u8]) -> Result<(), Halt>
+    ensures later { K.faults sink.old ≤ K.faults sink.new }
+    ensures write { IsErrOf result Halt.Write → Rose (K.faults sink.old) (K.faults sink.new) }
+    ensures counts { CountsWrites (K.faults sink.old) (K.faults sink.new) result }
+    ensures only { IsErrOf result Halt.Memory → ⊥ }
+    ensures sent { OnOk result (Appends (K.written sink.old) (K.written sink.new) octets.now) }
+    ensures front { SentFront (K.written sink.old) (K.written sink.new) octets.now }
+{
+    match write_all(sink, octets) {
+        Ok(()) => Ok(()),
+        Err(Failed) => Err(Halt::Write),
+    }
+}
+
+/// Sends what was gathered, once that is a block, and else keeps it.
+pub fn send_block<K: Sink>(sink: &mut K, gathered: &mut Vec<u8>) -> Result<(), Halt>
+    ensures later { K.faults sink.old ≤ K.faults sink.new }
+    ensures write { IsErrOf result Halt.Write → Rose (K.faults sink.old) (K.faults sink.new) }
+    ensures counts { CountsWrites (K.faults sink.old) (K.faults sink.new) result }
+    ensures only { IsErrOf result Halt.Memory → ⊥ }
+    ensures sent { OnOk result (SentBut (K.written sink.old) (K.written sink.new) gathered.old.items gathered.new.items) }
+    ensures front { SentFront (K.written sink.old) (K.written sink.new) gathered.old.items }
+{
+    if gathered.len() < BLOCK {
+        return Ok(());
+    }
+    send(sink, gathered)?;
+    gathered.clear();
+    Ok(())
+}
