@@ -4,16 +4,14 @@ ghost use Rattle.std.specs.Prelude.{◌≡◌, ◌++◌, ◌∷◌, OnOk};
 ghost use Rattle.std.specs.List.{flat_map};
 ghost use Rattle.std.specs.Option.{option_map};
 ghost use Rattle.hex.specs.Hex.{encode_lower};
-ghost use Rattle.dsec_name.specs.NameDisplay.{name_text};
 ghost use Rattle.dsec_link.specs.Links.{kind_view};
 ghost use Rattle.dsec_link.specs.Sets.{octets_of};
 ghost use Rattle.dsec_link.specs.LinkTexts.{datas_text, kind_text, link_data, link_head, link_line, via_text};
 
 use crate::link::{Link, LinkKind};
-use dsec_name::{Name, NoMemory, Octets};
+use dsec_name::{NoMemory, Octets};
 use dsec_wire::Data;
-use dsec_word::{push_hex, push_number};
-use std::io::Write;
+use dsec_word::{push_hex, push_name, push_number};
 
 /// Adds the line of a link.
 pub fn push_link(out: &mut Vec<u8>, index: u64, link: &Link) -> Result<(), NoMemory>
@@ -67,16 +65,6 @@ fn kind_word(kind: LinkKind) -> &'static str
         LinkKind::Ds => "ds",
         LinkKind::Key => "key",
         LinkKind::Set => "set",
-    }
-}
-
-/// Adds a name.
-fn push_name(out: &mut Vec<u8>, name: &Name) -> Result<(), NoMemory>
-    ensures { OnOk result (out.new.items ≡ out.old.items ++ name_text name.now) }
-{
-    match write!(out, "{name}") {
-        Ok(()) => Ok(()),
-        Err(_) => Err(NoMemory),
     }
 }
 

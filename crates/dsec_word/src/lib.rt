@@ -9,4 +9,4 @@ mod written;
 pub use digits::number;
 pub use error::ReadError;
 pub use word::{is_word, read_base64, read_class, read_hex, read_name, read_rtype};
-pub use written::{push_hex, push_number};
+pub use written::{push_hex, push_name, push_number};

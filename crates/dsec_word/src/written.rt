@@ -1,10 +1,21 @@
-//! Numbers and octets, written at the end of a text.
+//! Names, numbers and octets, written at the end of a text.
 
 ghost use Rattle.std.specs.Prelude.{◌≡◌, ◌++◌, OnOk, decimal};
 ghost use Rattle.hex.specs.Hex.{encode_lower};
+ghost use Rattle.dsec_name.specs.NameDisplay.{name_text};
 
-use dsec_name::NoMemory;
+use dsec_name::{Name, NoMemory};
 use std::io::Write;
+
+/// A name, as it is displayed.
+pub fn push_name(out: &mut Vec<u8>, name: &Name) -> Result<(), NoMemory>
+    ensures { OnOk result (out.new.items ≡ out.old.items ++ name_text name.now) }
+{
+    match write!(out, "{name}") {
+        Ok(()) => Ok(()),
+        Err(_) => Err(NoMemory),
+    }
+}
 
 /// A number in decimal.
 pub fn push_number(out: &mut Vec<u8>, n: u64) -> Result<(), NoMemory>
