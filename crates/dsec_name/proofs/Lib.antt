@@ -1,4 +1,4 @@
-pub mod KeyOrder
+pub mod PlaceOrder
 pub mod NameParts
 pub mod NamePrefix
 pub mod NamePieces

@@ -1,18 +1,16 @@
--- A name's octets and key, label by label.
-use Rattle.std.proofs.Common.{◌≡◌, ℕ, zero, suc, ◌+◌, ◌*◌, ◌≤◌, List, [], ◌∷◌, ◌++◌, length, take, drop, refl, sym, ap, ◌∙◌, arith, length-append, length-drop, append_assoc}
-use Rattle.std.specs.Prelude.{map, reverse, All, count_by, ◌==◌, cond, Some, true, false, nat_eq}
+-- A name's octets, label by label.
+use Rattle.std.proofs.Common.{◌≡◌, ℕ, zero, suc, ◌+◌, ◌*◌, ◌≤◌, List, [], ◌∷◌, ◌++◌, length, take, drop, refl, sym, ap, ◌∙◌, arith, length-append, length-drop}
+use Rattle.std.specs.Prelude.{map, All, Some, true, false, nat_eq}
 use Rattle.std.specs.Str.{bytes_eq}
 use Rattle.std.specs.Cmp.Lexicographic.{pointwise}
-use Rattle.std.specs.List.{flat_map}
 use Rattle.std.specs.Char.{to_ascii_lowercase}
 use Rattle.std.proofs.Math.Seq.{take-append_seam, drop-append_seam}
-use Rattle.std.proofs.lemmas.List.{reverse-append, append-nil, length-map, length-reverse, map-append}
-use Rattle.std.proofs.lemmas.List.Concat.{flat_map-append}
+use Rattle.std.proofs.lemmas.List.{length-map, map-append}
 use Rattle.std.proofs.lemmas.List.Elements.{All-head, All-tail}
-use Rattle.std.proofs.lemmas.List.Sums.{sum_by-cons, sum_by-append}
+use Rattle.std.proofs.lemmas.List.Sums.{sum_by-cons}
 use Rattle.std.proofs.lemmas.Bool.Decides.{nat_tests}
-use Rattle.dsec_spec.specs.Names.{Labels, Place, place, lower, IsLabel, IsName, wire_length, asterisk, rrsig_label_count}
-use Rattle.dsec_name.specs.Keys.{labels_within, labels_of, labels_octets, octet_key, label_key, key_of, IsWhole, IsKept}
+use Rattle.dsec_spec.specs.Names.{Labels, lower, IsLabel, IsName, wire_length, asterisk, rrsig_label_count}
+use Rattle.dsec_name.specs.Keys.{labels_within, labels_of, labels_octets, IsWhole}
 use Rattle.dsec_name.specs.Parts.{parent_of}
 
 room : (n m : ℕ) (xs : List ℕ) → length xs ≤ n → length xs ≤ m → labels_within n xs ≡ labels_within m xs
@@ -58,51 +56,6 @@ few_labels (label ∷ name) h =
     let first = (All-head IsLabel label name h).not_empty in
     omega (arith, few_labels name (All-tail IsLabel label name h), sum_by-cons (λ (x : List ℕ). length x + 1) label name)
 
--- the leftmost label comes last in the key
-pub key_of-cons : (label : List ℕ) (name : Labels) → key_of (place (label ∷ name)) ≡ key_of (place name) ++ label_key (map to_ascii_lowercase label)
-key_of-cons label name =
-    let x = map to_ascii_lowercase label in
-    ap key_of (reverse-append (x ∷ []) (map (map to_ascii_lowercase) name))
-    ∙ (flat_map-append label_key (place name) (x ∷ []) ∙ ap (λ (k : List ℕ). key_of (place name) ++ k) (append-nil (label_key x)))
-
--- the key read backwards begins with the leftmost label
-pub backwards-cons : (label : List ℕ) (name : Labels) → reverse (key_of (place (label ∷ name))) ≡ reverse (label_key (map to_ascii_lowercase label)) ++ reverse (key_of (place name))
-backwards-cons label name =
-    ap reverse (key_of-cons label name) ∙ reverse-append (key_of (place name)) (label_key (map to_ascii_lowercase label))
-
-length-place : (name : Labels) → length (place name) ≡ length name
-length-place name = length-reverse (map (map to_ascii_lowercase) name) ∙ length-map name (map to_ascii_lowercase)
-
--- a step of writing the key back to front
-pub backwards_step : (k : ℕ) (octets key : List ℕ) → key ++ reverse (key_of (place (labels_of (k ∷ octets)))) ≡ (key ++ reverse (label_key (map to_ascii_lowercase (take k octets)))) ++ reverse (key_of (place (labels_of (drop k octets))))
-backwards_step k octets key =
-    ap (λ (ls : Labels). key ++ reverse (key_of (place ls))) (labels_of-cons k octets)
-    ∙ (ap (λ (x : List ℕ). key ++ x) (backwards-cons (take k octets) (labels_of (drop k octets)))
-    ∙ sym (append_assoc key (reverse (label_key (map to_ascii_lowercase (take k octets)))) (reverse (key_of (place (labels_of (drop k octets)))))))
-
--- an octet's key has no 0
-octet_zeros : (c : ℕ) → count_by (λ (x : ℕ). x == 0) (octet_key c) ≡ 0
-octet_zeros zero = refl
-octet_zeros (suc zero) = refl
-octet_zeros (suc (suc c)) = grind (arith, nat_tests)
-
-label_zeros : (label : List ℕ) → count_by (λ (x : ℕ). x == 0) (flat_map octet_key label) ≡ 0
-label_zeros [] = refl
-label_zeros (c ∷ label) =
-    sum_by-append (λ (x : ℕ). cond (x == 0) 1 0) (octet_key c) (flat_map octet_key label)
-    ∙ omega (arith, octet_zeros c, label_zeros label)
-
--- a key has a 0 for each label
-pub key_zeros : (p : Place) → count_by (λ (x : ℕ). x == 0) (key_of p) ≡ length p
-key_zeros [] = refl
-key_zeros (label ∷ p) =
-    let one : count_by (λ (x : ℕ). x == 0) (label_key label) ≡ 1 = sum_by-append (λ (x : ℕ). cond (x == 0) 1 0) (flat_map octet_key label) (0 ∷ []) ∙ omega (arith, label_zeros label) in
-    sum_by-append (λ (x : ℕ). cond (x == 0) 1 0) (label_key label) (key_of p)
-    ∙ omega (arith, key_zeros p, one)
-
-pub name_zeros : (name : Labels) → count_by (λ (x : ℕ). x == 0) (key_of (place name)) ≡ length name
-name_zeros name = key_zeros (place name) ∙ length-place name
-
 -- a name whose octets begin with a length
 pub record IsSplit (name : Labels) (k : ℕ) (after : List ℕ) : Type 0 where
   pub label : List ℕ
@@ -135,8 +88,8 @@ lower-octets (label ∷ name) h =
     let k : to_ascii_lowercase (length label) ≡ length (map to_ascii_lowercase label) = low_length (length label) (All-head IsLabel label name h).at_most ∙ sym (length-map label to_ascii_lowercase) in
     rw (map-append to_ascii_lowercase label (labels_octets name), k, lower-octets name (All-tail IsLabel label name h)) refl
 
-pub kept_split : (octets key : List ℕ) (k : ℕ) (after : List ℕ) → IsKept octets key → octets ≡ k ∷ after → IsSplit (labels_of octets) k after
-kept_split octets key k after h e = split_name (labels_of octets) k after h.octets_whole.name (sym h.octets_whole.whole ∙ e)
+pub whole_split : (octets : List ℕ) (k : ℕ) (after : List ℕ) → IsWhole octets → octets ≡ k ∷ after → IsSplit (labels_of octets) k after
+whole_split octets k after h e = split_name (labels_of octets) k after h.name (sym h.whole ∙ e)
 
 -- the octets after the first label are the others
 pub others : (name : Labels) (k : ℕ) (after octets : List ℕ) → (s : IsSplit name k after) → octets ≡ drop k after → octets ≡ labels_octets s.rest
@@ -162,3 +115,30 @@ rrsig_plain [] e = refl
 rrsig_plain (label ∷ name) e =
     let no : bytes_eq label asterisk ≡ false = sym (star label (labels_octets name)) ∙ e in
     rw no (omega arith)
+
+-- the octets after a name's first label are a name's labels
+pub whole_rest : (octets : List ℕ) (k : ℕ) (after rest : List ℕ) → IsWhole octets → octets ≡ k ∷ after → rest ≡ drop k after → IsWhole rest
+whole_rest octets k after rest h e is =
+    let s = whole_split octets k after h e in
+    rw (others (labels_of octets) k after rest s is) (IsWhole-octets s.rest s.named)
+
+less_left : (i : ℕ) (names rest : Labels) (label : List ℕ) → label ∷ rest ≡ drop i names → rest ≡ drop (suc i) names
+less_left zero names rest label e = ap (drop 1) e
+less_left (suc i) [] rest label e = absurd cc
+less_left (suc i) (name ∷ names) rest label e = less_left i names rest label e
+
+-- one label less of what is left
+pub drop_next : (i : ℕ) (names rest : Labels) (label : List ℕ) → label ∷ rest ≡ drop i names → rest ≡ drop (i + 1) names
+drop_next i names rest label e = let n : suc i ≡ i + 1 = omega arith in less_left i names rest label e ∙ ap (λ (k : ℕ). drop k names) n
+
+-- where no label is left, none is later
+pub drop_end : (i k : ℕ) (names : Labels) → [] ≡ drop i names → i ≤ k → [] ≡ drop k names
+drop_end zero zero names e h = e
+drop_end zero (suc k) [] e h = refl
+drop_end zero (suc k) (name ∷ names) e h = absurd cc
+drop_end (suc i) zero names e h = absurd (omega arith)
+drop_end (suc i) (suc k) [] e h = refl
+drop_end (suc i) (suc k) (name ∷ names) e h = drop_end i k names e (omega arith)
+
+pub length-whole : (octets : List ℕ) → IsWhole octets → length octets + 1 ≡ wire_length (labels_of octets)
+length-whole octets h = ap (λ (x : List ℕ). length x + 1) h.whole ∙ length-octets (labels_of octets)

@@ -1,5 +1,5 @@
 -- The laws of a name's comparisons.
-use Rattle.std.specs.Prelude.{◌≡◌, [], ◌∷◌, IsTrue}
+use Rattle.std.specs.Prelude.{◌≡◌, ℕ, List, [], ◌∷◌, IsTrue}
 use Rattle.std.specs.Bool.{Decides}
 use Rattle.std.proofs.Common.{refl, sym, ap, ◌∙◌}
 use Rattle.std.specs.Cmp.{IsTotalOrder, IsEquivalence, IsPartialEquivalence, IsPartialOrder, Agrees, partial_equiv_from_equiv, partial_order_from_agreeing_total, on_total, on_equiv, Equal-is}
@@ -8,8 +8,8 @@ use Rattle.std.specs.Ordering.{as_partial_cmp, is_eq}
 use Rattle.std.specs.FinMap.{nat_cmp-IsAntisymmetric, slice_cmp-IsAntisymmetric}
 use Rattle.std.proofs.lemmas.Cmp.{lists_total, nat_list_cmp_total, tied_itself}
 use Rattle.std.proofs.lemmas.Bool.Decides.{same_from_decides}
-use Rattle.dsec_spec.specs.Names.{Labels, Place, place, same_place, place_cmp, name_cmp}
-use Rattle.dsec_name.specs.Keys.{key_of}
+use Rattle.dsec_spec.specs.Names.{Labels, Place, place, same_place, place_cmp, name_cmp, canonical_octets}
+use Rattle.dsec_spec.proofs.CanonicalNames.{canonical_octets_equal}
 use Rattle.dsec_name.specs.Parts.{same_name}
 
 pub same_place_decides : (p q : Place) → Decides (same_place p q) (p ≡ q)
@@ -44,5 +44,5 @@ pub name_partial : IsPartialOrder same_name (as_partial_cmp name_cmp)
 name_partial = partial_order_from_agreeing_total name_cmp name_total name_agrees name_ties
 
 -- equal names hash alike
-pub name_hash_respects : (x y : Labels) → IsTrue (same_name x y) → key_of (place x) ∷ [] ≡ key_of (place y) ∷ []
-name_hash_respects x y h = ap (λ (p : Place). key_of p ∷ []) ((same_place_decides (place x) (place y)).0 h)
+pub name_hash_respects : (x y : Labels) → IsTrue (same_name x y) → canonical_octets x ∷ [] ≡ canonical_octets y ∷ []
+name_hash_respects x y h = ap (λ (octets : List ℕ). octets ∷ []) ((canonical_octets_equal x y).1 ((same_place_decides (place x) (place y)).0 h))

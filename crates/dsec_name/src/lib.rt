@@ -1,9 +1,10 @@
 //! Octet strings and domain names (RFC 1035 3.1, RFC 4034 6).
 #![tactic(auto)]
 
+mod compare;
 mod display;
 mod error;
-mod key;
+mod label;
 mod laws;
 mod name;
 mod name_ref;

@@ -6,13 +6,13 @@ ghost use Rattle.std.specs.List.{list_any};
 ghost use Rattle.dsec_spec.specs.Names.{Labels, IsAtOrBelow, IsName, canonical_octets, label_count, name_cmp, place, rrsig_label_count, wire_length, wire_octets};
 ghost use Rattle.dsec_spec.specs.Reading.{Gives};
 ghost use Rattle.dsec_name.specs.Errors.{Answers, is_long, wants_memory};
-ghost use Rattle.dsec_name.specs.Keys.{IsWhole, key_of, labels_octets, labels_of};
+ghost use Rattle.dsec_name.specs.Keys.{IsWhole, labels_octets, labels_of};
 ghost use Rattle.dsec_name.specs.NameRefs.{name_view};
 ghost use Rattle.dsec_name.specs.Parts.{parent_of};
 ghost use Rattle.dsec_name.specs.Wire.{IsOnWire, name_on_wire, wire_labels};
 
+use crate::compare::{compare, is_at_or_below};
 use crate::error::{NameError, NoMemory};
-use crate::key::sort_key;
 use crate::name_ref::NameRef;
 use arrayvec::ArrayVec;
 use std::alloc::Global;
@@ -30,18 +30,17 @@ pub(crate) const MAX_NAME: usize = 255;
 #[derive(Clone, Drop)]
 pub struct Name {
     octets: Vec<u8>,
-    key: Vec<u8>,
 }
 
 impl Model for Name {
     ghost use Rattle.std.specs.Prelude.{List, ℕ};
-    ghost use Rattle.dsec_name.specs.Keys.{IsKept, labels_of};
+    ghost use Rattle.dsec_name.specs.Keys.{IsWhole, labels_of};
 
     ghost Value = { List (List ℕ) };
 
     ghost view = { λ name. labels_of name.octets.items };
 
-    ghost invariant = { λ name. IsKept name.octets.items name.key.items };
+    ghost invariant = { λ name. IsWhole name.octets.items };
 }
 
 impl Name {
@@ -51,7 +50,6 @@ impl Name {
     {
         Name {
             octets: Vec::new(alloc),
-            key: Vec::new(alloc),
         }
     }
 
@@ -76,16 +74,15 @@ impl Name {
             return Err(NameError::LongName);
         }
         let labels = &octets[..octets.len() - 1];
-        Ok(Name::keep(alloc, Vec::from_slice(alloc, labels)?)?)
+        Ok(Name::keep(Vec::from_slice(alloc, labels)?))
     }
 
     /// A name of labels on the wire, without the root's.
-    pub(crate) fn keep(alloc: Global, octets: Vec<u8>) -> Result<Self, NoMemory>
+    pub(crate) fn keep(octets: Vec<u8>) -> Self
         requires { IsWhole octets.items }
-        ensures { IfOk result (λ name. name ≡ labels_of octets.items) }
+        ensures { result ≡ labels_of octets.items }
     {
-        let key = sort_key(alloc, &octets)?;
-        Ok(Name { octets, key })
+        Name { octets }
     }
 
     /// The labels as octets, each with its length before it, and without the root's.
@@ -94,13 +91,6 @@ impl Name {
         ensures name { IsName self.now }
     {
         &self.octets
-    }
-
-    /// The key, which compares in the canonical order.
-    pub(crate) fn key(&self) -> &[u8]
-        ensures { result.now ≡ key_of (place self.now) }
-    {
-        &self.key
     }
 
     /// The name, borrowed.
@@ -119,7 +109,7 @@ impl Name {
         };
         let alloc = *self.octets.allocator();
         let (_, rest) = after.split_at(usize::from(length));
-        Ok(Some(Name::keep(alloc, Vec::from_slice(alloc, rest)?)?))
+        Ok(Some(Name::keep(Vec::from_slice(alloc, rest)?)))
     }
 
     /// Whether the name is the root.
@@ -141,15 +131,7 @@ impl Name {
     pub fn label_count(&self) -> usize
         ensures { result ≡ label_count self.now }
     {
-        // Each label's part of the key ends by 0, which is nowhere else in it.
-        let key = self.key();
-        let mut labels = 1;
-        for octet in key {
-            if *octet == 0 {
-                labels += 1;
-            }
-        }
-        labels
+        self.as_name_ref().label_count()
     }
 
     /// How many labels an RRSIG record counts: neither the root's nor a leftmost `*` (RFC 4034 3.1.3).
@@ -168,14 +150,14 @@ impl Name {
     pub fn canonical_cmp(&self, other: &Self) -> Ordering
         ensures { result ≡ name_cmp self.now other.now }
     {
-        self.key().cmp(other.key())
+        compare(&self.octets, &other.octets)
     }
 
     /// Whether the name is `base`, or stands under it, ASCII case aside.
     pub fn ends_with(&self, base: &Self) -> bool
         ensures { IsTrue result ↔ IsAtOrBelow (place self.now) (place base.now) }
     {
-        self.key().starts_with(base.key())
+        is_at_or_below(&self.octets, &base.octets)
     }
 
     /// Adds the name's octets, uncompressed and with the letters as they came (RFC 1035 3.1).

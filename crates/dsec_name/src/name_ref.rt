@@ -8,6 +8,7 @@ ghost use Rattle.dsec_name.specs.Keys.{IsWhole, labels_of};
 ghost use Rattle.dsec_name.specs.NamePrefix.{labels_size_in};
 
 use crate::error::NoMemory;
+use crate::label::count_labels;
 use crate::name::{MAX_LABEL, MAX_NAME, Name};
 use arrayvec::ArrayVec;
 use std::alloc::Global;
@@ -54,21 +55,14 @@ impl<'a> NameRef<'a> {
     pub fn to_name(&self, alloc: Global) -> Result<Name, NoMemory>
         ensures { IfOk result (λ name. name ≡ name_view self.now) }
     {
-        Name::keep(alloc, Vec::from_slice(alloc, self.octets)?)
+        Ok(Name::keep(Vec::from_slice(alloc, self.octets)?))
     }
 
     /// How many labels the name has, the root's among them.
     pub fn label_count(&self) -> usize
         ensures { result ≡ label_count_of (name_view self.now) }
     {
-        let mut labels = 1;
-        let mut rest = self.octets;
-        while let Some((&length, after)) = rest.split_first() {
-            let (_, next) = after.split_at(usize::from(length).min(after.len()));
-            labels += 1;
-            rest = next;
-        }
-        labels
+        count_labels(self.octets) + 1
     }
 
     /// The name's canonical octets: uncompressed and in lower case (RFC 4034 6.2).

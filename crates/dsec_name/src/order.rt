@@ -1,6 +1,6 @@
 //! How names compare: ASCII case aside, and in the canonical order (RFC 4034 6.1, RFC 4343 3).
 
-ghost use Rattle.dsec_spec.specs.Names.{name_cmp, place};
+ghost use Rattle.dsec_spec.specs.Names.{name_cmp};
 
 use crate::name::Name;
 use std::cmp::Ordering;
@@ -15,7 +15,8 @@ impl PartialEq for Name {
     ghost laws = { name_eq_partial };
 
     fn eq(&self, other: &Self) -> bool {
-        self.key() == other.key()
+        // A length is at most 63, and so no letter.
+        self.octets().eq_ignore_ascii_case(other.octets())
     }
 }
 
@@ -56,14 +57,14 @@ impl PartialOrd for Name {
 
 impl Hash for Name {
     ghost use Rattle.std.specs.Prelude.{[], ◌∷◌};
-    ghost use Rattle.dsec_name.specs.Keys.{key_of};
+    ghost use Rattle.dsec_spec.specs.Names.{canonical_octets};
     ghost use Rattle.dsec_name.specs.NameLaws.{name_hash_respects};
 
-    ghost hash_input = { λ name. key_of (place name) ∷ [] };
+    ghost hash_input = { λ name. canonical_octets name ∷ [] };
 
     ghost respects_eq = { name_hash_respects };
 
     fn hash<H: Hasher>(&self, state: &mut H) {
-        state.write(self.key());
+        state.write(self.canonical_octets().as_slice());
     }
 }

@@ -19,7 +19,7 @@ impl Name {
     {
         let before = (self.label_count() - 1).saturating_sub(labels);
         let rest = after_labels(self.octets(), before);
-        Name::keep(alloc, Vec::from_slice(alloc, rest)?)
+        Ok(Name::keep(Vec::from_slice(alloc, rest)?))
     }
 
     /// The name of so many of the first labels, and then those of `base`.
@@ -40,7 +40,7 @@ impl Name {
         let mut joined = Vec::with_capacity(alloc, front.len() + end.len())?;
         joined.extend_from_slice(front)?;
         joined.extend_from_slice(end)?;
-        Ok(Name::keep(alloc, joined)?)
+        Ok(Name::keep(joined))
     }
 }
 

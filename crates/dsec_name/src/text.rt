@@ -53,7 +53,7 @@ fn read_text(alloc: Global, text: &[u8], origin: &[u8]) -> Result<Name, NameErro
     if octets.len() >= MAX_NAME {
         return Err(NameError::LongName);
     }
-    Ok(Name::keep(alloc, octets)?)
+    Ok(Name::keep(octets))
 }
 
 /// The labels that a text writes, and the origin's where no `.` ends it, each with its length before it; and whether

@@ -1,14 +1,13 @@
 -- The replies that are kept, as a table; and the laws of a question that is looked for.
-use Rattle.std.specs.Prelude.{◌≡◌, ℕ, ◌==◌, ◌&&◌, Bool, List, ◌∷◌, map, Option, Vec, IsTrue}
+use Rattle.std.specs.Prelude.{◌≡◌, ℕ, ◌==◌, ◌&&◌, Bool, List, ◌∷◌, ◌++◌, map, Option, Vec, IsTrue}
 use Rattle.std.specs.Option.{option_map}
 use Rattle.std.specs.Hash.{u16}
 use Rattle.std.specs.Cmp.{first_so, second_so, nat_eq_equiv}
 use Rattle.std.specs.declared.alloc.Global.{Global}
 use Rattle.std.proofs.lemmas.Bool.{eqb-true}
-use Rattle.dsec_name.specs.Keys.{key_of}
-use Rattle.dsec_name.specs.NameLaws.{name_eq_equiv, same_place_decides}
+use Rattle.dsec_name.specs.NameLaws.{name_eq_equiv, name_hash_respects}
 use Rattle.dsec_name.specs.Parts.{same_name}
-use Rattle.dsec_spec.specs.Names.{place}
+use Rattle.dsec_spec.specs.Names.{canonical_octets}
 use Rattle.dsec_spec.specs.Outside.{Entry, Table}
 use Rattle.dsec_outside.specs.declared.replies.Asked.{Asked}
 use Rattle.dsec_outside.specs.declared.replies.Question.{Question}
@@ -34,11 +33,11 @@ abbrev pub is_asked : Asked → Question → Bool
 is_asked asked question = same_name asked.name.now question.name && (asked.rtype == question.rtype)
 
 -- it is hashed as the one that is looked for
-pub asked_hash : (asked : Asked) (question : Question) → IsTrue (is_asked asked question) → key_of (place asked.name.now) ∷ u16 asked.rtype ≡ key_of (place question.name) ∷ u16 question.rtype
+pub asked_hash : (asked : Asked) (question : Question) → IsTrue (is_asked asked question) → canonical_octets asked.name.now ∷ u16 asked.rtype ≡ canonical_octets question.name ∷ u16 question.rtype
 asked_hash asked question h =
-    let p = (same_place_decides (place asked.name.now) (place question.name)).0 (first_so _ _ h) in
+    let p = name_hash_respects asked.name.now question.name (first_so _ _ h) in
     let r = eqb-true asked.rtype question.rtype (second_so (same_name asked.name.now question.name) _ h) in
-    λ i. key_of (p i) ∷ u16 (r i)
+    λ i. p i ++ u16 (r i)
 
 -- and any other question is that one as far as the two are equal
 pub asked_eq : (asked : Asked) (x y : Question) → IsTrue (is_asked asked x) → is_asked asked y ≡ equals x y

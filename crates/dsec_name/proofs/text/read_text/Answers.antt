@@ -21,4 +21,4 @@ pub returns : goal.returns
 returns c =
     let read = rw c.in-Some.is at c.in_ok-octets.ensures in
     let size : vec_len c.in-Some.octets ≡ length c.in-Some.octets.items = c.in-Some.octets.ok.0 in
-    rw c.in_ok-keep.ensures (text_fits (labels_of c.args.origin.now) _ _ _ read c.if-long.false (omega arith))
+    rw c.keep.ensures (text_fits (labels_of c.args.origin.now) _ _ _ read c.if-long.false (omega arith))

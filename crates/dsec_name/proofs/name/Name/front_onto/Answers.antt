@@ -38,5 +38,5 @@ returns c =
     let is = pieces n name base _ c.octets-end.result.now _ _ c.extend_from_slice-2.new.self.items front c.octets-end.ensures.octets
     c.in_ok-joined.ensures.items c.in_ok-extend_from_slice.ensures.items c.in_ok-extend_from_slice-2.ensures.items in
     let named = IsName-joined n name base c.octets-octets.ensures.name c.octets-end.ensures.name (omega (arith, ap length front, ap length c.octets-end.ensures.octets, c.if-front-end-ge-MAX_NAME.false)) in
-    let kept = c.in_ok-keep.ensures ∙ (ap labels_of is ∙ labels_of-octets (take n name ++ base)) in
+    let kept = c.keep.ensures ∙ (ap labels_of is ∙ labels_of-octets (take n name ++ base)) in
     rw kept (fits_name (take n name ++ base) named)

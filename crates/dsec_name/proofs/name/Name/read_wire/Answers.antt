@@ -18,5 +18,5 @@ keep-requires c =
 pub returns : goal.returns
 returns c =
     let f = fitting (wire_labels c.args.octets.now) _ _ c.has_long_label.ensures c.in-Some-false.is c.in-Some-false.field-0-test in
-    let kept : c.in_ok-keep.field-0 ≡ f.labels = c.in_ok-keep.ensures ∙ (ap labels_of (c.in_ok-from_slice.ensures.items ∙ wire_front c.args.octets.now f) ∙ labels_of-octets f.labels) in
+    let kept : c.keep.result ≡ f.labels = c.keep.ensures ∙ (ap labels_of (c.in_ok-from_slice.ensures.items ∙ wire_front c.args.octets.now f) ∙ labels_of-octets f.labels) in
     rw kept (wire_fits c.args.octets.now f c.if-octets-gt-MAX_NAME.false)
