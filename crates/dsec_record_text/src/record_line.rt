@@ -1,0 +1,44 @@
+//! The line of a record in zone text.
+
+ghost use Rattle.std.specs.Prelude.{◌≡◌, ◌++◌, OnOk};
+ghost use Rattle.dsec_record_text.specs.RecordText.{line_data, line_head, record_line};
+
+use dsec_name::NoMemory;
+use dsec_wire::Record;
+use dsec_word::{push_hex, push_name, push_number};
+
+/// Adds the line of a record: its class and type by number, its data in the generic form (RFC 3597 5).
+pub fn push_record_line(out: &mut Vec<u8>, it: &Record) -> Result<(), NoMemory>
+    ensures { OnOk result (out.new.items ≡ out.old.items ++ record_line it.now) }
+{
+    push_head(out, it)?;
+    push_data(out, it)?;
+    out.push(b'\n')?;
+    Ok(())
+}
+
+/// Adds owner, TTL, class and type.
+#[tactic(auto, unfolding(crate::specs::RecordText::line_head))]
+fn push_head(out: &mut Vec<u8>, it: &Record) -> Result<(), NoMemory>
+    ensures { OnOk result (out.new.items ≡ out.old.items ++ line_head it.now) }
+{
+    push_name(out, it.owner())?;
+    out.extend_from_slice(b" ")?;
+    push_number(out, u64::from(it.ttl().as_secs()))?;
+    out.extend_from_slice(b" CLASS")?;
+    push_number(out, u64::from(it.class().to_int()))?;
+    out.extend_from_slice(b" TYPE")?;
+    push_number(out, u64::from(it.rtype().to_int()))
+}
+
+/// Adds the data, behind their length.
+#[tactic(auto, unfolding(crate::specs::RecordText::line_data))]
+fn push_data(out: &mut Vec<u8>, it: &Record) -> Result<(), NoMemory>
+    ensures { OnOk result (out.new.items ≡ out.old.items ++ line_data it.now) }
+{
+    let octets = it.rdata().octets();
+    out.extend_from_slice(b" \\# ")?;
+    push_number(out, octets.len() as u64)?;
+    out.extend_from_slice(b" ")?;
+    push_hex(out, octets.as_slice())
+}
