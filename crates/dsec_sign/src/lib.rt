@@ -1,6 +1,7 @@
-//! Keys to sign by. Here is the insecure stand-in's, made of a DNSKEY record.
+//! Signatures of sets and of zones (RFC 4035 2.2).
 #![tactic(auto)]
 
-mod stand_in_key;
-
-pub use stand_in_key::StandInKey;
+pub use dsec_rrsig::{
+    GenerateRrsigConfig, SignError, SignRaw, SigningError, SigningKey, StandInKey, sign_rrset,
+    sign_sorted_rrset_in,
+};

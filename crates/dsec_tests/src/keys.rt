@@ -5,7 +5,7 @@ use crate::lines::record;
 use dsec_crypto::{AlgorithmError, FromDnskeyError};
 use dsec_link::{DnskeyExt, DsExt};
 use dsec_name::Name;
-use dsec_sign::StandInKey;
+use dsec_sign::{SignRaw, StandInKey};
 use dsec_wire::{Dnskey, Ds};
 use std::alloc::Global;
 use std::process::Abort;
@@ -125,8 +125,15 @@ fn is_taken(alloc: Global, key: &str, want: Option<FromDnskeyError>) -> bool {
         return false;
     };
     match StandInKey::from_dnskey(&key) {
-        Ok(taken) => want.is_none() && taken.dnskey().public_key == key.public_key,
+        Ok(taken) => want.is_none() && has_key(&taken, key.public_key),
         Err(error) => want == Some(error),
+    }
+}
+
+fn has_key(taken: &StandInKey, public_key: &[u8]) -> bool {
+    match taken.dnskey() {
+        Ok(dnskey) => dnskey.public_key == public_key,
+        Err(_) => false,
     }
 }
 

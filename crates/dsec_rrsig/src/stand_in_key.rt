@@ -1,14 +1,18 @@
 //! The key of the stand-in for signatures.
 
 ghost use Rattle.std.specs.Prelude.{◌≡◌, ◌↔◌, IfOk, IsErrOf};
-ghost use Rattle.dsec_sign.specs.Keys.{HasAlgorithm, HasProtocol, IsShort};
+ghost use Rattle.dsec_rrsig.specs.Keys.{HasAlgorithm, HasProtocol, IsShort, stand_in_signs};
 ghost use Rattle.dsec_wire.specs.Views.{key_view};
 
+use crate::error::SignError;
+use crate::sign_raw::SignRaw;
 use arrayvec::ArrayVec;
-use dsec_crypto::FromDnskeyError;
+use dsec_crypto::{DigestBuilder, DigestType, FromDnskeyError};
 use dsec_link::supported_algorithm;
+use dsec_name::NoMemory;
 use dsec_number::SecurityAlgorithm;
 use dsec_wire::Dnskey;
+use std::alloc::Global;
 use std::marker::Model;
 
 /// The octets that a key has at most.
@@ -62,16 +66,35 @@ impl StandInKey {
             public_key,
         })
     }
+}
 
-    /// The data of the key's DNSKEY record.
-    pub fn dnskey(&self) -> Dnskey<'_>
-        ensures { key_view result ≡ self.now }
-    {
-        Dnskey {
+/// It never fails: its count of faults stays at 0.
+impl SignRaw for StandInKey {
+    ghost signs = { stand_in_signs };
+
+    ghost key = { λ it. it };
+
+    ghost faults = { λ _. 0 };
+
+    fn algorithm(&self) -> SecurityAlgorithm {
+        self.algorithm
+    }
+
+    fn dnskey(&self) -> Result<Dnskey<'_>, NoMemory> {
+        Ok(Dnskey {
             flags: self.flags,
             protocol: self.protocol,
             algorithm: self.algorithm,
             public_key: self.public_key.as_slice(),
-        }
+        })
+    }
+
+    fn sign_raw(&mut self, alloc: Global, message: &[u8]) -> Result<Vec<u8>, SignError> {
+        let mut builder = DigestBuilder::new(DigestType::Sha256);
+        builder.update(&self.flags.to_be_bytes());
+        builder.update(&[self.protocol, self.algorithm.to_int()]);
+        builder.update(self.public_key.as_slice());
+        builder.update(message);
+        Ok(builder.finish().as_ref().to_vec(alloc)?)
     }
 }

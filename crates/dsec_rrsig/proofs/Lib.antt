@@ -1,0 +1,2 @@
+pub mod SetMessages
+pub mod Refusals

@@ -1,0 +1,6 @@
+pub mod Keys
+pub mod Errors
+pub mod Signers
+pub mod Messages
+pub mod Made
+pub mod Lent
