@@ -1,0 +1,2 @@
+pub mod ZoneReading
+pub mod WordLemmas

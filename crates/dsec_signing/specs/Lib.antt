@@ -1,0 +1,4 @@
+pub mod Words
+pub mod Zone
+pub mod Refusals
+pub mod Reading

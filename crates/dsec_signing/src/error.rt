@@ -1,0 +1,74 @@
+//! Why zone text isn't signed.
+
+ghost use Rattle.std.specs.Prelude.{◌≡◌};
+ghost use Rattle.dsec_signing.specs.Reading.{error_of};
+ghost use Rattle.dsec_signing.specs.declared.error.SourceError.TheVariants.{NoMemory};
+
+use dsec_name::NoMemory;
+use dsec_zonefile::ZonefileError;
+use std::alloc::{AllocError, AllocFailed};
+
+/// What is wrong with a line, in a word.
+#[derive(Clone, Copy, Debug, PartialEq, Eq)]
+pub enum Word {
+    /// The text is longer than 16,777,216 octets.
+    Size,
+    /// The line is outside the grammar, or an entry begins there that may not stand in a zone to be signed.
+    Zone,
+}
+
+/// The first line of a zone text that is refused, and why.
+#[derive(Clone, Copy, Debug, PartialEq, Eq)]
+pub struct Refused {
+    /// The line's number; the first line has the number 1, and lines that are passed over count.
+    pub line: usize,
+    /// What is wrong with it.
+    pub word: Word,
+}
+
+/// Why a zone text was not read.
+#[derive(Clone, Copy, Debug, PartialEq, Eq)]
+pub enum SourceError {
+    /// The text is refused.
+    Refused(Refused),
+    /// There was no memory left, whatever the text.
+    NoMemory,
+}
+
+impl From<ZonefileError> for SourceError {
+    ghost from_gives = { λ error made. made ≡ error_of error };
+
+    fn from(error: ZonefileError) -> SourceError {
+        match error {
+            ZonefileError::Inplace(error) => SourceError::Refused(Refused {
+                line: error.line,
+                word: Word::Zone,
+            }),
+            ZonefileError::NoMemory => SourceError::NoMemory,
+        }
+    }
+}
+
+impl From<NoMemory> for SourceError {
+    ghost from_gives = { λ _ error. error ≡ NoMemory };
+
+    fn from(_error: NoMemory) -> SourceError {
+        SourceError::NoMemory
+    }
+}
+
+impl From<AllocError> for SourceError {
+    ghost from_gives = { λ _ error. error ≡ NoMemory };
+
+    fn from(_error: AllocError) -> SourceError {
+        SourceError::NoMemory
+    }
+}
+
+impl<T: Drop> From<AllocFailed<T>> for SourceError {
+    ghost from_gives = { λ _ error. error ≡ NoMemory };
+
+    fn from(_error: AllocFailed<T>) -> SourceError {
+        SourceError::NoMemory
+    }
+}
