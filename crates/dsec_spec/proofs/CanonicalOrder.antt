@@ -1,5 +1,5 @@
 -- The canonical order of records is total, ties duplicates alone, and has the owners of one class in order.
-use Rattle.std.proofs.Common.{◌≡◌, ◌↔◌, true, ◌&&◌, ◌==◌, ℕ, List, get_or, arith, refl, sym, ap, ◌∙◌, eqb-true, eq-eqb}
+use Rattle.std.proofs.Common.{◌≡◌, ◌↔◌, true, ◌&&◌, ◌==◌, ℕ, List, get_or, refl, ap, ◌∙◌, eqb-true, eq-eqb}
 use Rattle.std.specs.Prelude.{IsTrue}
 use Rattle.std.specs.Cmp.{IsTotalOrder, on_total}
 use Rattle.std.specs.Str.{bytes_eq}

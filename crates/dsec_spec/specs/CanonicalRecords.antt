@@ -1,5 +1,5 @@
 -- The canonical order of records (RFC 4034 6).
-use Rattle.std.specs.Prelude.{◌≡◌, ℕ, List, AllPairs, find, Some}
+use Rattle.std.specs.Prelude.{◌≡◌, List, AllPairs, find, Some}
 use Rattle.std.specs.Cmp.Lexicographic.{slice_cmp}
 use Rattle.std.specs.Ordering.{nat_cmp, on, then_cmp}
 use Rattle.std.specs.declared.cmp.Ordering.{Ordering}

@@ -32,13 +32,15 @@ firsts alike [] = []
 firsts alike (x ∷ xs) = x ∷ filter (λ y. not (alike x y)) (firsts alike xs)
 
 -- a group: the owner of its first record, or of its first signature where it has no record; its class; the type of its records, or
--- RRSIG where it has none; its records and its signatures, without duplicates and in order of arrival; and whether there were duplicates
+-- RRSIG where it has none; its records and its signatures, without duplicates and in order of arrival; the CNAME records that follow
+-- from its DNAME record and stood apart from it (RFC 6672 3.1); and whether there were duplicates
 pub record Group : Type 0 where
   pub owner : Labels
   pub class : ℕ
   pub rtype : ℕ
   pub records : List Record
   pub signatures : List Record
+  pub extra : List Record
   pub had_duplicate : Bool
 
 -- the members that are no signatures
@@ -58,6 +60,7 @@ group_of first members = let kept = firsts are_duplicates members in record {
   rtype = if nat_eq (length (plain_records kept)) 0 then RRSIG else grouped_type first;
   records = plain_records kept;
   signatures = filter is_signature kept;
+  extra = [];
   had_duplicate = nat_lt (length kept) (length members);
 }
 

@@ -23,6 +23,9 @@ pub mod Groups
 pub mod Trying
 pub mod Islands
 pub mod Answering
+pub mod Redirection
+pub mod Lasting
+pub mod JudgedGroups
 pub mod Sound
 pub mod Outside
 pub mod TypeBitmaps

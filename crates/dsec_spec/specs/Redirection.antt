@@ -1,0 +1,124 @@
+-- DNAME records, and the CNAME records that servers make for them (RFC 6672 2.2, 3.1).
+use Rattle.std.specs.Prelude.{ℕ, suc, ◌-◌, ◌==◌, ◌&&◌, ◌||◌, nat_lt, List, [], ◌∷◌, ◌++◌, length, take, filter, count_by, flat_map, Bool, false, Option, Some, None, if◌then◌else◌}
+use Rattle.std.specs.List.{list_any}
+use Rattle.std.specs.Option.{is_some}
+use Rattle.dsec_spec.specs.Groups.{Group}
+use Rattle.dsec_spec.specs.Names.{Labels, place, same_place, is_strictly_below, wire_length}
+use Rattle.dsec_spec.specs.Numbers.{CNAME, DNAME}
+use Rattle.dsec_spec.specs.Reading.{◌>>=◌}
+use Rattle.dsec_spec.specs.Records.{Record}
+use Rattle.dsec_spec.specs.RecordViews.{target_of}
+
+-- labels as a name, where they have at most 255 octets on the wire (RFC 1035 2.3.4)
+abbrev pub fitting : Labels → Option Labels
+fitting labels = if nat_lt 255 (wire_length labels) then None else Some labels
+
+-- what a DNAME record maps a name below its owner to: the labels before the owner's, and then the target's, where this is a
+-- name (RFC 6672 2.2)
+abbrev pub map_dname : Labels → Labels → Labels → Option Labels
+map_dname owner target name = fitting (take (length name - length owner) name ++ target)
+
+-- what a DNAME record says of a CNAME record
+pub data Mapping : Type 0 where
+  -- nothing: it doesn't map its owner, or to another name than its target
+  silent : Mapping
+  -- it maps its owner to its target
+  agrees : Mapping
+  -- it maps its owner to more than 255 octets
+  too_long : Mapping
+
+-- the same, by the name that the CNAME's owner is mapped to, and its target
+abbrev pub mapping_to : Option Labels → Labels → Mapping
+mapping_to None alias = too_long
+mapping_to (Some name) alias = if same_place (place name) (place alias) then agrees else silent
+
+-- the same, by the owners and the targets of the DNAME and of the CNAME
+abbrev pub mapping_by : Labels → Option Labels → Labels → Option Labels → Mapping
+mapping_by owner (Some target) name (Some alias) =
+    if is_strictly_below (place name) (place owner) then mapping_to (map_dname owner target name) alias else silent
+mapping_by owner _ name _ = silent
+
+abbrev pub mapping : Record → Record → Mapping
+mapping cname dname = mapping_by dname.owner (target_of dname.rdata) cname.owner (target_of cname.rdata)
+
+-- the first, unless it is silent, and then the second
+abbrev pub first_said : Mapping → Mapping → Mapping
+first_said silent m = m
+first_said agrees m = agrees
+first_said too_long m = too_long
+
+-- what the first of the records that isn't silent says of a CNAME record
+unfoldable pub said_by : Record → List Record → Mapping
+said_by cname [] = silent
+said_by cname (dname ∷ others) = first_said (mapping cname dname) (said_by cname others)
+
+-- what a group says of a CNAME record: nothing, unless it is of DNAME records of its class
+abbrev pub group_says : Record → Group → Mapping
+group_says cname g = if (g.rtype == DNAME) && (g.class == cname.class) then said_by cname g.records else silent
+
+-- the index of a group, by what it says and by the groups after it
+abbrev pub index_by : ℕ → Mapping → Option ℕ → Option ℕ
+index_by n silent later = later
+index_by n agrees later = Some n
+index_by n too_long later = None
+
+-- the index of the group that a CNAME record follows from: of the first that isn't silent, where that maps its owner to its target;
+-- the index of the first of these groups is given
+unfoldable pub followed_from : Record → ℕ → List Group → Option ℕ
+followed_from cname n [] = None
+followed_from cname n (g ∷ gs) = index_by n (group_says cname g) (followed_from cname (suc n) gs)
+
+-- the one record, if there is one and no signature
+abbrev pub bare_record : List Record → List Record → Option Record
+bare_record (r ∷ []) [] = Some r
+bare_record _ _ = None
+
+-- the record of a bare alias: a group of one CNAME record, without a signature
+abbrev pub bare_alias : Group → Option Record
+bare_alias g = if g.rtype == CNAME then bare_record g.records g.signatures else None
+
+-- whether the group is a bare alias
+abbrev pub is_bare : Group → Bool
+is_bare g = is_some (bare_alias g)
+
+-- the index of the group that a bare alias follows from
+abbrev pub followed : List Group → Group → Option ℕ
+followed groups g = bare_alias g >>= λ cname. followed_from cname 0 groups
+
+-- whether an index is this one
+abbrev pub is_index : ℕ → Option ℕ → Bool
+is_index n None = false
+is_index n (Some m) = m == n
+
+-- the bare aliases that follow from the group at an index, in order
+abbrev pub followers : List Group → ℕ → List Group
+followers groups n = filter (λ g. is_index n (followed groups g)) groups
+
+-- a group with the records of its followers as extra records, and marked where one of them had duplicates
+abbrev pub with_followers : Group → List Group → Group
+with_followers g others = record {
+  owner = g.owner;
+  class = g.class;
+  rtype = g.rtype;
+  records = g.records;
+  signatures = g.signatures;
+  extra = g.extra ++ flat_map (λ other. other.records) others;
+  had_duplicate = g.had_duplicate || list_any (λ other. other.had_duplicate) others;
+}
+
+-- a group of these as it stays: not at all, if it follows from another, and otherwise with its followers
+abbrev pub stays : List Group → ℕ → Group → List Group
+stays groups n g = if is_some (followed groups g) then [] else with_followers g (followers groups n) ∷ []
+
+-- the last of the groups as they stay, where the first of these has this index
+unfoldable pub staying_from : List Group → ℕ → List Group → List Group
+staying_from groups n [] = []
+staying_from groups n (g ∷ gs) = stays groups n g ++ staying_from groups (suc n) gs
+
+-- whether there are more bare aliases than may be followed
+abbrev pub has_too_many : ℕ → List Group → Bool
+has_too_many limit groups = nat_lt limit (count_by is_bare groups)
+
+-- the groups of a section, each bare alias moved to the group that it follows from; none where there are too many of them
+abbrev pub moved : ℕ → List Group → Option (List Group)
+moved limit groups = if has_too_many limit groups then None else Some (staying_from groups 0 groups)
