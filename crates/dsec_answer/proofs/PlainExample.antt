@@ -113,10 +113,10 @@ abbrev pub world : World
 world = world_of accepts_two (key_record ∷ []) default_limits 500 (key_reply table)
 
 abbrev keys : Group
-keys = record { owner = example; class = 1; rtype = 48; records = key_record ∷ []; signatures = key_signature ∷ []; had_duplicate = false }
+keys = record { owner = example; class = 1; rtype = 48; records = key_record ∷ []; signatures = key_signature ∷ []; extra = []; had_duplicate = false }
 
 abbrev group : Group
-group = record { owner = www; class = 1; rtype = 1; records = address ∷ []; signatures = address_signature ∷ []; had_duplicate = false }
+group = record { owner = www; class = 1; rtype = 1; records = address ∷ []; signatures = address_signature ∷ []; extra = []; had_duplicate = false }
 
 abbrev sections : Sections
 sections = record { question = record { name = www; rtype = 1; class = 1 } ∷ []; answer = address ∷ address_signature ∷ []; authority = [] }

@@ -14,7 +14,7 @@ use Rattle.dsec_spec.specs.Names.{place, canonical_octets}
 use Rattle.dsec_spec.specs.Records.{Record}
 use Rattle.dsec_spec.specs.Groups.{Group, is_signature, of_one_group, grouped_type}
 use Rattle.dsec_spec.proofs.CanonicalNames.{canonical_octets_equal, same_place_decides}
-use Rattle.dsec_group.specs.Adding.{belongs_to, canonical_of, group_from, has_data, led, new_group, put_in, with_record}
+use Rattle.dsec_group.specs.Adding.{belongs_to, canonical_of, group_from, group_with, has_data, led, new_group, put_in, with_record}
 use Rattle.dsec_group.specs.Keys.{group_key, is_key, key_among, key_cmp, key_of}
 use Rattle.dsec_group.specs.declared.key.GroupKey.{GroupKey}
 use Rattle.dsec_group.proofs.DataSets.{tied}
@@ -96,7 +96,7 @@ put_key r [] (s ∷ ss) had false h = ap Some ((group_decides r s).0 h)
 put_key r [] [] had b h = absurd (false≢true h)
 
 put_key_either : (r : Record) (g : Group) (b : Bool) (had also : Bool) → led r g.records g.signatures ≡ true
-    → group_key (cond b (group_from g.records (with_record r g.signatures) had) (group_from (with_record r g.records) g.signatures also)) ≡ group_key g
+    → group_key (cond b (group_with g.records (with_record r g.signatures) g.extra had) (group_with (with_record r g.records) g.signatures g.extra also)) ≡ group_key g
 put_key_either r g true had also h = put_key r g.records g.signatures had true h
 put_key_either r g false had also h = put_key r g.records g.signatures also false h
 

@@ -72,6 +72,7 @@ led_by f ps ss had = record {
   rtype = if nat_eq (length ps) 0 then RRSIG else grouped_type f;
   records = ps;
   signatures = ss;
+  extra = [];
   had_duplicate = had;
 }
 

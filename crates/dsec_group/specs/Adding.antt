@@ -60,16 +60,21 @@ AreSignatures records = All (λ r. r.rtype ≡ RRSIG) records
 abbrev pub AreGrouped : List Record → List Record → Type 0
 AreGrouped records signatures = (0 < length records + length signatures) × AreAlike records × AreSignatures signatures
 
--- the group of these records and signatures
-abbrev pub group_from : List Record → List Record → Bool → Group
-group_from records signatures had_duplicate = record {
+-- the group of these records and signatures, with these extra records
+abbrev pub group_with : List Record → List Record → List Record → Bool → Group
+group_with records signatures extra had_duplicate = record {
   owner = owner_in records signatures;
   class = class_in records signatures;
   rtype = type_in records;
   records = records;
   signatures = signatures;
+  extra = extra;
   had_duplicate = had_duplicate;
 }
+
+-- the same, without extra records
+abbrev pub group_from : List Record → List Record → Bool → Group
+group_from records signatures had_duplicate = group_with records signatures [] had_duplicate
 
 -- whether a record is of one group with the first of these
 abbrev pub led : Record → List Record → List Record → Bool
@@ -84,8 +89,8 @@ belongs_to r g = led r g.records g.signatures
 -- the group and one more record
 abbrev pub put_in : Record → Group → Group
 put_in r g =
-    if is_signature r then group_from g.records (with_record r g.signatures) (g.had_duplicate || has_data (canonical_of r) g.signatures)
-    else group_from (with_record r g.records) g.signatures (g.had_duplicate || has_data (canonical_of r) g.records)
+    if is_signature r then group_with g.records (with_record r g.signatures) g.extra (g.had_duplicate || has_data (canonical_of r) g.signatures)
+    else group_with (with_record r g.records) g.signatures g.extra (g.had_duplicate || has_data (canonical_of r) g.records)
 
 -- the group of one record
 abbrev pub new_group : Record → Group

@@ -13,11 +13,13 @@ use std::alloc::Global;
 use std::marker::Model;
 
 /// The records of one owner, class and type with the signatures that cover them, in order of arrival and
-/// without duplicates. It has a record or a signature.
+/// without duplicates. It has a record or a signature. A group of a DNAME has besides the CNAME records that follow from it and
+/// stood apart (RFC 6672 3.1).
 #[derive(Drop)]
 pub struct Group {
     records: Members,
     signatures: Members,
+    extra: Vec<Record>,
     had_duplicate: bool,
 }
 
@@ -26,9 +28,9 @@ impl Model for Group {
 
     ghost Value = { grouping.Group };
 
-    ghost use Rattle.dsec_group.specs.Adding.{group_from, AreGrouped};
+    ghost use Rattle.dsec_group.specs.Adding.{group_with, AreGrouped};
 
-    ghost view = { λ it. group_from it.records it.signatures it.had_duplicate };
+    ghost view = { λ it. group_with it.records it.signatures it.extra.items it.had_duplicate };
 
     ghost invariant = { λ it. AreGrouped it.records it.signatures };
 }
@@ -40,11 +42,13 @@ impl Group {
     {
         let mut records = Members::new(alloc);
         let mut signatures = Members::new(alloc);
+        let extra = Vec::new(alloc);
         if next.rtype() == Rtype::RRSIG {
             signatures.add(next)?;
             return Ok(Group {
                 records,
                 signatures,
+                extra,
                 had_duplicate: false,
             });
         }
@@ -52,6 +56,7 @@ impl Group {
         Ok(Group {
             records,
             signatures,
+            extra,
             had_duplicate: false,
         })
     }
@@ -117,6 +122,13 @@ impl Group {
         ensures { result ≡ length self.now.signatures }
     {
         self.signatures.as_slice().len()
+    }
+
+    /// The CNAME records that follow from the group's DNAME record and stood apart, in order of arrival (RFC 6672 3.1).
+    pub fn extra_set(&self) -> &[Record]
+        ensures { result.now ≡ self.now.extra }
+    {
+        &self.extra
     }
 
     /// Whether a duplicate of a member was dropped (RFC 2181 5).

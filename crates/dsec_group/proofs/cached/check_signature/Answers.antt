@@ -1,4 +1,4 @@
-use Rattle.std.proofs.Common.{◌≡◌, false, subst, ◌∙◌}
+use Rattle.std.proofs.Common.{◌≡◌, ◌∙◌}
 use Rattle.dsec_spec.specs.Groups.{set_in}
 use Rattle.dsec_spec.specs.Names.{place}
 use Rattle.dsec_spec.specs.SignedBytes.{signed_bytes}
