@@ -4,3 +4,4 @@ pub mod SignedTests
 pub mod KeyedLemmas
 pub mod KeyDigestLemmas
 pub mod KeySearchSteps
+pub mod SortedBy

@@ -2,6 +2,7 @@
 use Rattle.std.proofs.Common.{◌≡◌, ◌≢◌, ℕ, zero, suc, ◌<◌, List, [], ◌∷◌, get_or, length, map, refl, sym, ap, arith, ◌∙◌}
 use Rattle.std.specs.Prelude.{Contains}
 use Rattle.std.proofs.lemmas.List.Elements.{All-cons, All-head, All-tail, All-map}
+use Rattle.dsec_spec.proofs.CanonicalDataLemmas.{length-canonical_data}
 use Rattle.dsec_spec.specs.RecordData.{canonical_data}
 use Rattle.dsec_spec.specs.Records.{Record}
 use Rattle.dsec_wire.specs.TypedData.{TypedData, data_of}
@@ -50,3 +51,7 @@ has_no_octets datas x none (k, below, is) =
     let within : k < length datas = omega (arith, length_octets datas, below) in
     let d : TypedData = record { rtype = 0; octets = [] } in
     none k d within (sym (at_octets datas k d x within) ∙ is)
+
+-- data are as long when they are signed
+pub data_as_long : (rtype : ℕ) (octets : List ℕ) → length (canonical_data rtype octets) ≡ length octets
+data_as_long = length-canonical_data

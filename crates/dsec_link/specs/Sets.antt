@@ -1,5 +1,6 @@
 -- The data of records with their type, as sets keep them.
 use Rattle.std.specs.Prelude.{◌≡◌, ℕ, List, [], ◌∷◌, map, All}
+use Rattle.std.specs.Borrow.{Bor}
 use Rattle.dsec_spec.specs.RecordData.{canonical_data}
 use Rattle.dsec_spec.specs.Records.{Record}
 use Rattle.dsec_wire.specs.TypedData.{TypedData}
@@ -28,3 +29,7 @@ canonical_of one = canonical_data one.rtype one.octets
 -- a record's data as they are signed
 abbrev pub canonical_record : Record → List ℕ
 canonical_record r = canonical_data r.rtype r.rdata
+
+-- borrowed data as they are signed
+abbrev pub canonicals_in : List (Bor TypedData) → List (List ℕ)
+canonicals_in all = map (λ one. canonical_of one.now) all

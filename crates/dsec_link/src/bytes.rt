@@ -1,22 +1,26 @@
 //! The octets that a signature is over (RFC 4034 3.1.8.1).
 
 ghost use Rattle.std.specs.Prelude.{◌≡◌, ◌++◌, IfOk, OnOk, drop, map};
+ghost use Rattle.std.specs.Int.{to_be_bytes, w16};
 ghost use Rattle.std.specs.List.{flat_map};
 ghost use Rattle.dsec_spec.specs.Names.{canonical_octets};
 ghost use Rattle.dsec_spec.specs.Records.{fixed_octets};
 ghost use Rattle.dsec_spec.specs.SignedBytes.{signed_owner, signed_bytes as signed_bytes_of};
 ghost use Rattle.dsec_wire.specs.Views.{rrsig_view};
-ghost use Rattle.dsec_link.specs.Sets.{AreRecordsOf};
+ghost use Rattle.dsec_link.specs.Sets.{AreRecordsOf, canonical_of, canonicals_in};
 ghost use Rattle.dsec_link.specs.Signing.{encloser_of, front_octets, head_octets, whole_record};
 
-use crate::canonical::canonical_datas;
+use crate::canonical::ordered_datas;
 use dsec_name::{Name, NoMemory, Octets};
 use dsec_number::{Class, Rtype};
-use dsec_wire::{Record, Rrsig};
+use dsec_wire::{Data, Record, Rrsig};
 use std::alloc::Global;
 
 /// The octets up to the length of a record's data at most: a name, a type, a class and a TTL.
 const MAX_FRONT: usize = 263;
+
+/// The octets of an RRSIG's data up to the signature at most.
+const MAX_HEAD: usize = 273;
 
 /// Most signed octets are no more than these.
 pub(crate) const USUAL_BYTES: usize = 512;
@@ -35,11 +39,15 @@ pub fn signed_bytes(
     requires { AreRecordsOf rtype records.now }
     ensures { IfOk result (λ out. out.items ≡ signed_bytes_of (rrsig_view rrsig.now) (record { owner = owner.now; class = class; rtype = rtype; datas = map (λ r. r.rdata) records.now })) }
 {
-    let canonical = canonical_datas(alloc, records)?;
+    let datas = ordered_datas(alloc, records)?;
     let front = front_of(alloc, rrsig, owner, class, rtype)?;
-    let mut out = Vec::with_capacity(alloc, USUAL_BYTES)?;
+    let mut size = MAX_HEAD;
+    for one in &datas {
+        size = size.saturating_add(front.len() + 2 + one.octets().len());
+    }
+    let mut out = Vec::with_capacity(alloc, size)?;
     push_head(&mut out, rrsig)?;
-    push_all(&mut out, &front, &canonical)?;
+    push_all(&mut out, &front, &datas)?;
     Ok(out)
 }
 
@@ -96,13 +104,31 @@ pub fn push_head(out: &mut Vec<u8>, rrsig: &Rrsig<'_>) -> Result<(), NoMemory>
     rrsig.signer_name.compose_canonical(out)
 }
 
-/// Adds records by their front and their canonical data.
-fn push_all(out: &mut Vec<u8>, front: &[u8], canonical: &[Octets]) -> Result<(), NoMemory>
-    ensures { OnOk result (out.new.items ≡ out.old.items ++ flat_map (whole_record front.now) canonical.now) }
+/// Adds records by their front and their data.
+fn push_all(out: &mut Vec<u8>, front: &[u8], datas: &[&Data]) -> Result<(), NoMemory>
+    ensures { OnOk result (out.new.items ≡ out.old.items ++ flat_map (whole_record front.now) (canonicals_in datas.now)) }
 {
-    for one in canonical {
-        push_record(out, front, one)?;
+    for one in datas {
+        push_data(out, front, one)?;
     }
+    Ok(())
+}
+
+/// Adds a record by its front and its data, which are as many octets when they are signed.
+fn push_data(out: &mut Vec<u8>, front: &[u8], one: &Data) -> Result<(), NoMemory>
+    ensures { OnOk result (out.new.items ≡ out.old.items ++ whole_record front.now (canonical_of one.now)) }
+{
+    push_front(out, front, one.octets().len())?;
+    one.compose_canonical(out)?;
+    Ok(())
+}
+
+/// Adds a record's front, and how many octets its data are, at most 65535.
+fn push_front(out: &mut Vec<u8>, front: &[u8], size: usize) -> Result<(), NoMemory>
+    ensures { OnOk result (out.new.items ≡ out.old.items ++ front.now ++ to_be_bytes w16 size) }
+{
+    out.extend_from_slice(front)?;
+    out.extend_from_slice(&((size % 65536) as u16).to_be_bytes())?;
     Ok(())
 }
 

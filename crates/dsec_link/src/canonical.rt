@@ -2,7 +2,7 @@
 
 ghost use Rattle.std.specs.Prelude.{◌≡◌, IfOk, map};
 ghost use Rattle.dsec_spec.specs.SignedBytes.{ascending};
-ghost use Rattle.dsec_link.specs.Sets.{canonical_of, canonical_record};
+ghost use Rattle.dsec_link.specs.Sets.{canonical_of, canonical_record, canonicals_in};
 
 use dsec_name::{NoMemory, Octets};
 use dsec_wire::{Data, Record};
@@ -17,21 +17,25 @@ pub(crate) fn canonical(alloc: Global, one: &Data) -> Result<Octets, NoMemory>
     Ok(Octets::new(out))
 }
 
-/// The data of records as signatures take them, in their order.
-pub(crate) fn canonical_datas(alloc: Global, records: &[Record]) -> Result<Vec<Octets>, NoMemory>
-    ensures { IfOk result (λ all. all.items ≡ ascending (map canonical_record records.now)) }
+/// The data of records, in the order of what signatures take of them; nothing is copied.
+pub(crate) fn ordered_datas<'a>(
+    alloc: Global,
+    records: &'a [Record],
+) -> Result<Vec<&'a Data>, NoMemory>
+    ensures { IfOk result (λ all. canonicals_in all.items ≡ ascending (map canonical_record records.now)) }
 {
-    let mut all = Vec::with_capacity(alloc, records.len())?;
-    for one in records {
-        all.push(canonical(alloc, one.rdata())?)?;
-    }
-    Ok(in_order(all))
+    let mut all = datas_of(alloc, records)?;
+    all.sort_unstable_by(|a, b| a.canonical_cmp(b));
+    Ok(all)
 }
 
-/// Octet strings in ascending order.
-fn in_order(mut all: Vec<Octets>) -> Vec<Octets>
-    ensures { result.items ≡ ascending all.items }
+/// The data of records.
+fn datas_of<'a>(alloc: Global, records: &'a [Record]) -> Result<Vec<&'a Data>, NoMemory>
+    ensures { IfOk result (λ all. canonicals_in all.items ≡ map canonical_record records.now) }
 {
-    all.sort_unstable();
-    all
+    let mut all = Vec::with_capacity(alloc, records.len())?;
+    for record in records {
+        all.extend_from_slice(&[record.rdata()])?;
+    }
+    Ok(all)
 }
