@@ -1,10 +1,11 @@
 -- What cuts of a text say of its lines and words.
 use Rattle.std.proofs.Common.{◌≡◌, ℕ, zero, suc, List, [], ◌∷◌, ◌++◌, ◌<◌, ◌≤◌, ◌+◌, ◌&&◌, length, take, drop, get_or, refl, sym, ap, ◌∙◌, append_assoc, append-nil, true, false, true≢false, Bool, Some, None, arith, cond}
+use Rattle.std.specs.Prelude.{slice_index}
 use Rattle.std.proofs.Math.Bool.{not}
 use Rattle.std.proofs.lemmas.List.{at_drop_more, at_drop_all, take_more, take_all}
 use Rattle.dsec_script.specs.Text.{after_blanks, cut_of, cut_word, ends_word, first_word_of, is_blank, is_line_end, is_return, lines_of, onto, without_return, words_of}
 
-abbrev Cut : Type 0
+abbrev pub Cut : Type 0
 Cut = List ℕ × List ℕ
 
 -- ---- the loop that cuts
@@ -19,6 +20,10 @@ cut_here test b bs h = ap (λ t. cond {A = Cut} t ([], b ∷ bs) (b ∷ (cut_of 
 cut_later : (test : ℕ → Bool) (b : ℕ) (bs : List ℕ) → test b ≡ false → cut_of test (b ∷ bs) ≡ behind (b ∷ []) (cut_of test bs)
 unfolding cut_of
 cut_later test b bs h = ap (λ t. cond {A = Cut} t ([], b ∷ bs) (b ∷ (cut_of test bs).0, (cut_of test bs).1)) h
+
+fails : (t : Bool) → (t ≡ true → ⊥) → t ≡ false
+fails true never = absurd (never refl)
+fails false never = refl
 
 cut_nil : (test : ℕ → Bool) → cut_of test [] ≡ ([], [])
 unfolding cut_of
@@ -47,6 +52,19 @@ pub cut_none : (test : ℕ → Bool) (at : ℕ) (xs : List ℕ) → length xs �
 cut_none test at xs l inv =
     let h : cut_of test (drop at xs) ≡ ([], []) = at_drop_all (cut_of test) xs at l ∙ cut_nil test in
     ap (λ front. (front, [])) (sym (append-nil xs) ∙ ap (λ front. front ++ []) (sym (take_all at xs l))) ∙ ap (behind (take at xs)) (sym h) ∙ inv
+
+-- the first place that passes
+pub cut_first : (test : ℕ → Bool) (at : ℕ) (xs : List ℕ) → at < length xs → ((k : ℕ) → k < at → test (slice_index xs k) ≡ true → ⊥) → test (slice_index xs at) ≡ true → (take at xs, drop at xs) ≡ cut_of test xs
+cut_first test at [] l before e = absurd (omega (arith, l))
+cut_first test zero (x ∷ xs) l before e = sym (cut_here test x xs e)
+cut_first test (suc at) (x ∷ xs) l before e =
+    ap (behind (x ∷ [])) (cut_first test at xs (omega (arith, l)) (λ k h. before (suc k) (omega (arith, h))) e) ∙ sym (cut_later test x xs (fails (test x) (before 0 (omega arith))))
+
+-- no place passes
+pub cut_nowhere : (test : ℕ → Bool) (xs : List ℕ) → ((k : ℕ) → k < length xs → test (slice_index xs k) ≡ true → ⊥) → (xs, []) ≡ cut_of test xs
+cut_nowhere test [] none = sym (cut_nil test)
+cut_nowhere test (x ∷ xs) none =
+    ap (behind (x ∷ [])) (cut_nowhere test xs (λ k h. none (suc k) (omega (arith, h)))) ∙ sym (cut_later test x xs (fails (test x) (none 0 (omega arith))))
 
 -- ---- a CR at the end
 

@@ -1,8 +1,6 @@
 -- A text's lines, and their words.
 use Rattle.std.specs.Prelude.{ℕ, ◌==◌, ◌&&◌, ◌||◌, List, [], ◌∷◌, Bool, true, false, Option, Some, None, if◌then◌else◌}
 use Rattle.std.proofs.Math.Bool.{not}
-use Rattle.dsec_script.specs.declared.text.Mark.{Mark}
-use Rattle.dsec_script.specs.declared.text.Mark.TheVariants as marks
 
 -- LF, which ends a line
 abbrev pub is_line_end : ℕ → Bool
@@ -47,11 +45,9 @@ words_of (octet ∷ line) =
     else if ends_word line then (octet ∷ []) ∷ words_of line
     else onto octet (words_of line)
 
--- whether an octet ends what is looked for: a line, a word, or what stands before a word
-abbrev pub is_mark : Mark → ℕ → Bool
-is_mark marks.LineEnd octet = is_line_end octet
-is_mark marks.Blank octet = is_blank octet
-is_mark marks.Word octet = not (is_blank octet)
+-- what words consist of
+abbrev pub is_no_blank : ℕ → Bool
+is_no_blank octet = not (is_blank octet)
 
 -- the octets before the first that passes a test, and those from it on
 unfoldable pub cut_of : (ℕ → Bool) → List ℕ → List ℕ × List ℕ
@@ -60,12 +56,12 @@ cut_of test (octet ∷ text) = if test octet then ([], octet ∷ text) else (oct
 
 -- what stands from the first word on
 abbrev pub after_blanks : List ℕ → List ℕ
-after_blanks line = (cut_of (is_mark marks.Word) line).1
+after_blanks line = (cut_of is_no_blank line).1
 
 -- the word that a text begins with, and what stands after it; none where it is empty
 abbrev pub cut_word : List ℕ → Option (List ℕ × List ℕ)
 cut_word [] = None
-cut_word (octet ∷ text) = Some (cut_of (is_mark marks.Blank) (octet ∷ text))
+cut_word (octet ∷ text) = Some (cut_of is_blank (octet ∷ text))
 
 -- the first word of a line, and what stands after it; none where it has no word
 abbrev pub first_word_of : List ℕ → Option (List ℕ × List ℕ)

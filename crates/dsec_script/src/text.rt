@@ -2,18 +2,9 @@
 
 ghost use Rattle.std.specs.Prelude.{◌≡◌, ◌<◌, [], ◌∷◌, length, MatchOption};
 ghost use Rattle.std.specs.Option.{option_map};
-ghost use Rattle.dsec_script.specs.Text.{after_blanks, cut_of, first_word_of, is_blank as is_blank_octet, is_mark as is_mark_octet, lines_of, without_return as without_return_of, words_of};
+ghost use Rattle.dsec_script.specs.Text.{after_blanks, cut_of, first_word_of, is_blank as is_blank_octet, is_line_end, lines_of, without_return as without_return_of, words_of};
 
-/// What ends a stretch of octets.
-#[derive(Clone, Copy)]
-enum Mark {
-    /// The LF of a line.
-    LineEnd,
-    /// A blank after a word.
-    Blank,
-    /// A word after blanks.
-    Word,
-}
+use memchr::{memchr, memchr2};
 
 /// The first line of a text that isn't empty, and the text after it.
 pub fn first_line(text: &[u8]) -> (&[u8], &[u8])
@@ -21,7 +12,7 @@ pub fn first_line(text: &[u8]) -> (&[u8], &[u8])
     ensures line { lines_of text.now ≡ result.0.now ∷ lines_of result.1.now }
     ensures shorter { length result.1.now < length text.now }
 {
-    let (line, rest) = cut(text, Mark::LineEnd);
+    let (line, rest) = cut_line(text);
     match rest {
         [] => (line, rest),
         [_, after @ ..] => (without_return(line), after),
@@ -37,39 +28,41 @@ pub fn first_word(line: &[u8]) -> Option<(&[u8], &[u8])>
     if rest.is_empty() {
         return None;
     }
-    Some(cut(rest, Mark::Blank))
+    Some(cut_word(rest))
 }
 
 /// What stands in a line from its first word on.
 pub fn without_blanks(line: &[u8]) -> &[u8]
     ensures { result.now ≡ after_blanks line.now }
 {
-    let (_, rest) = cut(line, Mark::Word);
-    rest
-}
-
-/// The octets before the first mark, and those from it on.
-fn cut(octets: &[u8], mark: Mark) -> (&[u8], &[u8])
-    ensures { (result.0.now, result.1.now) ≡ cut_of (is_mark_octet mark) octets.now }
-{
     let mut at = 0;
-    while at < octets.len() {
-        if is_mark(octets[at], mark) {
-            return octets.split_at(at);
+    while at < line.len() {
+        if !is_blank(line[at]) {
+            let (_, rest) = line.split_at(at);
+            return rest;
         }
         at += 1;
     }
-    (octets, &[])
+    &[]
 }
 
-/// Whether an octet is such a mark.
-fn is_mark(octet: u8, mark: Mark) -> bool
-    ensures { result ≡ is_mark_octet mark octet }
+/// The octets before the first LF, and those from it on.
+fn cut_line(text: &[u8]) -> (&[u8], &[u8])
+    ensures { (result.0.now, result.1.now) ≡ cut_of is_line_end text.now }
 {
-    match mark {
-        Mark::LineEnd => octet == b'\n',
-        Mark::Blank => is_blank(octet),
-        Mark::Word => !is_blank(octet),
+    match memchr(b'\n', text) {
+        Some(at) => text.split_at(at),
+        None => (text, &[]),
+    }
+}
+
+/// The octets before the first blank, and those from it on.
+fn cut_word(line: &[u8]) -> (&[u8], &[u8])
+    ensures { (result.0.now, result.1.now) ≡ cut_of is_blank_octet line.now }
+{
+    match memchr2(b' ', b'\t', line) {
+        Some(at) => line.split_at(at),
+        None => (line, &[]),
     }
 }
 

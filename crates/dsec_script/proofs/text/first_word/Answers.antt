@@ -16,9 +16,9 @@ returns-then-is_empty-clause-cut c =
 pub returns-clause-words : goal.returns-clause-words
 returns-clause-words c =
     let l : 0 < length c.without_blanks-rest.result.now = omega (arith, eqb-false _ _ (sym c.if-is_empty.ensures)) in
-    word_found c.args.line.now c.without_blanks-rest.result.now _ _ c.without_blanks-rest.ensures l c.cut.ensures
+    word_found c.args.line.now c.without_blanks-rest.result.now _ _ c.without_blanks-rest.ensures l c.cut_word.ensures
 
 pub returns-clause-cut : goal.returns-clause-cut
 returns-clause-cut c =
     let l : 0 < length c.without_blanks-rest.result.now = omega (arith, eqb-false _ _ (sym c.if-is_empty.ensures)) in
-    first_cut c.args.line.now c.without_blanks-rest.result.now _ _ c.without_blanks-rest.ensures l c.cut.ensures
+    first_cut c.args.line.now c.without_blanks-rest.result.now _ _ c.without_blanks-rest.ensures l c.cut_word.ensures
