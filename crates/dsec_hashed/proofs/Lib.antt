@@ -1,0 +1,13 @@
+pub mod NewNames
+pub mod NamesLaws
+pub mod OwnersHashed
+pub mod TypesHashed
+pub mod Permuted
+pub mod Assembled
+pub mod DataLaws
+pub mod LabelLaws
+pub mod OwnerLaws
+pub mod AboveSteps
+pub mod Views
+pub mod Made
+pub mod ZoneNames
