@@ -1,5 +1,5 @@
 -- For callers: what was read up to the limit says what all of it says.
-use Rattle.std.proofs.Common.{◌≡◌, ℕ, List, ◌++◌, ◌<◌, ◌≤◌, length, refl, Option, Some, None, Bool, true, false, ap, ◌∙◌, append-nil, arith}
+use Rattle.std.proofs.Common.{◌≡◌, ℕ, List, ◌++◌, ◌<◌, ◌≤◌, length, refl, Option, Some, None, Bool, true, false, sym, ap, ◌∙◌, subst, append-nil, arith}
 use Rattle.std.specs.Prelude.{nat_lt, IfSome}
 use Rattle.std.specs.Io.KnownBytes.{Consumes, IsAtEnd}
 use Rattle.std.proofs.lemmas.Bool.{ltb-true, ltb-false}
@@ -21,3 +21,14 @@ says-taken {A} says same (Some all) (Some more) content taken ended = by (nat_lt
     by : (t : Bool) → nat_lt limit (length content) ≡ t → says all ≡ says content
     by true t = ap says taken ∙ same content more (ltb-true limit (length content) t)
     by false t = ap says (taken ∙ ap (λ rest. content ++ rest) (ended (ltb-false limit (length content) t)) ∙ append-nil content)
+
+-- the same of a fact: where nothing past the limit takes it away, it holds of all that was left
+pub holds-taken : (Holds : List ℕ → Type 0) → ((content more : List ℕ) → limit < length content → Holds content → Holds (content ++ more))
+    → (left rest : Option (List ℕ)) (content : List ℕ) → Consumes left rest content → (length content ≤ limit → IsAtEnd rest) → Holds content → IfSome left Holds
+holds-taken Holds stays None rest content taken ended h = tt
+holds-taken Holds stays (Some all) None content taken ended h = absurd taken
+holds-taken Holds stays (Some all) (Some more) content taken ended h = by (nat_lt limit (length content)) refl
+  where
+    by : (t : Bool) → nat_lt limit (length content) ≡ t → Holds all
+    by true t = subst Holds (sym taken) (stays content more (ltb-true limit (length content) t) h)
+    by false t = subst Holds (sym (taken ∙ ap (λ rest. content ++ rest) (ended (ltb-false limit (length content) t)) ∙ append-nil content)) h

@@ -3,3 +3,4 @@ pub mod Limit
 pub mod Faults
 pub mod Ends
 pub mod Sending
+pub mod Statuses

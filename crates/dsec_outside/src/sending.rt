@@ -1,11 +1,12 @@
 //! Texts that go out whole, or in blocks.
 
-ghost use Rattle.std.specs.Prelude.{◌≡◌, ◌≤◌, [], IsErrOf, OnOk};
+ghost use Rattle.std.specs.Prelude.{◌≡◌, ◌≤◌, ◌⊎◌, IsErrOf, OnOk};
 ghost use Rattle.std.specs.Io.KnownBytes.{Appends};
 ghost use Rattle.dsec_spec.specs.Outside.{Rose, SentFront};
 ghost use Rattle.dsec_outside.specs.Faults.{CountsWrites};
 ghost use Rattle.dsec_outside.specs.Sending.{SentBut};
-ghost use Rattle.dsec_outside.specs.declared.sending.Halt.TheVariants.{Memory};
+ghost use Rattle.dsec_outside.specs.Statuses.{status_in};
+ghost use Rattle.dsec_outside.specs.declared.sending.Halt.TheVariants.{Memory, Write};
 
 use crate::sink::Sink;
 use crate::source::Failed;
@@ -29,6 +30,20 @@ impl From<NoMemory> for Halt {
 
     fn from(_error: NoMemory) -> Halt {
         Halt::Memory
+    }
+}
+
+impl Halt {
+    /// The status that a program ends with: 5 where a write failed, 6 where there was no memory.
+    pub fn status(self) -> u8
+        ensures values { (result ≡ 5) ⊎ (result ≡ 6) }
+        ensures write { result ≡ 5 → self ≡ Write }
+        ensures exact { result ≡ status_in self }
+    {
+        match self {
+            Halt::Write => 5,
+            Halt::Memory => 6,
+        }
     }
 }
 

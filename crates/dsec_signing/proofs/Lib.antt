@@ -1,2 +1,3 @@
 pub mod ZoneReading
 pub mod WordLemmas
+pub mod RunLemmas
