@@ -49,25 +49,32 @@ def lines(words, source):
         return subprocess.run(words, stdin=stdin, stdout=subprocess.PIPE, check=True).stdout.count(b"\n")
 
 
+def measure(words, extra, folder, yard):
+    """Chains the zones of each size, where each has so many records more than names."""
+    zone = os.path.join(folder, "zone")
+    before = None
+    for names in SIZES:
+        write_zone(zone, names)
+        if lines(words, zone) != names + extra:
+            sys.exit("not one record for each name")
+        time, noise = cpu(words, zone)
+        growth = "" if before is None else ", %.2f of linear growth" % (time / before[0] / (names / before[1]))
+        print("%d names: %.3f s CPU (noise %.2f), %.2f of the yardstick, %.1f MiB%s" % (
+            names, time, noise, time / yard, memory(words, zone) / (1 << 20), growth))
+        before = time, names
+
+
 def main(program):
-    words = [program, "bench.", "0102"]
     with tempfile.TemporaryDirectory() as folder:
         zeros = os.path.join(folder, "zeros")
         with open(zeros, "wb") as out:
             out.truncate(100 << 20)
         yard, noise = cpu(["openssl", "dgst", "-sha256", zeros])
         print("yardstick: SHA-256 of 100 MiB in %.3f s CPU (noise %.2f)" % (yard, noise))
-        zone = os.path.join(folder, "zone")
-        before = None
-        for names in SIZES:
-            write_zone(zone, names)
-            if lines(words, zone) != names + 1:
-                sys.exit("not one NSEC record for each name")
-            time, noise = cpu(words, zone)
-            growth = "" if before is None else ", %.2f of linear growth" % (time / before[0] / (names / before[1]))
-            print("%d names: %.3f s CPU (noise %.2f), %.2f of the yardstick, %.1f MiB%s" % (
-                names, time, noise, time / yard, memory(words, zone) / (1 << 20), growth))
-            before = time, names
+        print("NSEC")
+        measure([program, "bench.", "0102"], 1, folder, yard)
+        print("NSEC3, without iterations and salt")
+        measure([program, "nsec3", "0", "-", "0", "bench.", "0102"], 2, folder, yard)
 
 
 main(sys.argv[1])

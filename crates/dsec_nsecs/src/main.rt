@@ -1,14 +1,20 @@
-//! Prints the NSEC records of a zone: the words are its apex and a key in hex, the zone's text comes from the standard input. The key's
-//! DNSKEY record is added first, as the command `sign` does.
+//! Prints the NSEC or NSEC3 records of zones: the words are an apex and a key in hex for each, the zones' text comes from the standard
+//! input. The key's DNSKEY record is added first, as the command `sign` does. From the words `nsec3`, iterations, a salt in hex or `-`,
+//! and 1 or 0 for Opt-Out on, the zones that follow get NSEC3 records.
 #![tactic(auto)]
 
+ghost use Rattle.std.specs.Prelude.{◌<◌, length};
+
 use dsec_chain::{DenialError, generate_nsecs};
+use dsec_hashed::{Nsec3Records, generate_nsec3s};
 use dsec_name::{Name, NoMemory, Octets};
 use dsec_number::{Class, Rtype, Ttl};
 use dsec_outside::{Reading, Stop, Writing, read_all, write_all};
-use dsec_sorted::{InsertError, RecordsIter, SortedRecords, is_of_one_class};
+use dsec_sorted::{
+    InsertError, Nsec3Config, Nsec3Salt, RecordsIter, SortedRecords, is_of_one_class,
+};
 use dsec_wire::{Data, Record};
-use dsec_word::{ReadError, push_hex, push_number, read_hex, read_name};
+use dsec_word::{ReadError, number, push_hex, push_number, read_hex, read_name};
 use dsec_zonefile::{Entry, Zonefile, ZonefileError};
 use std::alloc::{AllocError, AllocFailed, Global};
 use std::env;
@@ -17,7 +23,7 @@ use std::process::ExitCode;
 /// Why nothing is printed.
 #[derive(Drop)]
 enum Status {
-    /// There are no two words, an apex and a key in hex.
+    /// The words are others.
     Words,
     /// The zone's text is refused.
     Zone,
@@ -110,7 +116,7 @@ fn main(rt: HostRuntime) -> ExitCode {
 fn show(rt: &HostRuntime) -> Result<(), Status> {
     let alloc = rt.alloc();
     let words = words_of(rt)?;
-    if words.is_empty() || words.len() % 2 != 0 {
+    if words.is_empty() {
         return Err(Status::Words);
     }
     let mut source = Reading {
@@ -121,27 +127,111 @@ fn show(rt: &HostRuntime) -> Result<(), Status> {
     let text = read_all(alloc, &mut source)?;
     let mut sorted = SortedRecords::new(alloc);
     sorted.extend(records_of(alloc, &text)?)?;
-    for pair in words.chunks(2) {
-        if let [apex, key] = pair {
-            show_zone(rt, &mut sorted, apex, key)?;
+    show_zones(rt, &mut sorted, &words)
+}
+
+/// Prints the records of each zone that the words name.
+fn show_zones(
+    rt: &HostRuntime,
+    sorted: &mut SortedRecords,
+    words: &[String],
+) -> Result<(), Status> {
+    let mut hashing = None;
+    let mut next = 0;
+    for at in 0..words.len() {
+        if at == next {
+            if words[at].as_str() == "nsec3" {
+                hashing = Some(at);
+                next = at + 4;
+            } else {
+                show_zone(rt, sorted, words, at, hashing)?;
+                next = at + 2;
+            }
         }
     }
     Ok(())
 }
 
-/// Prints the records of the zone of an apex, with its key.
+/// Prints the records of the zone whose apex and key stand at a place of the words, with its key; NSEC3 records where a place says how
+/// names are hashed.
 fn show_zone(
     rt: &HostRuntime,
     sorted: &mut SortedRecords,
-    apex: &str,
-    key: &str,
-) -> Result<(), Status> {
+    words: &[String],
+    at: usize,
+    hashing: Option<usize>,
+) -> Result<(), Status>
+    requires { at < length words.now }
+{
     let alloc = rt.alloc();
-    let apex = read_name(alloc, apex.as_bytes())?;
-    let key = read_hex(alloc, key.as_bytes())?;
+    let apex = read_name(alloc, word_at(words, at)?.as_bytes())?;
+    let key = read_hex(alloc, word_at(words, at + 1)?.as_bytes())?;
     add(sorted, key_record(alloc, &apex, &key)?)?;
-    let nsecs = nsecs_of(alloc, &apex, sorted)?;
-    write_records(rt, &nsecs)
+    let chain = chain_of(alloc, &apex, sorted, words, hashing)?;
+    write_records(rt, &chain)
+}
+
+/// The word at a place.
+fn word_at(words: &[String], at: usize) -> Result<&str, Status> {
+    match words.get(at) {
+        Some(word) => Ok(word.as_str()),
+        None => Err(Status::Words),
+    }
+}
+
+/// The chain's records.
+fn chain_of(
+    alloc: Global,
+    apex: &Name,
+    sorted: &SortedRecords,
+    words: &[String],
+    hashing: Option<usize>,
+) -> Result<Vec<Record>, Status> {
+    match hashing {
+        None => nsecs_of(alloc, apex, sorted),
+        Some(at) => {
+            let config = config_of(alloc, words, at)?;
+            nsec3s_of(alloc, apex, sorted, &config)
+        }
+    }
+}
+
+/// How names are hashed, by the three words after a place.
+fn config_of(alloc: Global, words: &[String], at: usize) -> Result<Nsec3Config, Status> {
+    let Some(words) = words.get(at..) else {
+        return Err(Status::Words);
+    };
+    let [_, iterations, salt, opt_out, ..] = words else {
+        return Err(Status::Words);
+    };
+    Ok(Nsec3Config {
+        iterations: iterations_of(iterations)?,
+        salt: salt_of(alloc, salt)?,
+        opt_out: opt_out.as_str() == "1",
+    })
+}
+
+/// The number of iterations that a word says.
+fn iterations_of(word: &str) -> Result<u16, Status> {
+    let Some(iterations) = number(word.as_bytes(), 65535) else {
+        return Err(Status::Words);
+    };
+    match u16::try_from(iterations) {
+        Ok(iterations) => Ok(iterations),
+        Err(_) => Err(Status::Words),
+    }
+}
+
+/// The salt that a word says, in hex; none by `-`.
+fn salt_of(alloc: Global, word: &str) -> Result<Nsec3Salt, Status> {
+    if word == "-" {
+        return Ok(Nsec3Salt::empty());
+    }
+    let octets = read_hex(alloc, word.as_bytes())?;
+    match Nsec3Salt::from_octets(octets.as_slice()) {
+        Ok(salt) => Ok(salt),
+        Err(_) => Err(Status::Words),
+    }
 }
 
 /// The words after the program's name.
@@ -201,6 +291,24 @@ fn nsecs_of(alloc: Global, apex: &Name, sorted: &SortedRecords) -> Result<Vec<Re
     let owners = RecordsIter::new_from_owned(records);
     let nsecs = generate_nsecs(alloc, apex, owners)?;
     Ok(nsecs)
+}
+
+/// The NSEC3 records of sorted records, and the NSEC3PARAM record last.
+fn nsec3s_of(
+    alloc: Global,
+    apex: &Name,
+    sorted: &SortedRecords,
+    config: &Nsec3Config,
+) -> Result<Vec<Record>, Status> {
+    let records = sorted.as_slice();
+    if !is_of_one_class(records) {
+        return Err(Status::Zone);
+    }
+    let owners = RecordsIter::new_from_owned(records);
+    let Nsec3Records { nsec3s, nsec3param } = generate_nsec3s(alloc, apex, owners, config)?;
+    let mut all = nsec3s;
+    all.push(nsec3param)?;
+    Ok(all)
 }
 
 /// Writes records, one a line, in the generic form (RFC 3597 5).
