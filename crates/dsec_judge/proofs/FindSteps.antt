@@ -17,7 +17,7 @@ use Rattle.dsec_cause.specs.declared.cause.Cause.TheVariants.{RrsigWithoutRrset}
 use Rattle.dsec_judge.specs.declared.asking.Asked.{Asked}
 use Rattle.dsec_judge.specs.declared.key_set.KeySet.{KeySet}
 use Rattle.dsec_judge.specs.declared.key_set.KeySet.TheVariants.{Held, Unheld}
-use Rattle.dsec_judge.specs.Findings.{Finding, insecure, World, finding, finding_from, finding_under, island_of, key_set_at, key_set_from, key_set_in, key_set_of, target_of}
+use Rattle.dsec_judge.specs.Findings.{insecure, World, finding, finding_from, finding_under, island_of, key_set_at, key_set_from, key_set_in, key_set_of, target_of}
 use Rattle.dsec_judge.specs.Asking.{AreAsked, AreOf, IsAsked, bare, with_island, with_replies}
 use Rattle.dsec_judge.specs.Verdicts.{island_asked}
 use Rattle.dsec_judge.specs.Found.{OfKeys, kept}

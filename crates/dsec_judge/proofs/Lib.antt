@@ -17,3 +17,4 @@ pub mod ExpansionLaws
 pub mod SectionSteps
 pub mod AnswerSteps
 pub mod JudgeSteps
+pub mod IslandSteps

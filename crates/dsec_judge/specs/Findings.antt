@@ -1,10 +1,9 @@
 -- What is found of a group of records: whether a chain from an anchor shows its set (RFC 4033 5, RFC 4035 4.3, 5).
-use Rattle.std.specs.Prelude.{ℕ, ◌==◌, ◌&&◌, List, [], ◌∷◌, length, find, filter_map, flat_map, unwrap_or, Bool, false, Option, Some, None, if◌then◌else◌}
-use Rattle.std.specs.Str.{bytes_eq}
+use Rattle.std.specs.Prelude.{ℕ, ◌==◌, ◌&&◌, List, [], ◌∷◌, length, find, filter_map, flat_map, Bool, Option, Some, None, if◌then◌else◌}
 use Rattle.dsec_spec.specs.Reading.{◌>>=◌}
 use Rattle.dsec_spec.specs.Names.{Place, place, same_place}
 use Rattle.dsec_spec.specs.Numbers.{IN, DS, DNSKEY}
-use Rattle.dsec_spec.specs.Records.{Record, Key, key_of}
+use Rattle.dsec_spec.specs.Records.{Record, Key}
 use Rattle.dsec_spec.specs.Messages.{answers_of, authorities_of}
 use Rattle.dsec_spec.specs.Accepts.{Accepts}
 use Rattle.dsec_spec.specs.Groups.{Group, groups_of, set_in}

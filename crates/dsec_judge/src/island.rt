@@ -15,7 +15,8 @@ pub(crate) fn parent_for(name: &Name, rtype: Rtype) -> Result<Option<Name>, NoMe
     if rtype != Rtype::DS {
         return Ok(None);
     }
-    name.parent()
+    let parent = name.parent()?;
+    Ok(parent)
 }
 
 /// Whether a name is another, or stands under it.

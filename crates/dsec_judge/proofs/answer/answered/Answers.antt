@@ -1,13 +1,11 @@
-use Rattle.std.proofs.Common.{None, Some, sym, ap, ◌∙◌}
+use Rattle.std.proofs.Common.{sym, ◌∙◌}
 use Rattle.std.specs.Prelude.{position}
 use Rattle.std.proofs.lemmas.Option.{slice_get_within}
 use Rattle.dsec_spec.specs.Answering.{is_at_question}
 use Rattle.dsec_judge.specs.Asking.{with_replies}
-use Rattle.dsec_judge.specs.Parts.{told_judgement}
-use Rattle.dsec_judge.specs.Verdicts.{Judgement}
 use Rattle.dsec_judge.proofs.AnchorSteps.{if_ok, stands_at}
 use Rattle.dsec_judge.proofs.AskingSteps.{from_position}
-use Rattle.dsec_judge.proofs.AnswerSteps.{answered_index, answered_nothing, kept_here}
+use Rattle.dsec_judge.proofs.AnswerSteps.{answered_index, kept_here}
 use Rattle.dsec_judge.proofs.answer.answered.Goals as goal
 
 pub by_finding-requires : goal.by_finding-requires

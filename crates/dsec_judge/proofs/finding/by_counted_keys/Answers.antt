@@ -1,4 +1,4 @@
-use Rattle.std.proofs.Common.{List, slice_get, sym, ap, ◌∙◌, ◌+◌, map, subst}
+use Rattle.std.proofs.Common.{List, slice_get, ap, ◌∙◌, ◌+◌, map, subst}
 use Rattle.dsec_link.specs.TaggedKeys.{tagged_view}
 use Rattle.dsec_spec.specs.Names.{place}
 use Rattle.dsec_spec.specs.Records as records
