@@ -1,0 +1,3 @@
+pub mod SetRuns
+pub mod ZoneSets
+pub mod SignerSteps

@@ -1,0 +1,5 @@
+pub mod Places
+pub mod Runs
+pub mod Pushing
+pub mod SignerFaults
+pub mod Refusals
