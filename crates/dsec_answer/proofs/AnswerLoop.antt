@@ -1,10 +1,6 @@
 -- Texts of outcomes, one after the other.
 use Rattle.std.proofs.Common.{◌≡◌, ℕ, suc, List, [], ◌∷◌, ◌++◌, ◌<◌, ◌+◌, length, map, take, drop, get_or, Option, refl, sym, ap, ◌∙◌, subst, append_assoc, append-nil, arith}
-use Rattle.std.specs.Io.KnownBytes.{Appends}
-use Rattle.std.proofs.KnownBytes.{Appends-trans}
-use Rattle.std.proofs.Math.Seq.{take-append_seam}
 use Rattle.std.proofs.lemmas.List.{take_more, take-append-drop, length-take-le, length-map, map-append}
-use Rattle.dsec_spec.specs.Outside.{SentFront}
 use Rattle.dsec_answer.specs.Told.{Outcome}
 use Rattle.dsec_answer.specs.Texts.{outcome_text}
 use Rattle.dsec_answer.specs.Outcomes.{texts_from}
@@ -38,36 +34,12 @@ one_more f items k index item l same =
     ∙ ap (λ t. texts_from 0 (map f (take k items)) ++ t) (one_text index (f x)))))
 
 -- the text of the first things is a front of the text of all
-first_texts : {A : Type 0} (f : A → Outcome) (items : List A) (k : ℕ) → (rest : List ℕ) × (texts_from 0 (map f items) ≡ texts_from 0 (map f (take k items)) ++ rest)
+pub first_texts : {A : Type 0} (f : A → Outcome) (items : List A) (k : ℕ) → (rest : List ℕ) × (texts_from 0 (map f items) ≡ texts_from 0 (map f (take k items)) ++ rest)
 first_texts f items k = (
   texts_from (0 + length (map f (take k items))) (map f (drop k items)),
   ap (λ xs. texts_from 0 (map f xs)) (sym (take-append-drop k items))
       ∙ (ap (texts_from 0) (map-append f (take k items) (drop k items)) ∙ texts_append 0 (map f (take k items)) (map f (drop k items))),
 )
-
-pub front_of : (a b : Option (List ℕ)) (whole front rest : List ℕ) → whole ≡ front ++ rest → Appends a b front → SentFront a b whole
-front_of a b whole front rest e sent = (length front, subst (Appends a b) (sym (ap (take (length front)) e ∙ take-append_seam front rest)) sent)
-
--- stopped between two texts
-pub stopped : {A : Type 0} (f : A → Outcome) (items : List A) (k : ℕ) (a b : Option (List ℕ)) → Appends a b (texts_from 0 (map f (take k items))) → SentFront a b (texts_from 0 (map f items))
-stopped f items k a b sent =
-    let whole = first_texts f items k in
-    front_of a b (texts_from 0 (map f items)) (texts_from 0 (map f (take k items))) whole.0 whole.1 sent
-
--- stopped within a text
-pub stopped_within : {A : Type 0} (f : A → Outcome) (items : List A) (k index : ℕ) (item : A) (a b c : Option (List ℕ)) → k < length items → index ≡ k
-    → Appends a b (texts_from 0 (map f (take k items))) → SentFront b c (outcome_text index (f (get_or items k item))) → SentFront a c (texts_from 0 (map f items))
-stopped_within f items k index item a b c l same sent front =
-    let before = texts_from 0 (map f (take k items)) in
-    let text = outcome_text index (f (get_or items k item)) in
-    let whole = first_texts f items (k + 1) in
-    front_of a c (texts_from 0 (map f items)) (before ++ take front.0 text) (drop front.0 text ++ whole.0)
-    (whole.1
-    ∙ (ap (λ t. t ++ whole.0) (one_more f items k index item l same ∙ ap (λ t. before ++ t) (sym (take-append-drop front.0 text)))
-    ∙ (append_assoc before (take front.0 text ++ drop front.0 text) whole.0
-    ∙ (ap (λ t. before ++ t) (append_assoc (take front.0 text) (drop front.0 text) whole.0)
-    ∙ sym (append_assoc before (take front.0 text) (drop front.0 text ++ whole.0))))))
-    (Appends-trans a b c before (take front.0 text) sent front.1)
 
 -- of no outcomes there is no text
 pub no_texts : texts_from 0 [] ≡ []

@@ -1,14 +1,8 @@
 -- How the faults of a source and of a sink are counted while a command runs: the fault that ends it counts as one, and there is no other.
-use Rattle.std.specs.Prelude.{◌≡◌, ℕ, ◌==◌, Result, Ok, Err, if◌then◌else◌}
+use Rattle.std.specs.Prelude.{ℕ, ◌==◌, if◌then◌else◌}
 use Rattle.dsec_spec.specs.Outside.{risen}
-use Rattle.dsec_answer.specs.declared.judging.Halt.{Halt}
-use Rattle.dsec_answer.specs.declared.judging.Halt.TheVariants as halts
-
--- what is sent up to the first write that fails; want of memory is no fault of the sink
-abbrev pub CountsWrites : {T : Type 0} → ℕ → ℕ → Result T Halt → Type 0
-CountsWrites before now (Ok value) = now ≡ before
-CountsWrites before now (Err halts.Write) = now ≡ risen before
-CountsWrites before now (Err halts.Memory) = now ≡ before
+use Rattle.dsec_outside.specs.declared.sending.Halt.{Halt}
+use Rattle.dsec_outside.specs.declared.sending.Halt.TheVariants as halts
 
 -- the status of a halt
 abbrev pub status_in : Halt → ℕ

@@ -10,10 +10,9 @@ ghost use Rattle.dsec_answer.specs.Counting.{counted_at};
 ghost use Rattle.dsec_answer.specs.Words.{IsValidate, usage};
 ghost use Rattle.dsec_answer.specs.Headline.{Answered, Done, Makes, RefusedAt, Refuses, WentOut};
 
-use crate::judging::send;
 use crate::script::answer;
 use dsec_crypto::{StandIn, Verifier};
-use dsec_outside::{Sink, Source, Stop, read_all};
+use dsec_outside::{Sink, Source, Stop, read_all, send};
 use std::alloc::Global;
 
 /// What is written for words that name no command.
@@ -83,7 +82,7 @@ pub fn run_by<V: Verifier, S: Source, K: Sink>(
         };
     }
     match read_all(alloc, source) {
-        Ok(content) => answer::<V, K>(alloc, &content, sink),
+        Ok(content) => answer::<V, K>(alloc, content, sink),
         Err(Stop::Read) => 4,
         Err(Stop::Memory) => 6,
     }

@@ -1,55 +1,22 @@
-//! Messages judged one after the other, and their outcomes written.
+//! Messages judged one after the other, and the texts of their outcomes sent.
 
-ghost use Rattle.std.specs.Prelude.{◌≡◌, ◌≤◌, IfOk, OnOk, IsErrOf};
+ghost use Rattle.std.specs.Prelude.{◌≡◌, ◌≤◌, ◌++◌, IfOk, OnOk, IsErrOf};
 ghost use Rattle.std.specs.Io.KnownBytes.{Appends};
 ghost use Rattle.dsec_spec.specs.Outside.{Rose, SentFront};
 ghost use Rattle.dsec_answer.specs.Texts.{outcome_text};
-ghost use Rattle.dsec_answer.specs.Counting.{CountsWrites};
+ghost use Rattle.dsec_outside.specs.Faults.{CountsWrites};
 ghost use Rattle.dsec_answer.specs.Outcomes.{answer_text, outcome_of};
-ghost use Rattle.dsec_answer.specs.declared.judging.Halt.TheVariants.{Memory};
 
 use crate::context::ValidationContext;
 use crate::outcome::Outcome;
-use crate::texts::text;
+use crate::texts::push_text;
 use dsec_crypto::Verifier;
 use dsec_judge::Error;
 use dsec_name::NoMemory;
-use dsec_outside::{Failed, Sink, TableUpstream, write_all};
+use dsec_outside::{Halt, Sink, TableUpstream, send, send_block};
 use dsec_script::Item;
 use dsec_wire::Message;
 use std::alloc::Global;
-
-/// Why not all was written.
-#[derive(Clone, Copy, Debug, PartialEq, Eq)]
-pub enum Halt {
-    /// A write failed.
-    Write,
-    /// There was no memory left.
-    Memory,
-}
-
-impl From<NoMemory> for Halt {
-    ghost from_gives = { λ _ halt. halt ≡ Memory };
-
-    fn from(_error: NoMemory) -> Halt {
-        Halt::Memory
-    }
-}
-
-/// Writes a text.
-pub fn send<K: Sink>(sink: &mut K, octets: &[u8]) -> Result<(), Halt>
-    ensures later { K.faults sink.old ≤ K.faults sink.new }
-    ensures write { IsErrOf result Halt.Write → Rose (K.faults sink.old) (K.faults sink.new) }
-    ensures counts { CountsWrites (K.faults sink.old) (K.faults sink.new) result }
-    ensures only { IsErrOf result Halt.Memory → ⊥ }
-    ensures sent { OnOk result (Appends (K.written sink.old) (K.written sink.new) octets.now) }
-    ensures front { SentFront (K.written sink.old) (K.written sink.new) octets.now }
-{
-    match write_all(sink, octets) {
-        Ok(()) => Ok(()),
-        Err(Failed) => Err(Halt::Write),
-    }
-}
 
 /// What comes of a message at its moment.
 fn judge_one<V: Verifier>(
@@ -75,23 +42,24 @@ fn judge_one<V: Verifier>(
     }
 }
 
-/// The text of what comes of a message at its moment.
-fn text_of_one<V: Verifier>(
+/// Adds the text of what comes of a message at its moment.
+fn push_one<V: Verifier>(
     alloc: Global,
     context: &mut ValidationContext<V>,
     upstream: &mut TableUpstream,
     index: u64,
     item: &Item,
-) -> Result<Vec<u8>, NoMemory>
-    ensures exact { IfOk result (λ text. text.items ≡ outcome_text index (outcome_of V.accepts context.old.anchors context.old.limits upstream.old.replies item.now.seconds item.now.octets)) }
+    out: &mut Vec<u8>,
+) -> Result<(), NoMemory>
+    ensures exact { OnOk result (out.new.items ≡ out.old.items ++ outcome_text index (outcome_of V.accepts context.old.anchors context.old.limits upstream.old.replies item.now.seconds item.now.octets)) }
     ensures same_context { context.new ≡ context.old }
     ensures same_table { upstream.new.replies ≡ upstream.old.replies }
 {
     let outcome = judge_one(alloc, context, upstream, item)?;
-    text(alloc, index, &outcome)
+    push_text(out, index, &outcome)
 }
 
-/// Judges messages and writes the text of each outcome.
+/// Judges messages and sends the texts of their outcomes, in blocks.
 pub fn judge_all<V: Verifier, K: Sink>(
     alloc: Global,
     context: &mut ValidationContext<V>,
@@ -105,11 +73,13 @@ pub fn judge_all<V: Verifier, K: Sink>(
     ensures sent { OnOk result (Appends (K.written sink.old) (K.written sink.new) (answer_text V.accepts context.old.anchors context.old.limits upstream.old.replies items.now)) }
     ensures front { SentFront (K.written sink.old) (K.written sink.new) (answer_text V.accepts context.old.anchors context.old.limits upstream.old.replies items.now) }
 {
+    let mut gathered = Vec::new(alloc);
     let mut index = 0u64;
     for item in items {
-        let out = text_of_one(alloc, context, upstream, index, item)?;
-        send(sink, &out)?;
+        push_one(alloc, context, upstream, index, item, &mut gathered)?;
+        send_block(sink, &mut gathered)?;
         index += 1;
     }
+    send(sink, &gathered)?;
     Ok(())
 }

@@ -3,17 +3,21 @@
 ghost use Rattle.std.specs.Prelude.{◌≡◌, ◌≤◌, ◌⊎◌, IfOk, OnOk, IsErrOf};
 ghost use Rattle.std.specs.Io.KnownBytes.{Appends};
 ghost use Rattle.dsec_spec.specs.Outside.{Rose, SentFront};
-ghost use Rattle.dsec_answer.specs.Counting.{CountsWrites, counted_at, status_in};
+ghost use Rattle.dsec_outside.specs.Faults.{CountsWrites};
+ghost use Rattle.dsec_answer.specs.Counting.{counted_at, status_in};
 ghost use Rattle.dsec_answer.specs.Headline.{Answered, RefusedAt, SentFor};
 ghost use Rattle.dsec_answer.specs.Outcomes.{script_text};
 ghost use Rattle.dsec_answer.specs.Words.{refused_text, word_text};
+ghost use Rattle.dsec_script.specs.Place.{wants_memory};
+ghost use Rattle.dsec_script.specs.Script.{script_of};
+ghost use Rattle.dsec_spec.specs.Reading.{Gives};
 
 use crate::context::ValidationContext;
-use crate::judging::{Halt, judge_all, send};
+use crate::judging::judge_all;
 use dsec_anchors::TrustAnchors;
 use dsec_crypto::Verifier;
 use dsec_name::NoMemory;
-use dsec_outside::{Sink, TableUpstream};
+use dsec_outside::{Halt, Sink, TableUpstream, send};
 use dsec_script::{Refused, Script, ScriptError, Word, read_script};
 use std::alloc::Global;
 
@@ -98,17 +102,25 @@ fn refuse<K: Sink>(alloc: Global, refused: Refused, sink: &mut K) -> Result<(), 
     send(sink, &out)
 }
 
-/// Judges the messages of a script and writes their outcomes, or names its first refused line; and gives the status.
-pub fn answer<V: Verifier, K: Sink>(alloc: Global, content: &[u8], sink: &mut K) -> u8
+/// What octets say as a script; they are let go.
+fn read_once(alloc: Global, content: Vec<u8>) -> Result<Script, ScriptError>
+    ensures { Gives wants_memory (λ script. script) result (script_of content.items) }
+{
+    read_script(alloc, &content)
+}
+
+/// Judges the messages of a script and writes their outcomes, or names its first refused line; and gives the status. The
+/// content is let go before the messages are judged.
+pub fn answer<V: Verifier, K: Sink>(alloc: Global, content: Vec<u8>, sink: &mut K) -> u8
     ensures later { K.faults sink.old ≤ K.faults sink.new }
     ensures write { result ≡ 5 → Rose (K.faults sink.old) (K.faults sink.new) }
     ensures counts { K.faults sink.new ≡ counted_at 5 result (K.faults sink.old) }
-    ensures done { result ≡ 0 → Answered V.accepts content.now (K.written sink.old) (K.written sink.new) }
-    ensures refused { result ≡ 3 → RefusedAt content.now (K.written sink.old) (K.written sink.new) }
-    ensures front { SentFor V.accepts content.now (K.written sink.old) (K.written sink.new) }
+    ensures done { result ≡ 0 → Answered V.accepts content.items (K.written sink.old) (K.written sink.new) }
+    ensures refused { result ≡ 3 → RefusedAt content.items (K.written sink.old) (K.written sink.new) }
+    ensures front { SentFor V.accepts content.items (K.written sink.old) (K.written sink.new) }
     ensures statuses { (result ≡ 0) ⊎ ((result ≡ 3) ⊎ ((result ≡ 5) ⊎ (result ≡ 6))) }
 {
-    match read_script(alloc, content) {
+    match read_once(alloc, content) {
         Ok(script) => match judge_script::<V, K>(alloc, script, sink) {
             Ok(()) => 0,
             Err(halt) => status_of(halt),

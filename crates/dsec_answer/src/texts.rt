@@ -1,6 +1,6 @@
 //! What is written for an outcome.
 
-ghost use Rattle.std.specs.Prelude.{◌≡◌, ◌++◌, IfOk, OnOk, Ok, Err};
+ghost use Rattle.std.specs.Prelude.{◌≡◌, ◌++◌, IfOk, OnOk, Ok};
 ghost use Rattle.std.specs.List.{flat_map};
 ghost use Rattle.std.specs.Option.{option_map};
 ghost use Rattle.dsec_link.specs.LinkTexts.{link_line};
@@ -29,39 +29,35 @@ pub fn text<V: Verifier>(
 ) -> Result<Vec<u8>, NoMemory>
     ensures { IfOk result (λ text. text.items ≡ outcome_text index outcome.now) }
 {
+    let mut out = Vec::with_capacity(alloc, USUAL_TEXT)?;
+    push_text(&mut out, index, outcome)?;
+    Ok(out)
+}
+
+/// Adds what is written for the outcome of the message of an index.
+pub(crate) fn push_text<V: Verifier>(
+    out: &mut Vec<u8>,
+    index: u64,
+    outcome: &Outcome<V>,
+) -> Result<(), NoMemory>
+    ensures { OnOk result (out.new.items ≡ out.old.items ++ outcome_text index outcome.now) }
+{
     match outcome.as_result() {
-        Ok(verdict) => verdict_text(alloc, index, verdict),
-        Err(error) => refusal_text(alloc, index, error),
+        Ok(verdict) => push_judged(out, index, verdict),
+        Err(error) => push_error(out, index, error),
     }
 }
 
-/// What is written for a verdict.
-fn verdict_text<V: Verifier>(
-    alloc: Global,
+/// Adds what is written for a verdict.
+fn push_judged<V: Verifier>(
+    out: &mut Vec<u8>,
     index: u64,
     verdict: &Verdict<V>,
-) -> Result<Vec<u8>, NoMemory>
-    ensures { IfOk result (λ text. text.items ≡ outcome_text index (Ok (told_by verdict.now.state verdict.now.ede (option_map (λ why. reason why.group why.shown) verdict.now.why) verdict.now.questions))) }
+) -> Result<(), NoMemory>
+    ensures { OnOk result (out.new.items ≡ out.old.items ++ outcome_text index (Ok (told_by verdict.now.state verdict.now.ede (option_map (λ why. reason why.group why.shown) verdict.now.why) verdict.now.questions))) }
 {
-    let mut out = Vec::with_capacity(alloc, USUAL_TEXT)?;
-    push_verdict(
-        &mut out,
-        index,
-        verdict.state,
-        verdict.ede,
-        verdict.questions,
-    )?;
-    push_why(&mut out, index, &verdict.why)?;
-    Ok(out)
-}
-
-/// What is written for an error.
-fn refusal_text(alloc: Global, index: u64, error: Error) -> Result<Vec<u8>, NoMemory>
-    ensures { IfOk result (λ text. text.items ≡ outcome_text index (Err error)) }
-{
-    let mut out = Vec::new(alloc);
-    push_error(&mut out, index, error)?;
-    Ok(out)
+    push_verdict(out, index, verdict.state, verdict.ede, verdict.questions)?;
+    push_why(out, index, &verdict.why)
 }
 
 /// Adds the line of a verdict.

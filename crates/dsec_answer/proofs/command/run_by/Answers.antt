@@ -17,9 +17,9 @@ returns-in-Err-clause-front g c =
 
 pub returns-in-Ok-read_all-clause-done : goal.returns-in-Ok-read_all-clause-done
 returns-in-Ok-read_all-clause-done g c = λ s.
-    let taken : Consumes _ _ c.deref.result.now = rw c.deref.ensures.value c.in-Ok-read_all.ensures.taken in
-    let whole : length c.deref.result.now ≤ limit → IsAtEnd _ = rw c.deref.ensures.value c.in-Ok-read_all.ensures.whole in
-    done_of _ _ _ _ _ c.deref.result.now taken whole (c.answer.ensures.done s)
+    let taken : Consumes _ _ c.in-Ok-read_all.content.items = c.in-Ok-read_all.ensures.taken in
+    let whole : length c.in-Ok-read_all.content.items ≤ limit → IsAtEnd _ = c.in-Ok-read_all.ensures.whole in
+    done_of _ _ _ _ _ c.in-Ok-read_all.content.items taken whole (c.answer.ensures.done s)
 
 pub returns-in-Ok-read_all-clause-told : goal.returns-in-Ok-read_all-clause-told
 returns-in-Ok-read_all-clause-told g c = λ s.
@@ -27,14 +27,14 @@ returns-in-Ok-read_all-clause-told g c = λ s.
 
 pub returns-in-Ok-read_all-clause-first : goal.returns-in-Ok-read_all-clause-first
 returns-in-Ok-read_all-clause-first g c = λ s.
-    let taken : Consumes _ _ c.deref.result.now = rw c.deref.ensures.value c.in-Ok-read_all.ensures.taken in
-    let whole : length c.deref.result.now ≤ limit → IsAtEnd _ = rw c.deref.ensures.value c.in-Ok-read_all.ensures.whole in
-    told_refusal _ (g.S.Source.left c.read_all.new.source) _ _ c.deref.result.now taken whole (c.answer.ensures.refused s)
+    let taken : Consumes _ _ c.in-Ok-read_all.content.items = c.in-Ok-read_all.ensures.taken in
+    let whole : length c.in-Ok-read_all.content.items ≤ limit → IsAtEnd _ = c.in-Ok-read_all.ensures.whole in
+    told_refusal _ (g.S.Source.left c.read_all.new.source) _ _ c.in-Ok-read_all.content.items taken whole (c.answer.ensures.refused s)
 
 pub returns-in-Ok-read_all-clause-front : goal.returns-in-Ok-read_all-clause-front
 returns-in-Ok-read_all-clause-front g c =
-    let taken : Consumes (g.S.Source.left c.args.source.now) (g.S.Source.left c.read_all.new.source) c.deref.result.now = rw c.deref.ensures.value c.in-Ok-read_all.ensures.taken in
-    script (c.if-not-is_validate.ensures.0 refl) c.deref.result.now taken c.answer.ensures.front
+    let taken : Consumes (g.S.Source.left c.args.source.now) (g.S.Source.left c.read_all.new.source) c.in-Ok-read_all.content.items = c.in-Ok-read_all.ensures.taken in
+    script (c.if-not-is_validate.ensures.0 refl) c.in-Ok-read_all.content.items taken c.answer.ensures.front
 
 pub returns-in-Ok-clause-made : goal.returns-in-Ok-clause-made
 returns-in-Ok-clause-made g c =
@@ -46,6 +46,6 @@ returns-in-Err-clause-made g c =
 
 pub returns-in-Ok-read_all-clause-made : goal.returns-in-Ok-read_all-clause-made
 returns-in-Ok-read_all-clause-made g c =
-    let taken : Consumes (g.S.Source.left c.args.source.now) (g.S.Source.left c.read_all.new.source) c.deref.result.now = rw c.deref.ensures.value c.in-Ok-read_all.ensures.taken in
-    let whole : length c.deref.result.now ≤ limit → IsAtEnd (g.S.Source.left c.read_all.new.source) = rw c.deref.ensures.value c.in-Ok-read_all.ensures.whole in
-    made_of g.V.Verifier.accepts _ _ _ _ _ c.deref.result.now taken whole (c.if-not-is_validate.ensures.0 refl) c.answer.ensures.front
+    let taken : Consumes (g.S.Source.left c.args.source.now) (g.S.Source.left c.read_all.new.source) c.in-Ok-read_all.content.items = c.in-Ok-read_all.ensures.taken in
+    let whole : length c.in-Ok-read_all.content.items ≤ limit → IsAtEnd (g.S.Source.left c.read_all.new.source) = c.in-Ok-read_all.ensures.whole in
+    made_of g.V.Verifier.accepts _ _ _ _ _ c.in-Ok-read_all.content.items taken whole (c.if-not-is_validate.ensures.0 refl) c.answer.ensures.front

@@ -1,50 +1,80 @@
-use Rattle.std.proofs.Common.{◌≡◌, arith, sym, subst, get_or, refl, ◌∙◌}
+use Rattle.std.proofs.Common.{◌≡◌, ◌++◌, ◌+◌, [], arith, sym, subst, get_or, refl, ◌∙◌, append-nil}
 use Rattle.std.specs.Io.KnownBytes.{Appends}
-use Rattle.std.proofs.KnownBytes.{Appends-nil, Appends-trans}
+use Rattle.std.proofs.lemmas.List.{take_all}
 use Rattle.dsec_spec.specs.Outside.{SentFront}
+use Rattle.dsec_outside.specs.Sending.{SentBut}
+use Rattle.dsec_outside.proofs.Pieces.{but_front, but_front_more, front_of, more_gathered, more_went, none_sent, rest_went}
 use Rattle.dsec_answer.specs.Texts.{outcome_text}
 use Rattle.dsec_script.specs.declared.items.Item.{Item}
-use Rattle.dsec_answer.specs.Outcomes.{outcome_of}
-use Rattle.dsec_answer.proofs.AnswerLoop.{no_texts, one_more, stopped, stopped_within}
+use Rattle.dsec_answer.specs.Outcomes.{answer_text, outcome_of}
+use Rattle.dsec_answer.proofs.AnswerLoop.{first_texts, no_texts, one_more}
 use Rattle.dsec_answer.proofs.judging.judge_all.Goals as goal
 
 pub loop-item-init : goal.loop-item-init
-loop-item-init g c = (refl, refl, refl, refl, subst (Appends _ _) (sym no_texts) (Appends-nil _))
+loop-item-init g c =
+    let written = g.K.Sink.written c.args.sink.now in
+    let begun : SentBut written written [] c.new-gathered.result.items = subst (SentBut written written []) (sym c.new-gathered.ensures.items) (none_sent written []) in
+    (refl, refl, refl, refl, subst (λ t. SentBut written written t c.new-gathered.result.items) (sym no_texts) begun)
 
-pub returns-in_err-out-clause-front : goal.returns-in_err-out-clause-front
-returns-in_err-out-clause-front g c =
-    let inv = c.loop-item.invariant in
-    stopped _ c.args.items.now c.loop-item.item-index _ _ inv.4
+pub returns-in_err-push_one-clause-front : goal.returns-in_err-push_one-clause-front
+returns-in_err-push_one-clause-front g c =
+    let of_item = outcome_of g.V.Verifier.accepts c.args.context.now.anchors c.args.context.now.limits c.args.upstream.now.replies in
+    let f = λ (item : Item). of_item item.seconds item.octets in
+    let whole = first_texts f c.args.items.now c.loop-item.item-index in
+    but_front _ _ _ _ _ _ whole.1 c.loop-item.invariant.4
 
-pub returns-in_err-send-clause-front : goal.returns-in_err-send-clause-front
-returns-in_err-send-clause-front g c =
+pub returns-in_err-send_block-clause-front : goal.returns-in_err-send_block-clause-front
+returns-in_err-send_block-clause-front g c =
     let inv = c.loop-item.invariant in
     let of_item = outcome_of g.V.Verifier.accepts c.args.context.now.anchors c.args.context.now.limits c.args.upstream.now.replies in
     let f = λ (item : Item). of_item item.seconds item.octets in
-    let text : c.in_ok-out.out.items ≡ outcome_text c.loop-item.index (f (get_or c.args.items.now c.loop-item.item-index c.item-item.result)) =
-    rw (sym inv.2, sym inv.3, sym c.item-item.is) c.in_ok-out.ensures.exact in
-    let front : SentFront (g.K.Sink.written c.loop-item.sink) (g.K.Sink.written c.send.new.sink) (outcome_text c.loop-item.index (f (get_or c.args.items.now c.loop-item.item-index c.item-item.result))) =
-    subst (SentFront (g.K.Sink.written c.loop-item.sink) (g.K.Sink.written c.send.new.sink)) (c.deref.ensures.value ∙ text) c.in_err-send.ensures.front in
-    stopped_within f c.args.items.now c.loop-item.item-index c.loop-item.index c.item-item.result _ _ _ c.loop-item-test.true inv.1 inv.4 front
+    let item = c.item-item.result in
+    let text = outcome_text c.loop-item.index (f (get_or c.args.items.now c.loop-item.item-index item)) in
+    let pushed : c.push_one.new.out.items ≡ c.loop-item.gathered.items ++ text = rw (sym inv.2, sym inv.3, sym c.item-item.is) c.in_ok-push_one.ensures.exact in
+    let line = sym (one_more f c.args.items.now c.loop-item.item-index c.loop-item.index item c.loop-item-test.true inv.1) in
+    let front : SentFront (g.K.Sink.written c.loop-item.sink) (g.K.Sink.written c.send_block.new.sink) (c.loop-item.gathered.items ++ text) =
+    subst (SentFront (g.K.Sink.written c.loop-item.sink) (g.K.Sink.written c.send_block.new.sink)) pushed c.in_err-send_block.ensures.front in
+    let whole = first_texts f c.args.items.now (c.loop-item.item-index + 1) in
+    but_front_more _ _ _ _ _ _ _ whole.1
+    (subst (λ t. SentBut (g.K.Sink.written c.args.sink.now) (g.K.Sink.written c.loop-item.sink) t (c.loop-item.gathered.items ++ text)) line
+    (more_gathered _ _ _ _ text inv.4))
+    front
 
 pub loop-item-preserved : goal.loop-item-preserved
 loop-item-preserved g c =
     let inv = c.loop-item.invariant in
     let of_item = outcome_of g.V.Verifier.accepts c.args.context.now.anchors c.args.context.now.limits c.args.upstream.now.replies in
     let f = λ (item : Item). of_item item.seconds item.octets in
-    let text : c.in_ok-out.out.items ≡ outcome_text c.loop-item.index (f (get_or c.args.items.now c.loop-item.item-index c.item-item.result)) =
-    rw (sym inv.2, sym inv.3, sym c.item-item.is) c.in_ok-out.ensures.exact in
-    let sent : Appends (g.K.Sink.written c.loop-item.sink) (g.K.Sink.written c.send.new.sink) (outcome_text c.loop-item.index (f (get_or c.args.items.now c.loop-item.item-index c.item-item.result))) =
-    subst (Appends (g.K.Sink.written c.loop-item.sink) (g.K.Sink.written c.send.new.sink)) (c.deref.ensures.value ∙ text) c.in_ok-send.ensures.sent in (
-      c.in_ok-send.ensures.counts ∙ inv.0,
+    let item = c.item-item.result in
+    let text = outcome_text c.loop-item.index (f (get_or c.args.items.now c.loop-item.item-index item)) in
+    let pushed : c.push_one.new.out.items ≡ c.loop-item.gathered.items ++ text = rw (sym inv.2, sym inv.3, sym c.item-item.is) c.in_ok-push_one.ensures.exact in
+    let line = sym (one_more f c.args.items.now c.loop-item.item-index c.loop-item.index item c.loop-item-test.true inv.1) in
+    let left = c.send_block.new.gathered.items in
+    let sent : SentBut (g.K.Sink.written c.loop-item.sink) (g.K.Sink.written c.send_block.new.sink) (c.loop-item.gathered.items ++ text) left =
+    subst (λ t. SentBut (g.K.Sink.written c.loop-item.sink) (g.K.Sink.written c.send_block.new.sink) t left) pushed c.in_ok-send_block.ensures.sent in (
+      c.in_ok-send_block.ensures.counts ∙ inv.0,
       omega (arith, inv.1),
-      c.in_ok-out.ensures.same_context ∙ inv.2,
-      c.in_ok-out.ensures.same_table ∙ inv.3,
-      subst (Appends (g.K.Sink.written c.args.sink.now) (g.K.Sink.written c.send.new.sink)) (sym (one_more f c.args.items.now c.loop-item.item-index c.loop-item.index c.item-item.result c.loop-item-test.true inv.1))
-          (Appends-trans _ _ _ _ _ inv.4 sent),
+      c.in_ok-push_one.ensures.same_context ∙ inv.2,
+      c.in_ok-push_one.ensures.same_table ∙ inv.3,
+      subst (λ t. SentBut (g.K.Sink.written c.args.sink.now) (g.K.Sink.written c.send_block.new.sink) t left) line
+          (more_went _ _ _ _ _ _ (more_gathered _ _ _ _ text inv.4) sent),
     )
 
+pub returns-in_err-send-clause-front : goal.returns-in_err-send-clause-front
+returns-in_err-send-clause-front g c =
+    let of_item = outcome_of g.V.Verifier.accepts c.args.context.now.anchors c.args.context.now.limits c.args.upstream.now.replies in
+    let f = λ (item : Item). of_item item.seconds item.octets in
+    let front : SentFront (g.K.Sink.written c.loop-item.sink) (g.K.Sink.written c.send.new.sink) c.loop-item.gathered.items =
+    subst (SentFront (g.K.Sink.written c.loop-item.sink) (g.K.Sink.written c.send.new.sink)) c.deref.ensures.value c.in_err-send.ensures.front in
+    let whole = first_texts f c.args.items.now c.loop-item.item-index in
+    but_front_more _ _ _ _ _ _ _ whole.1 c.loop-item.invariant.4 front
+
+pub returns-clause-sent : goal.returns-clause-sent
+returns-clause-sent g c =
+    let sent : Appends (g.K.Sink.written c.loop-item.sink) (g.K.Sink.written c.send.new.sink) c.loop-item.gathered.items =
+    subst (Appends (g.K.Sink.written c.loop-item.sink) (g.K.Sink.written c.send.new.sink)) c.deref.ensures.value c.in_ok-send.ensures.sent in
+    subst (λ items. Appends (g.K.Sink.written c.args.sink.now) (g.K.Sink.written c.send.new.sink) (answer_text g.V.Verifier.accepts c.args.context.now.anchors c.args.context.now.limits c.args.upstream.now.replies items)) (take_all c.loop-item.item-index c.args.items.now c.loop-item-test.false)
+    (rest_went _ _ _ _ _ c.loop-item.invariant.4 sent)
+
 pub returns-clause-front : goal.returns-clause-front
-returns-clause-front g c =
-    let inv = c.loop-item.invariant in
-    stopped _ c.args.items.now c.loop-item.item-index _ _ inv.4
+returns-clause-front g c = front_of _ _ _ _ [] (sym (append-nil _)) (returns-clause-sent g c)

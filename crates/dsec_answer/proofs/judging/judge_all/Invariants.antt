@@ -1,5 +1,5 @@
 use Rattle.std.proofs.Common.{◌≡◌, take}
-use Rattle.std.specs.Io.KnownBytes.{Appends}
+use Rattle.dsec_outside.specs.Sending.{SentBut}
 use Rattle.dsec_answer.specs.Outcomes.{answer_text}
 use Rattle.dsec_answer.proofs.judging.judge_all.Given as goal
 
@@ -9,4 +9,4 @@ invariant-loop-item g l =
     × (l.index ≡ l.item-index)
     × (l.context ≡ l.fn.context)
     × (l.upstream.replies ≡ l.fn.upstream.replies)
-    × Appends (g.K.Sink.written l.fn.sink) (g.K.Sink.written l.sink) (answer_text g.V.Verifier.accepts l.fn.context.anchors l.fn.context.limits l.fn.upstream.replies (take l.item-index l.items))
+    × SentBut (g.K.Sink.written l.fn.sink) (g.K.Sink.written l.sink) (answer_text g.V.Verifier.accepts l.fn.context.anchors l.fn.context.limits l.fn.upstream.replies (take l.item-index l.items)) l.gathered.items

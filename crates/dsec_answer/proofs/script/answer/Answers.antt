@@ -17,8 +17,8 @@ returns-in-Err-clause-front g c = answer c.in-Ok.script c.in-Ok.ensures (script_
 
 pub returns-in-Ok-refuse-clause-front : goal.returns-in-Ok-refuse-clause-front
 returns-in-Ok-refuse-clause-front g c =
-    refused c.in-Err-Refused.refused (refused_reads c.in-Err-Refused.field-0 c.in-Err-Refused.refused (script_of c.args.content.now) c.in-Err-Refused.field-0-is c.in-Err-Refused.ensures) c.refuse.ensures.front
+    refused c.in-Err-Refused.refused (refused_reads c.in-Err-Refused.field-0 c.in-Err-Refused.refused (script_of c.args.content.items) c.in-Err-Refused.field-0-is c.in-Err-Refused.ensures) c.refuse.ensures.front
 
 pub returns-in-Err-refuse-clause-front : goal.returns-in-Err-refuse-clause-front
 returns-in-Err-refuse-clause-front g c =
-    refused c.in-Err-Refused.refused (refused_reads c.in-Err-Refused.field-0 c.in-Err-Refused.refused (script_of c.args.content.now) c.in-Err-Refused.field-0-is c.in-Err-Refused.ensures) c.refuse.ensures.front
+    refused c.in-Err-Refused.refused (refused_reads c.in-Err-Refused.field-0 c.in-Err-Refused.refused (script_of c.args.content.items) c.in-Err-Refused.field-0-is c.in-Err-Refused.ensures) c.refuse.ensures.front
