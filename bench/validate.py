@@ -83,6 +83,44 @@ def many_groups(count):
     return message(b"\x03aaa" + ZONE, 1, answers)
 
 
+def long_name(octets):
+    """A name of so many octets in the zone."""
+    labels, room = b"", octets - len(ZONE)
+    while room > 0:
+        size = min(63, room - 1) if room - 1 - min(63, room - 1) != 1 else min(63, room - 1) - 1
+        labels, room = labels + bytes([size]) + b"a" * size, room - 1 - size
+    return labels + ZONE
+
+
+def label_count(name):
+    return sum(1 for _ in labels_of(name))
+
+
+def labels_of(name):
+    while name[0]:
+        yield name[1:1 + name[0]]
+        name = name[1 + name[0]:]
+
+
+def one_set(count):
+    """A good set of so many addresses at a name of 255 octets; owners are pointers of two octets."""
+    owner = long_name(255)
+    datas = [number(index, 4) for index in range(count)]
+    signed = signature(1, label_count(owner), [record(owner, 1, data) for data in datas])
+    return message(owner, 1, [record(b"\xc0\x0c", 1, data) for data in datas] + [record(b"\xc0\x0c", 46, signed)])
+
+
+def many_names(count):
+    """So many names of 255 octets with an address each, written as a label of two octets and a pointer."""
+    return message(long_name(252), 1, [record(bytes([2, 65 + index // 64, 65 + index % 64]) + b"\xc0\x0c", 1,
+                                              bytes([192, 0, 2, 1])) for index in range(count)])
+
+
+def many_types(count):
+    """So many records of one name of 255 octets, each of another type and without data."""
+    return message(long_name(255), 1, [record(b"\xc0\x0c", 1000 + index, b"") for index in range(count)])
+
+
 def write_script(path, octets, count, reply=None):
     with open(path, "w") as out:
         out.write("now 500\nanchor example. 3600 IN DNSKEY 257 3 13 AQI=\n")
@@ -134,19 +172,29 @@ def measure(program, script, yard, name, octets, count, before):
     return time, count
 
 
-def measure_hostile(program, script):
-    """One message of many good groups under a reply of many keys: its memory against the bound."""
-    octets, reply = many_groups(601), many_keys(3000)
+def hostile():
+    """Messages that are made to take memory, each with the reply of the key set and the state of its verdict."""
+    return (("601 good groups under 3001 keys", many_groups(601), many_keys(3000), b"Secure"),
+            ("a good set of 4000 at one long name", one_set(4000), keys(), b"Secure"),
+            ("3400 long names", many_names(3400), keys(), b"Bogus"),
+            ("5400 types at one long name", many_types(5400), keys(), b"Bogus"),
+            ("a small message under a reply of 3400 long names", small(), many_names(3400), b"Bogus"),
+            ("a set of 4000 under a reply of 3400 long names", one_set(4000), many_names(3400), b"Bogus"))
+
+
+def measure_hostile(program, script, name, octets, reply, state):
+    """One message under a reply: its memory against the bound. Gives whether it keeps to it."""
     write_script(script, octets, 1, reply)
-    if outcomes(program, script) != 1:
-        sys.exit("the hostile message is not secure")
+    with open(script, "rb") as stdin:
+        out = subprocess.run([program, "validate"], stdin=stdin, stdout=subprocess.PIPE, check=True).stdout
+    if not out.startswith(b"0 " + state + b" "):
+        sys.exit("hostile, %s: not %s" % (name, state.decode()))
     time, noise = cpu([program, "validate"], script)
     most = memory([program, "validate"], script)
     bound = 16 * (len(octets) + len(reply)) + 4000000
-    print("hostile, 601 good groups in %d octets under 3001 keys in %d: %.3f s CPU (noise %.2f), %d octets of memory, "
-          "bound %d" % (len(octets), len(reply), time, noise, most, bound))
-    if bound < most:
-        sys.exit("the hostile message takes more memory than the bound")
+    print("hostile, %s: %d and %d octets, %.3f s CPU (noise %.2f), %d octets of memory, bound %d%s" % (
+        name, len(octets), len(reply), time, noise, most, bound, "" if most <= bound else ", PASSED"))
+    return most <= bound
 
 
 def main(program):
@@ -163,7 +211,8 @@ def main(program):
             before = None
             for count in counts:
                 before = measure(program, script, yard, name, octets, count, before)
-        measure_hostile(program, script)
+        if not all([measure_hostile(program, script, *case) for case in hostile()]):
+            sys.exit("a hostile message takes more memory than the bound")
 
 
 main(sys.argv[1])
