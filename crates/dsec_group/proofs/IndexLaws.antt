@@ -1,20 +1,18 @@
 -- The index of a key among the keys of groups.
-use Rattle.std.proofs.Common.{◌≡◌, ℕ, zero, suc, ◌+◌, ◌<◌, Bool, true, false, cond, List, [], ◌∷◌, ◌++◌, map, length, get_or, Option, Some, None, refl, sym, ap, ◌∙◌, arith}
+use Rattle.std.proofs.Common.{◌≡◌, ℕ, zero, suc, ◌+◌, ◌<◌, Bool, true, false, cond, ◌||◌, List, [], ◌∷◌, ◌++◌, map, length, get_or, Option, Some, None, refl, sym, ap, ◌∙◌, arith}
 use Rattle.std.specs.Prelude.{slice_get, slice_set, nat_lt, unwrap_or}
 use Rattle.std.specs.Prelude.{Result, Ok, Err, OnOk, OnErr}
 use Rattle.std.specs.Option.{is_some, option_map, IfSome, IfNone}
-use Rattle.std.specs.BTreeMap.{BTreeMap, get}
-use Rattle.std.specs.List.{position, position_or_len}
-use Rattle.std.specs.Ordering.{is_eq}
+use Rattle.std.specs.List.{list_any, position, position_or_len}
 use Rattle.std.proofs.lemmas.Bool.{lt-ltb, ltb-true, ltb-false, le-ltb, true≢false, false≢true}
 use Rattle.std.proofs.lemmas.List.{length-map, map-append}
 use Rattle.std.proofs.lemmas.List.Quantifiers.{position-Some}
 use Rattle.dsec_spec.specs.Records.{Record}
 use Rattle.dsec_spec.specs.Groups.{Group}
 use Rattle.dsec_group.specs.Adding.{belongs_to, new_group, placed, put_in}
-use Rattle.dsec_group.specs.Keys.{IsIndexed, group_key, is_key, key_cmp, key_of}
+use Rattle.dsec_group.specs.Keys.{AreKeys, group_key, has_key, is_key, key_of, same_key}
 use Rattle.dsec_group.specs.declared.key.GroupKey.{GroupKey}
-use Rattle.dsec_group.proofs.KeyLaws.{key_decides, belongs_is_key, group_key_stays, new_group_key}
+use Rattle.dsec_group.proofs.KeyLaws.{belongs_is_key, group_key_stays}
 
 module _ {X : Type 0} (p : X → Bool) where
   one_later : (b : Bool) (n : ℕ) → cond b (Some (suc n)) None ≡ option_map suc (cond b (Some n) None)
@@ -36,39 +34,37 @@ module _ {X : Type 0} (p : X → Bool) where
     go true e = rw (e, lt-ltb 0 (suc (length xs)) (omega arith)) refl
     go false e = rw e (one_more (position_or_len p xs) (length xs))
 
-  -- a thing at the end that doesn't pass changes nothing
-  pub position_past : (xs : List X) (y : X) → p y ≡ false → position p (xs ++ y ∷ []) ≡ position p xs
-  position_past [] y h = position_step y [] ∙ ap (λ b. cond b (Some 0) None) h
-  position_past (x ∷ xs) y h =
-      position_step x (xs ++ y ∷ []) ∙ ap (λ o. cond (p x) (Some 0) (option_map suc o)) (position_past xs y h) ∙ sym (position_step x xs)
-
   later_none : (b : Bool) (o : Option ℕ) → cond b (Some 0) (option_map suc o) ≡ None → (b ≡ false) × (o ≡ None)
   later_none true o h = absurd (true≢false (ap is_some h))
   later_none false None h = (refl, refl)
   later_none false (Some n) h = absurd (true≢false (ap is_some h))
 
-  -- one that is the first to pass is there
-  pub position_last : (xs : List X) (y : X) → position p xs ≡ None → p y ≡ true → position p (xs ++ y ∷ []) ≡ Some (length xs)
-  position_last [] y none h = position_step y [] ∙ ap (λ b. cond b (Some 0) None) h
-  position_last (x ∷ xs) y none h =
-      let q = later_none (p x) (position p xs) (sym (position_step x xs) ∙ none) in
-      position_step x (xs ++ y ∷ []) ∙ ap (λ b. cond b (Some 0) (option_map suc (position p (xs ++ y ∷ [])))) q.0
-      ∙ ap (option_map suc) (position_last xs y q.1 h)
+  -- none passes where there is no index of one
+  pub none_any : (xs : List X) → position p xs ≡ None → list_any p xs ≡ false
+  none_any [] h = refl
+  none_any (x ∷ xs) h =
+      let q = later_none (p x) (position p xs) (sym (position_step x xs) ∙ h) in
+      rw (q.0, none_any xs q.1) refl
 
--- where the first of some keys is this one, after one more key
-pub indexed_more : (k x : GroupKey) (xs : List (Option GroupKey)) (was is : Option ℕ) (n : ℕ)
-    → is ≡ cond (is_eq (key_cmp x k)) (Some n) was → was ≡ position (is_key k) xs → n ≡ length xs → position (is_key x) xs ≡ None
-    → is ≡ position (is_key k) (xs ++ Some x ∷ [])
-indexed_more k x xs was is n said known long absent = go (is_eq (key_cmp x k)) refl said where
-  go : (b : Bool) → is_eq (key_cmp x k) ≡ b → is ≡ cond b (Some n) was → is ≡ position (is_key k) (xs ++ Some x ∷ [])
-  go true e said =
-      let one : x ≡ k = (key_decides x k).0 e in
-      said ∙ ap Some long
-      ∙ sym (position_last (is_key k) xs (Some x) (ap (λ y. position (is_key y) xs) (sym one) ∙ absent) ((key_decides k x).1 (sym one)))
-  go false e said = said ∙ known ∙ sym (position_past (is_key k) xs (Some x) (other (is_eq (key_cmp k x)) refl)) where
-    other : (b : Bool) → is_eq (key_cmp k x) ≡ b → is_eq (key_cmp k x) ≡ false
-    other true f = absurd (true≢false (sym ((key_decides x k).1 (sym ((key_decides k x).0 f))) ∙ e))
-    other false f = f
+-- the index of one among things made of others
+pub position_of : {X Y : Type 0} (p : Y → Bool) (f : X → Y) (xs : List X) → position (λ x. p (f x)) xs ≡ position p (map f xs)
+position_of p f [] = refl
+position_of p f (x ∷ xs) =
+    position_step (λ y. p (f y)) x xs ∙ ap (λ o. cond (p (f x)) (Some 0) (option_map suc o)) (position_of p f xs) ∙ sym (position_step p (f x) (map f xs))
+
+pub any_of : {X Y : Type 0} (p : Y → Bool) (f : X → Y) (xs : List X) → list_any (λ x. p (f x)) xs ≡ list_any p (map f xs)
+any_of p f [] = refl
+any_of p f (x ∷ xs) = ap (λ b. p (f x) || b) (any_of p f xs)
+
+-- a key's index among the keys of groups, and whether it is one of them
+pub key_position : (k : GroupKey) (keys : List GroupKey) (gs : List Group) → AreKeys keys gs → position (same_key k) keys ≡ position (is_key k) (map group_key gs)
+key_position k keys gs h = position_of (is_key k) (λ x. Some x) keys ∙ ap (position (is_key k)) h
+
+pub key_among_keys : (k : GroupKey) (keys : List GroupKey) (gs : List Group) → AreKeys keys gs → has_key k gs ≡ list_any (same_key k) keys
+key_among_keys k keys gs h = any_of (is_key k) group_key gs ∙ ap (list_any (is_key k)) (sym h) ∙ sym (any_of (is_key k) (λ x. Some x) keys)
+
+pub no_such_key : (k : GroupKey) (gs : List Group) → position (is_key k) (map group_key gs) ≡ None → has_key k gs ≡ false
+no_such_key k gs h = any_of (is_key k) group_key gs ∙ none_any (is_key k) (map group_key gs) h
 
 not_later : (o : Option ℕ) → option_map suc o ≡ Some 0 → ⊥
 not_later None h = false≢true (ap is_some h)
@@ -143,10 +139,10 @@ module _ (r : Record) where
       let p = (position-Some (is_key (key_of r)) (map group_key gs) i None h).0 in
       omega (arith, p, length-map gs group_key)
 
--- what the index that a map answers for a record's key is
-module _ (r : Record) (gs : List Group) (m : BTreeMap GroupKey ℕ) (indexed : IsIndexed m gs) (k : GroupKey) (keyed : k ≡ key_of r) (o : Option ℕ) (answer : o ≡ get key_cmp m k) where
+-- what the index of a record's key among those of groups is
+module _ (r : Record) (gs : List Group) (k : GroupKey) (keyed : k ≡ key_of r) (o : Option ℕ) (answer : o ≡ position (is_key k) (map group_key gs)) where
   is_where : o ≡ position (is_key (key_of r)) (map group_key gs)
-  is_where = answer ∙ indexed k ∙ ap (λ x. position (is_key x) (map group_key gs)) keyed
+  is_where = answer ∙ ap (λ x. position (is_key x) (map group_key gs)) keyed
 
   pub some_placed : IfSome o (λ i. (g : Group) → slice_get gs i ≡ Some g → placed r gs ≡ slice_set gs i (put_in r g))
   some_placed = go o is_where where
@@ -173,22 +169,22 @@ module _ (r : Record) (gs : List Group) (m : BTreeMap GroupKey ℕ) (indexed : I
     go None e = tt
     go (Some i) e = found_within r gs i (sym e)
 
+  pub none_there : IfNone o (has_key k gs ≡ false)
+  none_there = go o answer where
+    go : (o : Option ℕ) → o ≡ position (is_key k) (map group_key gs) → IfNone o (has_key k gs ≡ false)
+    go None e = no_such_key k gs (sym e)
+    go (Some i) e = tt
+
   pub none_placed : IfNone o (placed r gs ≡ gs ++ new_group r ∷ [])
   none_placed = go o is_where where
     go : (o : Option ℕ) → o ≡ position (is_key (key_of r)) (map group_key gs) → IfNone o (placed r gs ≡ gs ++ new_group r ∷ [])
     go None e = not_found r gs (sym e)
     go (Some i) e = tt
 
--- the keys of groups and a new one
-pub keys_more : (r : Record) (gs : List Group) → map group_key (gs ++ new_group r ∷ []) ≡ map group_key gs ++ Some (key_of r) ∷ []
-keys_more r gs = map-append group_key gs (new_group r ∷ []) ∙ ap (λ k. map group_key gs ++ k ∷ []) (new_group_key r)
-
--- the keys of groups and a new one, which came by steps
-pub keys_pushed : (r : Record) (gs with_room more : List Group) (g : Group) (key : GroupKey) → with_room ≡ gs → more ≡ with_room ++ g ∷ [] → g ≡ new_group r → key ≡ key_of r
-    → map group_key gs ++ Some key ∷ [] ≡ map group_key more
-keys_pushed r gs with_room more g key room pushed made keyed =
-    ap (λ k. map group_key gs ++ Some k ∷ []) keyed ∙ sym (keys_more r gs) ∙ ap (λ x. map group_key (gs ++ x ∷ [])) (sym made) ∙ ap (λ xs. map group_key (xs ++ g ∷ [])) (sym room)
-    ∙ ap (map group_key) (sym pushed)
+-- the keys of groups and one more
+pub keys_more : (k : GroupKey) (g : Group) (keys : List GroupKey) (gs : List Group) → AreKeys keys gs → group_key g ≡ Some k → AreKeys (keys ++ k ∷ []) (gs ++ g ∷ [])
+keys_more k g keys gs h e =
+    map-append (λ x. Some x) keys (k ∷ []) ∙ ap (λ ks. ks ++ Some k ∷ []) h ∙ ap (λ x. map group_key gs ++ x ∷ []) (sym e) ∙ sym (map-append group_key gs (g ∷ []))
 
 set_same : {A : Type 0} (xs : List A) (i : ℕ) (x : A) → slice_get xs i ≡ Some x → slice_set xs i x ≡ xs
 set_same [] i x h = absurd (false≢true (ap is_some h))

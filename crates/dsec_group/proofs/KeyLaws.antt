@@ -1,12 +1,7 @@
 -- Groups by their keys: a record's group is the one that has its key.
-use Rattle.std.proofs.Common.{◌≡◌, ◌==◌, Bool, true, false, ◌&&◌, cond, List, [], ◌∷◌, ◌++◌, Some, refl, sym, ap, ◌∙◌}
+use Rattle.std.proofs.Common.{◌≡◌, ◌==◌, Bool, true, false, ◌&&◌, cond, List, [], ◌∷◌, ◌++◌, Some, refl, sym, ap}
 use Rattle.std.specs.Bool.{Decides}
 use Rattle.std.specs.Str.{bytes_eq}
-use Rattle.std.specs.Ordering.{nat_cmp, is_eq, ordering_then}
-use Rattle.std.specs.Cmp.{unsigned_tied}
-use Rattle.std.specs.Cmp.Lexicographic.{slice_cmp}
-use Rattle.std.specs.declared.cmp.Ordering.{Ordering}
-use Rattle.std.specs.declared.cmp.Ordering.TheVariants.{Less, Equal, Greater}
 use Rattle.std.proofs.lemmas.Bool.{and_parts, eqb-true, eq-eqb, false≢true}
 use Rattle.std.proofs.lemmas.Bool.Decides.{same_from_decides}
 use Rattle.std.proofs.lemmas.Slice.Eq.{bytes_eq-Decides}
@@ -15,36 +10,23 @@ use Rattle.dsec_spec.specs.Records.{Record}
 use Rattle.dsec_spec.specs.Groups.{Group, is_signature, of_one_group, grouped_type}
 use Rattle.dsec_spec.proofs.CanonicalNames.{canonical_octets_equal, same_place_decides}
 use Rattle.dsec_group.specs.Adding.{belongs_to, canonical_of, group_from, group_with, has_data, led, new_group, put_in, with_record}
-use Rattle.dsec_group.specs.Keys.{group_key, is_key, key_among, key_cmp, key_of}
+use Rattle.dsec_group.specs.Keys.{group_key, is_key, key_among, key_of, same_key}
 use Rattle.dsec_group.specs.declared.key.GroupKey.{GroupKey}
-use Rattle.dsec_group.proofs.DataSets.{tied}
 use Rattle.dsec_group.proofs.MemberLaws.{one_group}
 
-tied_then : (a b : Ordering) → is_eq (ordering_then a b) ≡ (is_eq a && is_eq b)
-tied_then Less b = refl
-tied_then Equal b = refl
-tied_then Greater b = refl
-
--- keys are tied where their parts are equal
-key_test : (a b : GroupKey) → is_eq (key_cmp a b) ≡ (bytes_eq a.owner b.owner && (a.class == b.class) && (a.rtype == b.rtype))
-key_test a b =
-    tied_then (ordering_then (slice_cmp nat_cmp a.owner b.owner) (nat_cmp a.class b.class)) (nat_cmp a.rtype b.rtype)
-    ∙ ap (λ x. x && is_eq (nat_cmp a.rtype b.rtype)) (tied_then (slice_cmp nat_cmp a.owner b.owner) (nat_cmp a.class b.class))
-    ∙ rw (tied a.owner b.owner, unsigned_tied a.class b.class, unsigned_tied a.rtype b.rtype) refl
-
-pub key_decides : (a b : GroupKey) → Decides (is_eq (key_cmp a b)) (a ≡ b)
+pub key_decides : (a b : GroupKey) → Decides (same_key a b) (a ≡ b)
 key_decides a b = (there, back) where
-  there : is_eq (key_cmp a b) ≡ true → a ≡ b
+  there : same_key a b ≡ true → a ≡ b
   there h =
-      let p = and_parts (bytes_eq a.owner b.owner && (a.class == b.class)) (a.rtype == b.rtype) (sym (key_test a b) ∙ h) in
-      let q = and_parts (bytes_eq a.owner b.owner) (a.class == b.class) p.0 in
-      let owners : a.owner ≡ b.owner = (bytes_eq-Decides a.owner b.owner).0 q.0 in
-      let classes : a.class ≡ b.class = eqb-true _ _ q.1 in
-      let rtypes : a.rtype ≡ b.rtype = eqb-true _ _ p.1 in
+      let p = and_parts (bytes_eq a.owner b.owner) ((a.class == b.class) && (a.rtype == b.rtype)) h in
+      let q = and_parts (a.class == b.class) (a.rtype == b.rtype) p.1 in
+      let owners : a.owner ≡ b.owner = (bytes_eq-Decides a.owner b.owner).0 p.0 in
+      let classes : a.class ≡ b.class = eqb-true _ _ q.0 in
+      let rtypes : a.rtype ≡ b.rtype = eqb-true _ _ q.1 in
       λ i. record { owner = owners i; class = classes i; rtype = rtypes i }
 
-  back : a ≡ b → is_eq (key_cmp a b) ≡ true
-  back e = key_test a b ∙ rw ((bytes_eq-Decides a.owner b.owner).1 (ap (λ k. k.owner) e), eq-eqb a.class b.class (ap (λ k. k.class) e), eq-eqb a.rtype b.rtype (ap (λ k. k.rtype) e)) refl
+  back : a ≡ b → same_key a b ≡ true
+  back e = rw ((bytes_eq-Decides a.owner b.owner).1 (ap (λ k. k.owner) e), eq-eqb a.class b.class (ap (λ k. k.class) e), eq-eqb a.rtype b.rtype (ap (λ k. k.rtype) e)) refl
 
 -- two records are of one group where their keys are the same
 group_decides : (r f : Record) → Decides (of_one_group f r) (key_of r ≡ key_of f)
@@ -66,13 +48,13 @@ group_decides r f = (there, back) where
         eq-eqb (grouped_type f) (grouped_type r) (sym (ap (λ k. k.rtype) e)),
       ) refl
 
-same_key : (r f : Record) → is_eq (key_cmp (key_of r) (key_of f)) ≡ of_one_group f r
-same_key r f = same_from_decides _ _ (key_decides (key_of r) (key_of f)) (group_decides r f)
+one_key : (r f : Record) → same_key (key_of r) (key_of f) ≡ of_one_group f r
+one_key r f = same_from_decides _ _ (key_decides (key_of r) (key_of f)) (group_decides r f)
 
 -- a record belongs to the groups that have its key
 led_is_key : (r : Record) (ps ss : List Record) → is_key (key_of r) (key_among ps ss) ≡ led r ps ss
-led_is_key r (p ∷ ps) ss = same_key r p
-led_is_key r [] (s ∷ ss) = same_key r s
+led_is_key r (p ∷ ps) ss = one_key r p
+led_is_key r [] (s ∷ ss) = one_key r s
 led_is_key r [] [] = refl
 
 pub belongs_is_key : (r : Record) (g : Group) → is_key (key_of r) (group_key g) ≡ belongs_to r g

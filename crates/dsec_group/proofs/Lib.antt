@@ -9,3 +9,6 @@ pub mod TypeLaws
 pub mod TrialLaws
 pub mod CheckLaws
 pub mod CheckedLaws
+pub mod SpanLaws
+pub mod SetLaws
+pub mod RedirectLaws

@@ -1,5 +1,5 @@
 -- A record added to groups: what the groups of a section become by one more record (RFC 2181 5, RFC 4035 2.2).
-use Rattle.std.specs.Prelude.{◌≡◌, ℕ, ◌+◌, ◌<◌, ◌≤◌, length, All, List, [], ◌∷◌, ◌++◌, map, Bool, true, false, ◌||◌, Option, Some, None, if◌then◌else◌}
+use Rattle.std.specs.Prelude.{◌≡◌, ℕ, ◌+◌, ◌<◌, length, All, List, [], ◌∷◌, ◌++◌, map, Bool, true, false, ◌||◌, Option, Some, None, if◌then◌else◌}
 use Rattle.std.specs.List.{list_any}
 use Rattle.std.specs.Str.{bytes_eq}
 use Rattle.dsec_spec.specs.Names.{Labels}
@@ -20,10 +20,10 @@ has_data octets records = list_any (λ x. bytes_eq x octets) (map canonical_of r
 abbrev pub with_record : Record → List Record → List Record
 with_record r records = if has_data (canonical_of r) records then records else records ++ r ∷ []
 
--- the canonical data that are known are those of the records; before that there is one record at most, and none are known
+-- the canonical data that are known are those of the records, once they are
 abbrev pub AreKnown : Bool → (List ℕ → Bool) → List Record → Type 0
 AreKnown true known records = (octets : List ℕ) → known octets ≡ has_data octets records
-AreKnown false known records = (length records ≤ 1) × ((octets : List ℕ) → known octets ≡ false)
+AreKnown false known records = Unit {0}
 
 -- the first of a group's records, or of its signatures where it has no record
 abbrev pub leader_in : List Record → List Record → Option Record

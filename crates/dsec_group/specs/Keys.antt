@@ -1,20 +1,17 @@
 -- Groups by the key that their records share.
-use Rattle.std.specs.Prelude.{◌≡◌, ℕ, List, map, Bool, false, Option, Some, None}
+use Rattle.std.specs.Prelude.{◌≡◌, ℕ, ◌==◌, ◌&&◌, List, take, slice_get, map, Bool, false, Option, Some, None}
 use Rattle.std.specs.Option.{option_map}
-use Rattle.std.specs.List.{position}
-use Rattle.std.specs.BTreeMap.{BTreeMap, get}
-use Rattle.std.specs.Cmp.Lexicographic.{slice_cmp}
-use Rattle.std.specs.Ordering.{nat_cmp, on, then_cmp, is_eq}
-use Rattle.std.specs.declared.cmp.Ordering.{Ordering}
+use Rattle.std.specs.List.{list_any}
+use Rattle.std.specs.Str.{bytes_eq}
 use Rattle.dsec_spec.specs.Names.{canonical_octets}
 use Rattle.dsec_spec.specs.Records.{Record}
 use Rattle.dsec_spec.specs.Groups.{Group, grouped_type}
 use Rattle.dsec_group.specs.Adding.{leader_in}
 use Rattle.dsec_group.specs.declared.key.GroupKey.{GroupKey}
 
--- the order of keys: by owner, class and type
-abbrev pub key_cmp : GroupKey → GroupKey → Ordering
-key_cmp = then_cmp (then_cmp (on (λ k. k.owner) (slice_cmp nat_cmp)) (on (λ k. k.class) nat_cmp)) (on (λ k. k.rtype) nat_cmp)
+-- whether two keys are of one owner, class and type
+abbrev pub same_key : GroupKey → GroupKey → Bool
+same_key k x = bytes_eq k.owner x.owner && ((k.class == x.class) && (k.rtype == x.rtype))
 
 -- the key of a record's group
 abbrev pub key_of : Record → GroupKey
@@ -31,8 +28,20 @@ group_key g = key_among g.records g.signatures
 -- whether a group's key is this one
 abbrev pub is_key : GroupKey → Option GroupKey → Bool
 is_key k None = false
-is_key k (Some x) = is_eq (key_cmp k x)
+is_key k (Some x) = same_key k x
 
--- the map has the index of each key's first group
-abbrev pub IsIndexed : BTreeMap GroupKey ℕ → List Group → Type 0
-IsIndexed indexes groups = (k : GroupKey) → get key_cmp indexes k ≡ position (is_key k) (map group_key groups)
+-- the keys are those of the groups
+abbrev pub AreKeys : List GroupKey → List Group → Type 0
+AreKeys keys groups = map (λ k. Some k) keys ≡ map group_key groups
+
+-- whether one of the groups has this key
+abbrev pub has_key : GroupKey → List Group → Bool
+has_key k groups = list_any (λ g. is_key k (group_key g)) groups
+
+-- none of the groups has this one's key
+abbrev pub HasFreshKey : Group → List Group → Type 0
+HasFreshKey g groups = (k : GroupKey) → group_key g ≡ Some k → has_key k groups ≡ false
+
+-- no two groups have the same key
+abbrev pub AreDistinct : List Group → Type 0
+AreDistinct groups = (i : ℕ) (g : Group) → slice_get groups i ≡ Some g → HasFreshKey g (take i groups)

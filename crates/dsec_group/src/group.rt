@@ -1,8 +1,10 @@
 //! A group: the records of one owner, class and type, and their signatures (RFC 2181 5, RFC 4035 2.2).
 
-ghost use Rattle.std.specs.Prelude.{◌≡◌, All, IfOk, OnOk, OnErr, Some, length, true};
+ghost use Rattle.std.specs.Prelude.{◌≡◌, ◌++◌, ◌∷◌, [], All, IfOk, OnOk, OnErr, Some, length, true};
 ghost use Rattle.dsec_spec.specs.Numbers.{RRSIG};
 ghost use Rattle.dsec_spec.specs.Groups.{grouped_type as type_of};
+ghost use Rattle.std.specs.Slice.Iter.{iter_rest};
+ghost use Rattle.dsec_spec.specs.Redirection.{with_followers};
 ghost use Rattle.dsec_group.specs.Adding.{belongs_to, leader_in, new_group, put_in};
 
 use crate::members::Members;
@@ -11,6 +13,7 @@ use dsec_number::{Class, Rtype};
 use dsec_wire::Record;
 use std::alloc::Global;
 use std::marker::Model;
+use std::slice::Iter;
 
 /// The records of one owner, class and type with the signatures that cover them, in order of arrival and
 /// without duplicates. It has a record or a signature. A group of a DNAME has besides the CNAME records that follow from it and
@@ -138,6 +141,44 @@ impl Group {
         self.had_duplicate
     }
 
+    /// A copy of the group.
+    pub fn clone(&self) -> Result<Group, NoMemory>
+        ensures { IfOk result (λ copy. copy ≡ self.now) }
+    {
+        let records = self.records.copied()?;
+        let signatures = self.signatures.copied()?;
+        let extra = self.extra.clone()?;
+        Ok(Group {
+            records,
+            signatures,
+            extra,
+            had_duplicate: self.had_duplicate,
+        })
+    }
+
+    /// Takes on copies of another group's records as extra records, and its mark.
+    pub(crate) fn take_on(&mut self, other: &Group) -> Result<(), NoMemory>
+        ensures { OnOk result (self.new ≡ with_followers self.old (other.now ∷ [])) }
+    {
+        push_copies(&mut self.extra, other.rr_set())?;
+        self.had_duplicate |= other.found_duplicate();
+        Ok(())
+    }
+
+    /// The records that are no signatures one by one, in order of arrival.
+    pub fn rr_iter(&self) -> Iter<'_, Record>
+        ensures { iter_rest result ≡ self.now.records }
+    {
+        self.rr_set().iter()
+    }
+
+    /// The signatures one by one, in order of arrival.
+    pub fn sig_iter(&self) -> Iter<'_, Record>
+        ensures { iter_rest result ≡ self.now.signatures }
+    {
+        self.sig_set().iter()
+    }
+
     /// Adds a record of the group, and notes and drops a duplicate.
     pub(crate) fn put(&mut self, next: Record) -> Result<(), NoMemory>
         requires { belongs_to next self.old ≡ true }
@@ -166,4 +207,21 @@ pub(crate) fn grouped_type(next: &Record) -> Rtype
         [high, low, ..] => Rtype::from_int(u16::from_be_bytes([high, low])),
         _ => Rtype::from_int(0),
     }
+}
+
+/// Adds copies of records.
+fn push_copies(extra: &mut Vec<Record>, records: &[Record]) -> Result<(), NoMemory>
+    ensures { OnOk result (extra.new.items ≡ extra.old.items ++ records.now) }
+{
+    for one in records {
+        extra.push(copied(one)?)?;
+    }
+    Ok(())
+}
+
+/// A copy of a record.
+fn copied(one: &Record) -> Result<Record, NoMemory>
+    ensures { IfOk result (λ copy. copy ≡ one.now) }
+{
+    Ok(one.clone()?)
 }

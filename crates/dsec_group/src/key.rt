@@ -8,11 +8,10 @@ use dsec_name::{NoMemory, Octets};
 use dsec_number::{Class, Rtype};
 use dsec_wire::Record;
 use std::alloc::Global;
-use std::cmp::Ordering;
+use std::hash::{Hash, Hasher};
 
-/// The owner's canonical octets (RFC 4034 6.2), the class, and the type that a record is grouped by. The order
-/// has no meaning of its own.
-#[derive(PartialEq, Eq, Drop)]
+/// The owner's canonical octets (RFC 4034 6.2), the class, and the type that a record is grouped by.
+#[derive(Clone, PartialEq, Eq, Hash, Drop)]
 pub(crate) struct GroupKey {
     owner: Octets,
     class: Class,
@@ -31,42 +30,5 @@ impl GroupKey {
             class: next.class(),
             rtype: grouped_type(next),
         })
-    }
-}
-
-impl Ord for GroupKey {
-    ghost use Rattle.std.proofs.Common.{rules};
-    ghost use Rattle.std.specs.Cmp.Rules.{comparing};
-    ghost use Rattle.dsec_group.specs.Keys.{key_cmp};
-
-    ghost cmp = { key_cmp };
-
-    ghost total = { Prim.search (comparing, rules) };
-
-    ghost matches_partial_cmp = { Prim.search (comparing, rules) };
-
-    ghost matches_eq = { Prim.search (comparing, rules) };
-
-    fn cmp(&self, other: &Self) -> Ordering {
-        self.owner
-            .cmp(&other.owner)
-            .then(self.class.cmp(&other.class))
-            .then(self.rtype.cmp(&other.rtype))
-    }
-}
-
-impl PartialOrd for GroupKey {
-    ghost use Rattle.std.proofs.Common.{rules};
-    ghost use Rattle.std.specs.Cmp.{partial_order_from_own_ties};
-    ghost use Rattle.std.specs.Cmp.Rules.{comparing};
-    ghost use Rattle.std.specs.Ordering.{as_partial_cmp};
-    ghost use Rattle.dsec_group.specs.Keys.{key_cmp};
-
-    ghost partial_cmp = { as_partial_cmp key_cmp };
-
-    ghost laws = { partial_order_from_own_ties (Prim.search (comparing, rules)) (Prim.search (comparing, rules)) };
-
-    fn partial_cmp(&self, other: &Self) -> Option<Ordering> {
-        Some(self.cmp(other))
     }
 }

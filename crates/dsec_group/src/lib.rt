@@ -3,21 +3,28 @@
 
 mod cached;
 mod check;
+mod dname;
 mod group;
 mod key;
+mod lasting;
 mod limits;
 mod members;
 mod memo;
+mod seed;
 mod set;
+mod settle;
 mod state;
 mod steps;
 mod tries;
 
 pub use cached::set_of;
 pub use check::{KeyCheck, check_with_keys, check_with_tagged_keys};
+pub use dname::map_dname;
 pub use group::Group;
+pub use lasting::ttl_for_sig;
 pub use limits::Limits;
 pub use memo::{Memo, NoMemo};
+pub use seed::{FEW_RECORDS, Seed, SeededHasher};
 pub use set::{GroupSet, groups};
 pub use state::ValidationState;
 pub use steps::{Step, Steps};

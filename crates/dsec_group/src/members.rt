@@ -13,7 +13,7 @@ use std::collections::BTreeSet;
 use std::marker::Model;
 
 /// Records of one owner, class and type, in order of arrival; and the set of their canonical data, by which
-/// a record's duplicate is found. Where there is one record alone the set isn't made yet: most sets have no other.
+/// a record's duplicate is found. The set is made when a second record comes: most sets have no other.
 #[derive(Drop)]
 pub(crate) struct Members {
     records: Vec<Record>,
@@ -76,9 +76,22 @@ impl Members {
         }
         Ok(!is_new)
     }
+
+    /// A copy of the records, whose canonical data aren't known yet.
+    pub(crate) fn copied(&self) -> Result<Members, NoMemory>
+        ensures { IfOk result (λ copy. copy ≡ self.now) }
+    {
+        let alloc = *self.records.allocator();
+        let records = self.records.clone()?;
+        Ok(Members {
+            records,
+            canonical: BTreeSet::new(alloc),
+            is_indexed: false,
+        })
+    }
 }
 
-/// Adds the canonical data of the record that is there alone, where this wasn't done yet.
+/// Takes the canonical data of the records, where this wasn't done yet.
 fn index(
     alloc: Global,
     canonical: &mut BTreeSet<Octets>,
@@ -92,11 +105,21 @@ fn index(
     if is_indexed {
         return Ok(());
     }
-    if let Some(first) = records.first() {
-        let octets = canonical_octets(alloc, first)?;
-        canonical.insert(octets)?;
-    }
+    let known = indexed(alloc, records)?;
+    *canonical = known;
     Ok(())
+}
+
+/// The canonical data of records.
+fn indexed(alloc: Global, records: &[Record]) -> Result<BTreeSet<Octets>, NoMemory>
+    ensures { IfOk result (λ known. AreKnown true (contains (slice_cmp nat_cmp) known) records.now) }
+{
+    let mut known = BTreeSet::new(alloc);
+    for record in records {
+        let octets = canonical_octets(alloc, record)?;
+        known.insert(octets)?;
+    }
+    Ok(known)
 }
 
 /// A record's data as they are signed (RFC 4034 6.2).

@@ -1,58 +1,77 @@
 //! The groups of a section.
 
-ghost use Rattle.std.specs.Prelude.{◌≡◌, ◌<◌, ◌++◌, ◌∷◌, [], List, None, IfOk, IfSome, IfNone, OnOk, OnErr, Some, true, length, map, slice_get, slice_set};
-ghost use Rattle.std.specs.BTreeMap.{get};
+ghost use Rattle.std.specs.Prelude.{◌≡◌, ◌<◌, ◌++◌, ◌∷◌, [], List, IfOk, IfSome, IfNone, OnOk, OnErr, Some, false, true, length, map, slice_get, slice_set};
+ghost use Rattle.std.specs.Slice.Iter.{iter_rest};
 ghost use Rattle.dsec_spec.specs.Groups as grouping;
 ghost use Rattle.dsec_spec.specs.Groups.{groups_of};
 ghost use Rattle.dsec_spec.specs.Records as entries;
+ghost use Rattle.indexmap.specs.IndexMap.{keys, values};
 ghost use Rattle.dsec_group.specs.Adding.{belongs_to, new_group, placed as placed_in, put_in};
-ghost use Rattle.dsec_group.specs.Keys.{IsIndexed, group_key, key_cmp, key_of};
+ghost use Rattle.dsec_group.specs.Keys.{AreDistinct, AreKeys, HasFreshKey, group_key, has_key, key_of};
 
 use crate::group::Group;
 use crate::key::GroupKey;
+use crate::seed::Seed;
 use dsec_name::NoMemory;
 use dsec_wire::{Record, Records};
+use indexmap::IndexMap;
 use std::alloc::Global;
-use std::collections::BTreeMap;
 use std::marker::Model;
+use std::slice::Iter;
 
-/// The groups of a section, in order of first arrival; and each one's index by its key.
+/// The groups of a section, in order of first arrival, each found by what its records share.
 #[derive(Drop)]
 pub struct GroupSet {
-    groups: Vec<Group>,
-    indexes: BTreeMap<GroupKey, usize>,
+    groups: IndexMap<GroupKey, Group, Seed>,
 }
 
 impl Model for GroupSet {
     ghost use Rattle.std.specs.Prelude.{List};
     ghost use Rattle.dsec_spec.specs.Groups as grouping;
+    ghost use Rattle.indexmap.specs.IndexMap.{keys, values};
+    ghost use Rattle.dsec_group.specs.Keys.{AreKeys};
 
     ghost Value = { List grouping.Group };
 
-    ghost view = { λ it. it.groups.items };
+    ghost view = { λ it. values it.groups };
 
-    ghost use Rattle.dsec_group.specs.Keys.{IsIndexed};
-
-    ghost invariant = { λ it. IsIndexed it.indexes it.groups.items };
+    ghost invariant = { λ it. AreKeys (keys it.groups) (values it.groups) };
 }
 
 impl GroupSet {
-    /// The groups of an empty section.
+    /// The groups of an empty section, hashed by the seed that is the same for all.
     pub fn new(alloc: Global) -> GroupSet
         ensures empty { result ≡ [] }
         ensures groups { result ≡ groups_of [] }
     {
+        GroupSet::with_seed(alloc, Seed::fixed())
+    }
+
+    /// The groups of an empty section, hashed by a seed.
+    pub fn with_seed(alloc: Global, seed: Seed) -> GroupSet
+        ensures empty { result ≡ [] }
+        ensures groups { result ≡ groups_of [] }
+    {
         GroupSet {
-            groups: Vec::new(alloc),
-            indexes: BTreeMap::new(alloc),
+            groups: IndexMap::with_hasher(alloc, seed),
         }
     }
 
-    /// The groups, in order of first arrival.
+    /// The groups, in order of first arrival. No two have the same owner, class and type.
     pub fn as_slice(&self) -> &[Group]
-        ensures { result.now ≡ self.now }
+        ensures value { result.now ≡ self.now }
+        ensures distinct { AreDistinct self.now }
     {
-        &self.groups
+        let entries = self.groups.as_slice();
+        let groups = entries.values();
+        groups.as_slice()
+    }
+
+    /// The groups one by one, in order of first arrival.
+    pub fn iter(&self) -> Iter<'_, Group>
+        ensures { iter_rest result ≡ self.now }
+    {
+        self.as_slice().iter()
     }
 
     /// How many groups there are.
@@ -60,13 +79,6 @@ impl GroupSet {
         ensures { result ≡ length self.now }
     {
         self.groups.len()
-    }
-
-    /// The groups as a vector, in order of first arrival.
-    pub fn into_vec(self) -> Vec<Group>
-        ensures { result.items ≡ self }
-    {
-        self.groups
     }
 
     /// Adds the section's next record.
@@ -85,41 +97,83 @@ impl GroupSet {
     {
         let alloc = *self.groups.allocator();
         let key = GroupKey::of(alloc, &next)?;
-        if let Some(index) = index_of(&self.groups, &self.indexes, &key, &next) {
+        if let Some(index) = index_of(&self.groups, &key, &next) {
             return self.groups[index].put(next);
         }
         let group = Group::of(alloc, next)?;
-        self.groups.reserve(1)?;
-        self.indexes.insert(key, self.groups.len())?;
-        self.groups.push_reserved(group);
+        self.insert(key, group)
+    }
+
+    /// Adds a group at the end, by its key, which no group has yet.
+    fn insert(&mut self, key: GroupKey, group: Group) -> Result<(), NoMemory>
+        requires its { group_key group ≡ Some key }
+        requires fresh { has_key key self.old ≡ false }
+        ensures ok { OnOk result (self.new ≡ self.old ++ group ∷ []) }
+        ensures err { OnErr result (self.new ≡ self.old) }
+    {
+        self.groups.insert(key, group)?;
         Ok(())
+    }
+
+    /// Adds a group at the end, whose key no group has yet.
+    pub(crate) fn push(&mut self, group: Group) -> Result<(), NoMemory>
+        requires fresh { HasFreshKey group self.old }
+        ensures ok { OnOk result (self.new ≡ self.old ++ group ∷ []) }
+        ensures err { OnErr result (self.new ≡ self.old) }
+    {
+        let alloc = self.allocator();
+        let key = GroupKey::of(alloc, group.leader())?;
+        self.insert(key, group)
+    }
+
+    /// The groups of no section, where these take their memory, and hashed by the same seed.
+    pub(crate) fn blank(&self) -> GroupSet
+        ensures { result ≡ [] }
+    {
+        GroupSet::with_seed(self.allocator(), *self.groups.hasher())
+    }
+
+    /// Where the groups take their memory.
+    pub(crate) fn allocator(&self) -> Global {
+        *self.groups.allocator()
+    }
+
+    /// A copy of the groups.
+    pub fn clone(&self) -> Result<GroupSet, NoMemory>
+        ensures { IfOk result (λ copy. copy ≡ self.now) }
+    {
+        let groups = self.as_slice();
+        let mut copy = self.blank();
+        for group in groups {
+            copy.push(group.clone()?)?;
+        }
+        Ok(copy)
     }
 }
 
 /// The index of the group that a record belongs to.
 fn index_of(
-    groups: &[Group],
-    indexes: &BTreeMap<GroupKey, usize>,
+    groups: &IndexMap<GroupKey, Group, Seed>,
     key: &GroupKey,
     next: &Record,
 ) -> Option<usize>
-    requires indexed { IsIndexed indexes.now groups.now }
+    requires kept { AreKeys (keys groups.now) (values groups.now) }
     requires keyed { key.now ≡ key_of next.now }
-    ensures within { IfSome result (λ index. index < length groups.now) }
-    ensures belongs { IfSome result (λ index. (group : grouping.Group) → slice_get groups.now index ≡ Some group → belongs_to next.now group ≡ true) }
-    ensures found { IfSome result (λ index. (group : grouping.Group) → slice_get groups.now index ≡ Some group → placed_in next.now groups.now ≡ slice_set groups.now index (put_in next.now group)) }
-    ensures stays { IfSome result (λ index. (group : grouping.Group) → slice_get groups.now index ≡ Some group → map group_key (slice_set groups.now index (put_in next.now group)) ≡ map group_key groups.now) }
-    ensures none { IfNone result (placed_in next.now groups.now ≡ groups.now ++ new_group next.now ∷ []) }
-    ensures absent { IfNone result (get key_cmp indexes.now key.now ≡ None) }
+    ensures within { IfSome result (λ index. index < length (values groups.now)) }
+    ensures belongs { IfSome result (λ index. (group : grouping.Group) → slice_get (values groups.now) index ≡ Some group → belongs_to next.now group ≡ true) }
+    ensures found { IfSome result (λ index. (group : grouping.Group) → slice_get (values groups.now) index ≡ Some group → placed_in next.now (values groups.now) ≡ slice_set (values groups.now) index (put_in next.now group)) }
+    ensures stays { IfSome result (λ index. (group : grouping.Group) → slice_get (values groups.now) index ≡ Some group → map group_key (slice_set (values groups.now) index (put_in next.now group)) ≡ map group_key (values groups.now)) }
+    ensures none { IfNone result (placed_in next.now (values groups.now) ≡ values groups.now ++ new_group next.now ∷ []) }
+    ensures absent { IfNone result (has_key key.now (values groups.now) ≡ false) }
 {
-    indexes.get(key).copied()
+    groups.get_index_of(key)
 }
 
-/// The groups of a section's records.
-pub fn groups(alloc: Global, section: Records) -> Result<GroupSet, NoMemory>
+/// The groups of a section's records, hashed by a seed.
+pub fn groups(alloc: Global, section: Records, seed: Seed) -> Result<GroupSet, NoMemory>
     ensures { IfOk result (λ groups. groups ≡ groups_of section) }
 {
-    let mut groups = GroupSet::new(alloc);
+    let mut groups = GroupSet::with_seed(alloc, seed);
     for next in section.into_vec() {
         groups.add(next)?;
     }

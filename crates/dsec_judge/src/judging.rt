@@ -25,7 +25,7 @@ use crate::verdict::Verdict;
 use dsec_anchors::TrustAnchors;
 use dsec_cause::Cause;
 use dsec_crypto::Verifier;
-use dsec_group::{Group, Limits, groups};
+use dsec_group::{Group, Limits, Seed, groups};
 use dsec_name::NoMemory;
 use dsec_number::{Rcode, Rtype, Timestamp};
 use dsec_outside::Upstream;
@@ -91,11 +91,12 @@ fn on_sections<V: Verifier, U: Upstream>(
         answer,
         authority,
     } = sections;
-    let answers = groups(alloc, answer)?;
+    let seed = Seed::of_message(message);
+    let answers = groups(alloc, answer, seed)?;
     if is_any_bare_alias(answers.as_slice()) {
         return Ok(bogus(Cause::NotBuilt, 0));
     }
-    let authorities = groups(alloc, authority)?;
+    let authorities = groups(alloc, authority, seed)?;
     let wanted = wanted_in(question.as_slice(), answers.as_slice());
     let both = find_both::<V, U>(
         alloc,

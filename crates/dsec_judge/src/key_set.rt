@@ -17,7 +17,7 @@ use crate::held_keys::HeldKeys;
 use crate::target::is_same;
 use dsec_cause::Cause;
 use dsec_crypto::Verifier;
-use dsec_group::{Group, Steps, groups, set_of};
+use dsec_group::{Group, Seed, Steps, groups, set_of};
 use dsec_link::{Link, LinkKind};
 use dsec_name::{Name, NoMemory, Octets};
 use dsec_number::{Class, Rtype, Timestamp};
@@ -51,7 +51,10 @@ pub(crate) fn key_set_in<V: Verifier, L: Ledger>(
         return Ok(KeySet::Unheld(Cause::NoDnskeyForAnchor));
     };
     match message.sections(alloc) {
-        Ok(sections) => key_set_among::<V, L>(alloc, anchors, room, t, top, sections.answer, steps),
+        Ok(sections) => {
+            let seed = Seed::of_message(&message);
+            key_set_among::<V, L>(alloc, anchors, room, t, top, sections.answer, seed, steps)
+        }
         Err(MessageError::ParseError) => Ok(KeySet::Unheld(Cause::NoDnskeyForAnchor)),
         Err(MessageError::NoMemory) => Err(NoMemory),
     }
@@ -65,12 +68,13 @@ fn key_set_among<V: Verifier, L: Ledger>(
     t: Timestamp,
     top: &Name,
     answer: Records,
+    seed: Seed,
     steps: &mut Steps<L>,
 ) -> Result<KeySet, NoMemory>
     requires { 0 < room }
     ensures { IfOk result (λ keys. keys ≡ key_set_of (bare V.accepts anchors.now room t) (find (key_set_at_place (place top.now)) (groups_of answer))) }
 {
-    let groups = groups(alloc, answer)?;
+    let groups = groups(alloc, answer, seed)?;
     match group_at(groups.as_slice(), top) {
         Some(group) => admitted::<V, L>(alloc, anchors, room, t, group, steps),
         None => Ok(KeySet::Unheld(Cause::NoDnskeyForAnchor)),

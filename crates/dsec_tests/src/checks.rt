@@ -6,7 +6,7 @@ use crate::lines::{ADDRESS, GOOD, KEY, NO_ZONE_KEY, name, records};
 use dsec_cause::Cause;
 use dsec_crypto::{StandIn, Verifier};
 use dsec_group::{
-    Group, KeyCheck, Limits, Memo, NoMemo, Steps, ValidationState, check_with_keys, groups,
+    Group, KeyCheck, Limits, Memo, NoMemo, Seed, Steps, ValidationState, check_with_keys, groups,
 };
 use dsec_name::NoMemory;
 use dsec_number::Timestamp;
@@ -65,7 +65,7 @@ pub(crate) fn check<V: Verifier>(
 ) -> Option<KeyCheck> {
     let section = records(alloc, section)?;
     let keys = records(alloc, keys)?;
-    let Ok(found) = groups(alloc, Records::new(section)) else {
+    let Ok(found) = groups(alloc, Records::new(section), Seed::fixed()) else {
         return None;
     };
     let group = found.as_slice().first()?;

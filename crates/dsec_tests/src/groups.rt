@@ -1,7 +1,7 @@
 //! Sections in groups: signatures, letters, duplicates and order.
 
 use crate::lines::records;
-use dsec_group::{Group, groups};
+use dsec_group::{Group, Seed, groups};
 use dsec_name::NoMemory;
 use dsec_number::{Class, Rtype};
 use dsec_wire::Records;
@@ -83,7 +83,7 @@ fn row_holds(alloc: Global, row: &Row) -> bool {
     let Some(section) = records(alloc, row.1) else {
         return false;
     };
-    match groups(alloc, Records::new(section)) {
+    match groups(alloc, Records::new(section), Seed::fixed()) {
         Ok(found) => {
             let found = found.as_slice();
             found.len() == row.2.len()

@@ -14,11 +14,15 @@ mod judged;
 #[cfg(test)]
 mod keys;
 #[cfg(test)]
+mod lasting;
+#[cfg(test)]
 mod lines;
 #[cfg(test)]
 mod links;
 #[cfg(test)]
 mod memos;
+#[cfg(test)]
+mod redirection;
 #[cfg(test)]
 mod runs;
 #[cfg(test)]

@@ -7,7 +7,7 @@ use crate::checks::{Want, check, says};
 use crate::lines::{ADDRESS, GOOD, KEY, NO_ZONE_KEY, name, record, records};
 use dsec_cause::Cause;
 use dsec_crypto::{StandIn, Verifier};
-use dsec_group::{Group, Memo, groups};
+use dsec_group::{Group, Memo, Seed, groups};
 use dsec_name::{Name, NoMemory};
 use dsec_number::Timestamp;
 use dsec_wire::{Dnskey, Record, Records};
@@ -234,7 +234,7 @@ fn row_holds(alloc: Global, row: &Row) -> bool {
     let Some(section) = records(alloc, &[row.0]) else {
         return false;
     };
-    let Ok(found) = groups(alloc, Records::new(section)) else {
+    let Ok(found) = groups(alloc, Records::new(section), Seed::fixed()) else {
         return false;
     };
     match found.as_slice().first() {
