@@ -33,7 +33,7 @@ def place(label, seed):
 
 
 def labels(rng, seed=None):
-    """As many labels as there are sets; with a seed those whose keys have the same nine last and eight first bits of the hash."""
+    """As many labels as there are sets; with a seed those whose keys have the same nine last bits of the hash, by which a table of so many begins to look."""
     found = set()
     while len(found) < SETS:
         label = bytes(rng.choice(LETTERS) for _ in range(8))
