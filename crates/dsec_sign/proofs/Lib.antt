@@ -1,3 +1,5 @@
 pub mod SetRuns
 pub mod ZoneSets
 pub mod SignerSteps
+pub mod UnionLaws
+pub mod ZoneLaws

@@ -1,15 +1,18 @@
 -- Signatures, one set and one key after the other.
 use Rattle.std.proofs.Common.{◌≡◌, ℕ, zero, suc, ◌+◌, ◌<◌, ◌≤◌, List, [], ◌∷◌, ◌++◌, length, take, drop, map, get_or, slice_set, refl, sym, ap, ◌∙◌, subst, inl, inr, ◌⊎◌, arith, append_assoc, length-append}
 use Rattle.std.proofs.lemmas.Bool.{cases_lt}
+use Rattle.std.specs.Prelude.{All}
 use Rattle.std.specs.List.{AllZip}
+use Rattle.dsec_spec.specs.Numbers.{RRSIG}
 use Rattle.std.proofs.lemmas.List.{append-nil, map-append, length-map, get_or-map, get_or_default}
+use Rattle.std.proofs.lemmas.List.Elements.{All-cons}
 use Rattle.std.proofs.lemmas.Grind.{flat_map-append}
 use Rattle.std.proofs.Math.Seq.{take-suc}
 use Rattle.dsec_spec.specs.KeyTag.{key_tag}
 use Rattle.dsec_spec.specs.Outside.{Rose}
 use Rattle.dsec_spec.specs.Records.{Key, Record}
 use Rattle.dsec_spec.specs.Trying.{pairs}
-use Rattle.dsec_spec.specs.Signatures.{Signs, Signer, Period, IsSignature}
+use Rattle.dsec_spec.specs.Signatures.{Signs, Signer, Period, IsSignature, AreSignatures}
 use Rattle.dsec_rrsig.specs.Signers.{faults_of, signer_of}
 use Rattle.dsec_rrsig.specs.declared.signing_key.SigningKey.{SigningKey}
 use Rattle.dsec_spec.specs.CanonicalRecords.{IsCanonical}
@@ -172,6 +175,29 @@ module _ (signs : Signs) (period : Period) where
     is = is ∙ ap (λ (xs : List Record). records ++ xs) adds.is;
     are = adds.are;
   }
+
+-- ---- signatures are RRSIG records
+
+signature_type : (signs : Signs) (period : Period) (pair : List Record × Signer) (r : Record) → IsSignature signs period pair r → r.rtype ≡ RRSIG
+signature_type signs period ([], by) r h = absurd h
+signature_type signs period (first ∷ others, by) r h = ap (λ (x : Record). x.rtype) h.is
+
+signature_types : (signs : Signs) (period : Period) (all : List (List Record × Signer)) (signatures : List Record) → AllZip (IsSignature signs period) all signatures → All (λ r. r.rtype ≡ RRSIG) signatures
+signature_types signs period [] [] h = λ k d lt. absurd (omega (arith, lt))
+signature_types signs period [] (r ∷ rs) h = absurd h
+signature_types signs period (p ∷ ps) [] h = absurd h
+signature_types signs period (p ∷ ps) (r ∷ rs) h = All-cons (λ (x : Record). x.rtype ≡ RRSIG) r rs (signature_type signs period p r h.0) (signature_types signs period ps rs h.1)
+
+pub signatures_only : (signs : Signs) (period : Period) (sets : List (List Record)) (signers : List Signer) (signatures : List Record) → AreSignatures signs period sets signers signatures → All (λ r. r.rtype ≡ RRSIG) signatures
+signatures_only signs period sets signers signatures are = signature_types signs period (pairs sets signers) signatures are
+
+pub take_front : (xs ys : List Record) → take (length xs) (xs ++ ys) ≡ xs
+take_front [] ys = refl
+take_front (x ∷ xs) ys = ap (λ (zs : List Record). x ∷ zs) (take_front xs ys)
+
+pub drop_front : (xs ys : List Record) → drop (length xs) (xs ++ ys) ≡ ys
+drop_front [] ys = refl
+drop_front (x ∷ xs) ys = drop_front xs ys
 
 -- ---- sets among the first of the records
 

@@ -1,13 +1,23 @@
 //! Signatures of sets and of zones (RFC 4035 2.2).
 #![tactic(auto)]
 
+mod added;
 mod allowed;
+mod chain;
+mod config;
+mod in_place;
+mod into;
 mod signing;
+mod sorted_extend;
+mod zone;
 mod zone_records;
 mod zone_sets;
 
+pub use config::SigningConfig;
 pub use dsec_rrsig::{
     GenerateRrsigConfig, SignError, SignRaw, SigningError, SigningKey, StandInKey, sign_rrset,
     sign_sorted_rrset_in,
 };
+pub use sorted_extend::SortedExtend;
+pub use zone::{SignableZone, SignableZoneInPlace};
 pub use zone_records::sign_sorted_zone_records;

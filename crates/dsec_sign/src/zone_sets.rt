@@ -132,3 +132,12 @@ fn is_same(a: &Name, b: &Name) -> bool
 {
     *a == *b
 }
+
+/// Goes over records in canonical order, of one class, owner by owner.
+pub(crate) fn owners_of<'a>(records: &'a [Record]) -> RecordsIter<'a>
+    requires canonical { IsCanonical records.now }
+    requires class { AreOfOneClass records.now }
+    ensures { left_of result ≡ records.now }
+{
+    RecordsIter::new_from_owned(records)
+}
