@@ -1,14 +1,22 @@
 -- What a run of the command is, by what was read.
-use Rattle.std.proofs.Common.{◌≡◌, ℕ, ◌++◌, ◌+◌, ◌<◌, ◌≤◌, List, length, Option, Some, None, Result, Ok, Err, refl, sym, ap, ◌∙◌, subst, length-append, arith}
-use Rattle.std.specs.Prelude.{IfSome}
+use Rattle.std.proofs.Common.{◌≡◌, ℕ, ◌++◌, ◌+◌, ◌<◌, ◌≤◌, List, length, Option, Some, None, Result, Ok, Err, refl, sym, ap, ◌∙◌, subst, length-append, arith, inl, inr}
+use Rattle.std.specs.Prelude.{◌⊎◌, IfSome}
 use Rattle.std.specs.Io.KnownBytes.{Consumes, IsAtEnd, Keeps}
 use Rattle.std.proofs.KnownBytes.{Keeps-refl}
 use Rattle.dsec_spec.specs.Records.{Record}
 use Rattle.dsec_outside.specs.Limit.{limit, line_past}
 use Rattle.dsec_outside.proofs.CallerLemmas.{holds-taken, line_past-append}
-use Rattle.dsec_signing.specs.Command.{HasRead, HasReadAll, RefusedAt, SentFor, SignedFrom, UnsignedFrom, nothing, refused, signed, unsigned}
+use Rattle.dsec_signing.specs.Command.{HasRead, HasReadAll, IsSignRun, RefusedAt, SentFor, SignedFrom, UnsignedFrom, nothing, refused, signed, unsigned}
 use Rattle.dsec_signing.specs.Zone.{SaysSource, at_line, long, short}
+use Rattle.dsec_signing.specs.Making.{AnswersSigning}
+use Rattle.dsec_signing.specs.Reading.{AnswersSource}
+use Rattle.dsec_signing.specs.Signed.{IsUnsigned}
+use Rattle.dsec_rrsig.specs.declared.error.SigningError.{SigningError}
 use Rattle.dsec_signing.specs.declared.error.Refused.{Refused}
+use Rattle.dsec_signing.specs.declared.error.SourceError.{SourceError}
+use Rattle.dsec_signing.specs.declared.error.SourceError.TheVariants as source_errors
+use Rattle.dsec_signing.specs.declared.error.Unsigned.{Unsigned}
+use Rattle.dsec_signing.specs.declared.error.Unsigned.TheVariants as unsigned_errors
 use Rattle.dsec_signing.specs.declared.error.Word.TheVariants as words
 use Rattle.dsec_signing.specs.declared.words.SignWords.{SignWords}
 
@@ -89,3 +97,62 @@ made_of said left rest before after content taken whole h =
 pub made_nothing : (said : SignWords) (left sent : Option (List ℕ)) → IfSome left (λ (all : List ℕ). SentFor said all sent sent)
 made_nothing said None sent = tt
 made_nothing said (Some all) sent = nothing (Keeps-refl sent)
+
+more_statuses : (status : ℕ) → (status ≡ 0) ⊎ ((status ≡ 3) ⊎ ((status ≡ 5) ⊎ ((status ≡ 6) ⊎ (status ≡ 7))))
+    → (status ≡ 0) ⊎ ((status ≡ 3) ⊎ ((status ≡ 4) ⊎ ((status ≡ 5) ⊎ ((status ≡ 6) ⊎ (status ≡ 7)))))
+more_statuses status (inl e) = inl e
+more_statuses status (inr (inl e)) = inr (inl e)
+more_statuses status (inr (inr (inl e))) = inr (inr (inr (inl e)))
+more_statuses status (inr (inr (inr (inl e)))) = inr (inr (inr (inr (inl e))))
+more_statuses status (inr (inr (inr (inr e)))) = inr (inr (inr (inr (inr e))))
+
+-- what was done with the content is what the run did
+pub run_of : (said : SignWords) (status : ℕ) (left rest before after : Option (List ℕ)) (content : List ℕ) → Consumes left rest content → (length content ≤ limit → IsAtEnd rest)
+    → (status ≡ 0 → SignedFrom said content before after) → (status ≡ 3 → RefusedAt content before after) → (status ≡ 7 → UnsignedFrom said content before after) → SentFor said content before after
+    → (status ≡ 0) ⊎ ((status ≡ 3) ⊎ ((status ≡ 5) ⊎ ((status ≡ 6) ⊎ (status ≡ 7)))) → IsSignRun said status left rest before after
+run_of said status left rest before after content taken whole done refuses not_signed sent statuses = record {
+  done = λ s. done_of said left rest before after content taken whole (done s);
+  told = λ s. told_signed said left rest before after content taken whole (done s);
+  refused = λ s. refused_of left rest before after content taken (refuses s);
+  first = λ s. told_refusal left rest before after content taken whole (refuses s);
+  unsigned = λ s. unsigned_of said left rest before after content taken whole (not_signed s);
+  why = λ s. told_unsigned said left rest before after content taken whole (not_signed s);
+  front = inr (sent_of said left rest before after content taken sent);
+  made = made_of said left rest before after content taken whole sent;
+  statuses = more_statuses status statuses;
+}
+
+-- a refusal that was told is the text's
+pub refused_reads : (X : Type 0) (view : X → List Record) (content : List ℕ) (error : SourceError) (r : Refused) → error ≡ source_errors.Refused r → AnswersSource view content (Err error) → SaysSource content (Err r)
+refused_reads X view content error r is answers = subst (λ (e : SourceError). AnswersSource view content (Err e)) is answers
+
+-- and one of signing is the zone's
+pub unsigned_why : (X : Type 0) (view : X → List Record) (said : SignWords) (source : List Record) (error : Unsigned) (e : SigningError) → error ≡ unsigned_errors.Refused e
+    → AnswersSigning view said source (Err error) → IsUnsigned said source e
+unsigned_why X view said source error e is answers = subst (λ (x : Unsigned). AnswersSigning view said source (Err x)) is answers
+
+-- a run that wanted memory before anything was read
+pub idle_run : (said : SignWords) (left sent : Option (List ℕ)) → IsSignRun said 6 left left sent sent
+idle_run said left sent = record {
+  done = λ s. absurd (omega (arith, s));
+  told = λ s. absurd (omega (arith, s));
+  refused = λ s. absurd (omega (arith, s));
+  first = λ s. absurd (omega (arith, s));
+  unsigned = λ s. absurd (omega (arith, s));
+  why = λ s. absurd (omega (arith, s));
+  front = inl (Keeps-refl sent);
+  made = made_nothing said left sent;
+  statuses = inr (inr (inr (inr (inl refl))));
+}
+
+-- 2 is the status of no run
+pub never_two : (said : SignWords) (status : ℕ) (left rest before after : Option (List ℕ)) → IsSignRun said status left rest before after → status ≡ 2 → ⊥
+never_two said status left rest before after run e = by run.statuses
+  where
+    by : (status ≡ 0) ⊎ ((status ≡ 3) ⊎ ((status ≡ 4) ⊎ ((status ≡ 5) ⊎ ((status ≡ 6) ⊎ (status ≡ 7))))) → ⊥
+    by (inl f) = omega (arith, e, f)
+    by (inr (inl f)) = omega (arith, e, f)
+    by (inr (inr (inl f))) = omega (arith, e, f)
+    by (inr (inr (inr (inl f)))) = omega (arith, e, f)
+    by (inr (inr (inr (inr (inl f))))) = omega (arith, e, f)
+    by (inr (inr (inr (inr (inr f))))) = omega (arith, e, f)

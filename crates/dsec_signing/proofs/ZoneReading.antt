@@ -1,6 +1,11 @@
 -- Zone text that is to be signed, record by record.
-use Rattle.std.proofs.Common.{◌≡◌, ℕ, suc, ◌+◌, ◌-◌, ◌<◌, ◌≤◌, List, [], ◌∷◌, ◌++◌, length, Option, Some, None, Result, Ok, Err, refl, sym, ap, ◌∙◌, subst, append-nil, append_assoc, length-append, arith, inl, inr}
-use Rattle.std.specs.Prelude.{◌⊎◌}
+use Rattle.std.proofs.Common.{◌≡◌, ℕ, suc, ◌+◌, ◌-◌, ◌<◌, ◌≤◌, List, [], ◌∷◌, ◌++◌, length, Option, Some, None, Result, Ok, Err, refl, sym, ap, ◌∙◌, subst, append-nil, append_assoc, length-append, eqb-true, arith, inl, inr}
+use Rattle.std.specs.Prelude.{◌⊎◌, ◌==◌, ◌&&◌, not, All, IfOk, Bool, true, false, cond}
+use Rattle.std.proofs.lemmas.Option.{same_Some}
+use Rattle.std.proofs.lemmas.List.Elements.{All-cons, All-nil}
+use Rattle.dsec_spec.specs.Numbers.{IN}
+use Rattle.dsec_spec.proofs.Choosing.{both}
+use Rattle.dsec_zonefile.specs.declared.entry.Entry.TheVariants as entries
 use Rattle.dsec_spec.specs.Records.{Record}
 use Rattle.dsec_outside.specs.Limit.{limit, line_past}
 use Rattle.dsec_zonefile.specs.Entries.{Answers, IsNext, Reader, ended, found, refused}
@@ -13,7 +18,7 @@ use Rattle.dsec_signing.specs.declared.error.SourceError.{SourceError}
 use Rattle.dsec_signing.specs.declared.error.SourceError.TheVariants as errors
 use Rattle.dsec_signing.specs.declared.error.Word.TheVariants as words
 use Rattle.dsec_signing.specs.Reading.{Adds, AnswersSource, AnswersZone, Refuses, error_of, refused_at}
-use Rattle.dsec_signing.specs.Zone.{SaysSource, SaysZone, bad, before, fit_in, goes_on, long, most_records, no_more, short, start_of, too_many, unfit}
+use Rattle.dsec_signing.specs.Zone.{SaysSource, SaysZone, at_line, bad, before, fit_in, is_made, goes_on, long, most_records, no_more, short, start_of, too_many, unfit}
 
 abbrev Said : Type 0
 Said = Result (List Record) ℕ
@@ -117,3 +122,45 @@ whole_source X view content reader (Ok x) l e h = short content (Ok (view x)) l 
 whole_source X view content reader (Err (errors.Refused refusal)) l e h =
     subst (λ (r : Refused). SaysSource content (Err r)) (sym h.0) (short content (Err refusal.line) l (subst (λ (r : Reader). SaysZone most_records r (Err refusal.line)) e h.1))
 whole_source X view content reader (Err errors.NoMemory) l e h = tt
+
+-- ---- the class
+
+fit_class : (it : Entry) (r : Record) → fit_in it ≡ Some r → r.class ≡ IN
+fit_class (entries.Include path origin) r e = absurd cc
+fit_class (entries.Record one) r e = by ((one.class == IN) && not (is_made one.rtype)) refl e
+  where
+    by : (t : Bool) → ((one.class == IN) && not (is_made one.rtype)) ≡ t → cond t (Some one) None ≡ Some r → r.class ≡ IN
+    by true h f = subst (λ (x : Record). x.class ≡ IN) (same_Some one r f) (eqb-true one.class IN (both (one.class == IN) (not (is_made one.rtype)) h).0)
+    by false h f = absurd cc
+
+abbrev AreIn : Said → Type 0
+AreIn (Ok records) = All (λ (r : Record). r.class ≡ IN) records
+AreIn (Err line) = Unit {0}
+
+before_in : (r : Record) (said : Said) → r.class ≡ IN → AreIn said → AreIn (before r said)
+before_in r (Ok records) e h = All-cons (λ (x : Record). x.class ≡ IN) r records e h
+before_in r (Err line) e h = tt
+
+zone_class : (room : ℕ) (reader : Reader) (said : Said) → SaysZone room reader said → AreIn said
+zone_class _ _ _ (no_more room reader last is) = All-nil (λ (x : Record). x.class ≡ IN)
+zone_class _ _ _ (bad room reader line is) = tt
+zone_class _ _ _ (unfit room reader next it is none) = tt
+zone_class _ _ _ (too_many reader next it is) = tt
+zone_class _ _ _ (goes_on room reader next it r said is fit h) = before_in r said (fit_class it r fit) (zone_class room next said h)
+
+abbrev AreInFound : Result (List Record) Refused → Type 0
+AreInFound (Ok records) = All (λ (r : Record). r.class ≡ IN) records
+AreInFound (Err refusal) = Unit {0}
+
+found_in : (said : Said) → AreIn said → AreInFound (at_line said)
+found_in (Ok records) h = h
+found_in (Err line) h = tt
+
+source_in : (content : List ℕ) (said : Result (List Record) Refused) → SaysSource content said → AreInFound said
+source_in _ _ (long content l) = tt
+source_in _ _ (short content said l h) = found_in said (zone_class most_records (start_of content) said h)
+
+-- all records that are read are of class IN
+pub read_in : (X : Type 0) (view : X → List Record) (content : List ℕ) (result : Result X SourceError) → AnswersSource view content result → IfOk result (λ x. All (λ (r : Record). r.class ≡ IN) (view x))
+read_in X view content (Ok x) h = source_in content (Ok (view x)) h
+read_in X view content (Err error) h = tt

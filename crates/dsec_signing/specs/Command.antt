@@ -5,8 +5,8 @@ use Rattle.dsec_spec.specs.Outside.{SentFront}
 use Rattle.dsec_spec.specs.Records.{Record}
 use Rattle.dsec_record_text.specs.RecordText.{records_text}
 use Rattle.dsec_record_text.specs.TextBack.{ReadsAs}
-use Rattle.dsec_signing.specs.declared.stub.SigningError.{SigningError}
-use Rattle.dsec_signing.specs.Errors.{signing_error_text}
+use Rattle.dsec_rrsig.specs.declared.error.SigningError.{SigningError}
+use Rattle.dsec_rrsig.specs.Errors.{signing_error_text}
 use Rattle.dsec_signing.specs.Refusals.{refused_text}
 use Rattle.dsec_signing.specs.Signed.{IsMade, IsUnsigned}
 use Rattle.dsec_signing.specs.Zone.{SaysSource}

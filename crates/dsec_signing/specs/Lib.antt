@@ -2,6 +2,7 @@ pub mod Words
 pub mod Zone
 pub mod Refusals
 pub mod Reading
-pub mod Errors
 pub mod Signed
+pub mod Making
+pub mod KeySets
 pub mod Command

@@ -2,17 +2,23 @@
 use Rattle.std.specs.Prelude.{ℕ, ◌&&◌, nat_lt, nat_le, List, [], ◌∷◌, length, Option, Some, None, codes, if◌then◌else◌}
 use Rattle.std.specs.Str.{bytes_eq}
 use Rattle.dsec_spec.specs.Reading.{◌>>=◌}
+use Rattle.dsec_spec.specs.Records.{Key}
 use Rattle.dsec_word.specs.Numbers.{number_of}
 use Rattle.dsec_word.specs.Words.{hex_in, name_in}
 use Rattle.dsec_signing.specs.declared.words.Denial.{Denial}
 use Rattle.dsec_signing.specs.declared.words.Denial.TheVariants as denials
 use Rattle.dsec_signing.specs.declared.words.SignWords.{SignWords}
 
--- the octets of a key, 1 to 64 of them, in hex
-abbrev pub key_in : List ℕ → Option (List ℕ)
+-- the key of these octets, if there are 1 to 64: one for zone data and a secure entry point, of algorithm 13 (RFC 4034 2.1)
+abbrev pub key_by : List ℕ → Option Key
+key_by octets =
+    if nat_lt 0 (length octets) && nat_le (length octets) 64 then Some (record { flags = 257; protocol = 3; algorithm = 13; public_key = octets }) else None
+
+-- a key in hex
+abbrev pub key_in : List ℕ → Option Key
 key_in word = do
   octets ← hex_in word
-  if nat_lt 0 (length octets) && nat_le (length octets) 64 then Some octets else None
+  key_by octets
 
 -- a moment in seconds, in decimal digits, below 2 ^ 32 (RFC 4034 3.1.5)
 abbrev pub moment_in : List ℕ → Option ℕ

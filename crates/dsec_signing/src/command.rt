@@ -1,24 +1,26 @@
 //! The command over any source and sink.
 
-ghost use Rattle.std.specs.Prelude.{◌≡◌, ◌≤◌, ◌⊎◌, ◌+◌, ◌++◌, IfOk, IsErrOf, OnOk};
+ghost use Rattle.std.specs.Prelude.{◌≡◌, ◌≤◌, ◌⊎◌, ◌+◌, ◌++◌, All, IfOk, IsErrOf, OnOk, length};
 ghost use Rattle.std.specs.Io.KnownBytes.{Appends};
+ghost use Rattle.dsec_spec.specs.Numbers.{IN};
 ghost use Rattle.dsec_spec.specs.Outside.{Rose, SentFront};
 ghost use Rattle.dsec_outside.specs.Ends.{TakesAtMost};
 ghost use Rattle.dsec_outside.specs.Faults.{CountsWrites};
 ghost use Rattle.dsec_outside.specs.Limit.{limit};
 ghost use Rattle.dsec_outside.specs.Statuses.{counted_at};
 ghost use Rattle.dsec_signing.specs.Command.{IsSignRun, RefusedAt, SentFor, SignedFrom, UnsignedFrom, error_line};
-ghost use Rattle.dsec_signing.specs.Errors.{signing_error_text};
+ghost use Rattle.dsec_rrsig.specs.Errors.{signing_error_text};
 ghost use Rattle.dsec_signing.specs.Refusals.{refused_text, word_text};
 ghost use Rattle.dsec_signing.specs.Reading.{AnswersSource};
 
-use crate::error::{Refused, SourceError, Word};
-use crate::stub::{SigningError, sign_records};
+use crate::error::{Refused, SourceError, Unsigned, Word};
+use crate::making::sign_records;
 use crate::words::SignWords;
 use crate::zone::read_zone;
 use dsec_name::NoMemory;
 use dsec_outside::{Halt, Sink, Source, Stop, read_all, send};
 use dsec_record_text::send_records;
+use dsec_rrsig::SigningError;
 use dsec_wire::Record;
 use dsec_word::push_number;
 use std::alloc::Global;
@@ -26,13 +28,9 @@ use std::io::Write;
 
 /// Runs the command: signs the zone that the source has as text, and gives the status: 0 where the signed zone was written, 3 where the text
 /// is refused, 4 where a read failed, 5 where a write failed, 6 where there was no memory, 7 where the zone isn't signed.
-pub fn sign<S: Source, K: Sink>(
-    alloc: Global,
-    words: &SignWords,
-    source: &mut S,
-    sink: &mut K,
-) -> u8
-    ensures run { IsSignRun words.now result (S.left source.old) (S.left source.new) (K.written sink.old) (K.written sink.new) }
+pub fn sign<S: Source, K: Sink>(alloc: Global, words: SignWords, source: &mut S, sink: &mut K) -> u8
+    requires { length words.key.public_key ≤ 64 }
+    ensures run { IsSignRun words result (S.left source.old) (S.left source.new) (K.written sink.old) (K.written sink.new) }
     ensures read { result ≡ 4 → Rose (S.faults source.old) (S.faults source.new) }
     ensures write { result ≡ 5 → Rose (K.faults sink.old) (K.faults sink.new) }
     ensures reads { S.faults source.new ≡ counted_at 4 result (S.faults source.old) }
@@ -48,11 +46,12 @@ pub fn sign<S: Source, K: Sink>(
 }
 
 /// Signs the zone that a text is, or names its first refused line.
-fn sign_content<K: Sink>(alloc: Global, words: &SignWords, content: Vec<u8>, sink: &mut K) -> u8
-    ensures done { result ≡ 0 → SignedFrom words.now content.items (K.written sink.old) (K.written sink.new) }
+fn sign_content<K: Sink>(alloc: Global, words: SignWords, content: Vec<u8>, sink: &mut K) -> u8
+    requires { length words.key.public_key ≤ 64 }
+    ensures done { result ≡ 0 → SignedFrom words content.items (K.written sink.old) (K.written sink.new) }
     ensures refused { result ≡ 3 → RefusedAt content.items (K.written sink.old) (K.written sink.new) }
-    ensures unsigned { result ≡ 7 → UnsignedFrom words.now content.items (K.written sink.old) (K.written sink.new) }
-    ensures front { SentFor words.now content.items (K.written sink.old) (K.written sink.new) }
+    ensures unsigned { result ≡ 7 → UnsignedFrom words content.items (K.written sink.old) (K.written sink.new) }
+    ensures front { SentFor words content.items (K.written sink.old) (K.written sink.new) }
     ensures write { result ≡ 5 → Rose (K.faults sink.old) (K.faults sink.new) }
     ensures writes { K.faults sink.new ≡ counted_at 5 result (K.faults sink.old) }
     ensures statuses { (result ≡ 0) ⊎ ((result ≡ 3) ⊎ ((result ≡ 5) ⊎ ((result ≡ 6) ⊎ (result ≡ 7)))) }
@@ -63,11 +62,11 @@ fn sign_content<K: Sink>(alloc: Global, words: &SignWords, content: Vec<u8>, sin
                 Ok(()) => 0,
                 Err(halt) => halt.status(),
             },
-            Err(SigningError::OutOfMemory) => 6,
-            Err(error) => match tell(alloc, error, sink) {
+            Err(Unsigned::Refused(error)) => match tell(alloc, error, sink) {
                 Ok(()) => 7,
                 Err(halt) => halt.status(),
             },
+            Err(Unsigned::NoMemory) => 6,
         },
         Err(SourceError::Refused(refused)) => match refuse(alloc, refused, sink) {
             Ok(()) => 3,
@@ -79,7 +78,8 @@ fn sign_content<K: Sink>(alloc: Global, words: &SignWords, content: Vec<u8>, sin
 
 /// The records of a text, which is let go.
 fn take_zone(alloc: Global, content: Vec<u8>) -> Result<Vec<Record>, SourceError>
-    ensures { AnswersSource (λ records. records.items) content.items result }
+    ensures exact { AnswersSource (λ records. records.items) content.items result }
+    ensures class { IfOk result (λ records. All (λ r. r.class ≡ IN) records.items) }
 {
     read_zone(alloc, &content)
 }

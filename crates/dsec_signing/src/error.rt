@@ -1,10 +1,13 @@
 //! Why zone text isn't signed.
 
 ghost use Rattle.std.specs.Prelude.{◌≡◌};
+ghost use Rattle.dsec_signing.specs.Making.{unsigned_of};
 ghost use Rattle.dsec_signing.specs.Reading.{error_of};
 ghost use Rattle.dsec_signing.specs.declared.error.SourceError.TheVariants.{NoMemory};
+ghost use Rattle.dsec_signing.specs.declared.error.Unsigned.TheVariants as unsigned;
 
 use dsec_name::NoMemory;
+use dsec_rrsig::SigningError;
 use dsec_zonefile::ZonefileError;
 use std::alloc::{AllocError, AllocFailed};
 
@@ -70,5 +73,41 @@ impl<T: Drop> From<AllocFailed<T>> for SourceError {
 
     fn from(_error: AllocFailed<T>) -> SourceError {
         SourceError::NoMemory
+    }
+}
+
+/// Why a zone is not signed.
+#[derive(Clone, Copy, Debug, PartialEq, Eq)]
+pub enum Unsigned {
+    /// Signing is refused.
+    Refused(SigningError),
+    /// There was no memory left, whatever the zone.
+    NoMemory,
+}
+
+impl From<SigningError> for Unsigned {
+    ghost from_gives = { λ error made. made ≡ unsigned_of error };
+
+    fn from(error: SigningError) -> Unsigned {
+        match error {
+            SigningError::OutOfMemory => Unsigned::NoMemory,
+            _ => Unsigned::Refused(error),
+        }
+    }
+}
+
+impl From<NoMemory> for Unsigned {
+    ghost from_gives = { λ _ error. error ≡ unsigned.NoMemory };
+
+    fn from(_error: NoMemory) -> Unsigned {
+        Unsigned::NoMemory
+    }
+}
+
+impl From<AllocError> for Unsigned {
+    ghost from_gives = { λ _ error. error ≡ unsigned.NoMemory };
+
+    fn from(_error: AllocError) -> Unsigned {
+        Unsigned::NoMemory
     }
 }

@@ -3,11 +3,12 @@
 
 mod command;
 mod error;
-mod stub;
+mod key_set;
+mod making;
 mod words;
 mod zone;
 
 pub use command::sign;
-pub use error::{Refused, SourceError, Word};
+pub use error::{Refused, SourceError, Unsigned, Word};
 pub use words::{Denial, SignWords, sign_words};
 pub use zone::{MOST_RECORDS, read_zone};
