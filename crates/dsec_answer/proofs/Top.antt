@@ -1,10 +1,11 @@
 -- Lemmas for the top calls.
-use Rattle.std.proofs.Common.{◌≡◌, ◌↔◌, ℕ, List, [], ◌∷◌, ◌<◌, ◌≤◌, length, get_or, Option, Some, None, Result, Ok, Err, IfSome, IsTrue, map, Bool, true, false, refl, sym, ap, ◌∙◌, subst, arith}
-use Rattle.std.specs.Prelude.{nat_lt, bytes_eq}
+use Rattle.std.proofs.Common.{◌≡◌, ◌↔◌, ℕ, List, [], ◌∷◌, ◌<◌, ◌≤◌, length, get_or, Option, Some, None, Result, Ok, Err, IfSome, IsTrue, map, Bool, true, false, inl, inr, refl, sym, ap, ◌∙◌, subst, arith}
+use Rattle.std.specs.Prelude.{◌⊎◌, nat_lt, bytes_eq}
 use Rattle.std.specs.Bool.{OnFalse}
 use Rattle.std.specs.Io.KnownBytes.{Consumes, IsAtEnd}
-use Rattle.std.proofs.KnownBytes.{Consumes-whole, Keeps-refl}
+use Rattle.std.proofs.KnownBytes.{Appends-nil, Consumes-whole, Keeps-refl}
 use Rattle.std.proofs.lemmas.Bool.{ltb-false}
+use Rattle.std.proofs.lemmas.Option.{same_Some}
 use Rattle.std.proofs.lemmas.Slice.Eq.{bytes_eq-Decides}
 use Rattle.dsec_script.specs.declared.script.Script.{Script}
 use Rattle.dsec_script.specs.declared.error.Word.TheVariants as words
@@ -17,8 +18,11 @@ use Rattle.dsec_script.specs.Script.{script_of}
 use Rattle.dsec_script.proofs.CallerLemmas.{script_of-taken}
 use Rattle.dsec_spec.specs.Accepts.{Accepts}
 use Rattle.dsec_spec.specs.Outside.{SentFront}
-use Rattle.dsec_answer.specs.Headline.{Answered, RefusedAt, Done, Makes, SentFor, nothing, refused, answer}
-use Rattle.dsec_answer.specs.Words.{usage as usage_text, IsValidate}
+use Rattle.dsec_answer.specs.Headline.{Answered, RefusedAt, Refuses, Done, IsUsageRun, IsValidateRun, SentFor, WentOut, nothing, refused, answer}
+use Rattle.dsec_answer.specs.Headline as headline
+use Rattle.dsec_answer.specs.Words.{usage as usage_text, IsNoCommand, IsValidate}
+use Rattle.dsec_signing.specs.Words.{sign_in}
+use Rattle.dsec_signing.specs.declared.words.SignWords.{SignWords}
 
 past_limit : (v : List ℕ) → nat_lt limit (length v) ≡ true → script_of v ≡ Err (errors.Refused (record { line = line_past v; word = words.Size }))
 unfolding script_of
@@ -55,23 +59,88 @@ same_sent accepts content all before after same (refused r reads sent) = refused
 same_sent accepts content all before after same (answer script reads text answers sent) = answer script (same ∙ reads) text answers sent
 
 -- what the octets that were read make, all of them make
-pub made_of : (accepts : Accepts) (words : List (List ℕ)) (left rest before after : Option (List ℕ)) (v : List ℕ) → Consumes left rest v → (length v ≤ limit → IsAtEnd rest)
-    → IsValidate words → SentFor accepts v before after → IfSome left (λ all. Makes accepts words all before after)
-made_of accepts words None rest before after v c e valid sent = tt
-made_of accepts words (Some all) rest before after v c e valid sent =
+pub made_of : (accepts : Accepts) (left rest before after : Option (List ℕ)) (v : List ℕ) → Consumes left rest v → (length v ≤ limit → IsAtEnd rest)
+    → SentFor accepts v before after → IfSome left (λ all. SentFor accepts all before after)
+made_of accepts None rest before after v c e sent = tt
+made_of accepts (Some all) rest before after v c e sent =
     let same : script_of all ≡ script_of v = script_of-taken (Some all) rest v c e in
-    record { validates = λ _. same_sent accepts v all before after same sent; others = λ other. absurd (other valid) }
-
--- other words make the usage
-pub made_usage : (accepts : Accepts) (words : List (List ℕ)) (left before after : Option (List ℕ)) → (IsValidate words → ⊥) → SentFront before after usage_text
-    → IfSome left (λ all. Makes accepts words all before after)
-made_usage accepts words None before after other sent = tt
-made_usage accepts words (Some all) before after other sent = record { validates = λ valid. absurd (other valid); others = λ _. sent }
+    same_sent accepts v all before after same sent
 
 -- nothing went out where it wasn't read whole
-pub made_nothing : (accepts : Accepts) (words : List (List ℕ)) (left sent : Option (List ℕ)) → IsValidate words → IfSome left (λ all. Makes accepts words all sent sent)
-made_nothing accepts words None sent valid = tt
-made_nothing accepts words (Some all) sent valid = record { validates = λ _. nothing (Keeps-refl sent); others = λ other. absurd (other valid) }
+pub made_nothing : (accepts : Accepts) (left sent : Option (List ℕ)) → IfSome left (λ all. SentFor accepts all sent sent)
+made_nothing accepts None sent = tt
+made_nothing accepts (Some all) sent = nothing (Keeps-refl sent)
+
+-- ---- runs
+
+more_statuses : (status : ℕ) → (status ≡ 0) ⊎ ((status ≡ 3) ⊎ ((status ≡ 5) ⊎ (status ≡ 6))) → (status ≡ 0) ⊎ ((status ≡ 3) ⊎ ((status ≡ 4) ⊎ ((status ≡ 5) ⊎ (status ≡ 6))))
+more_statuses status (inl e) = inl e
+more_statuses status (inr (inl e)) = inr (inl e)
+more_statuses status (inr (inr (inl e))) = inr (inr (inr (inl e)))
+more_statuses status (inr (inr (inr e))) = inr (inr (inr (inr e)))
+
+-- what was done with the content is what the run did
+pub run_of : (accepts : Accepts) (status : ℕ) (left rest before after : Option (List ℕ)) (v : List ℕ) → Consumes left rest v → (length v ≤ limit → IsAtEnd rest)
+    → (status ≡ 0 → Answered accepts v before after) → (status ≡ 3 → RefusedAt v before after) → SentFor accepts v before after
+    → (status ≡ 0) ⊎ ((status ≡ 3) ⊎ ((status ≡ 5) ⊎ (status ≡ 6))) → IsValidateRun accepts status left rest before after
+run_of accepts status left rest before after v c e answers refuses sent statuses = record {
+  done = λ s. done_of accepts left rest before after v c e (answers s);
+  told = λ s. told_answer accepts left rest before after (done_of accepts left rest before after v c e (answers s));
+  refused = λ s. record { content = v; read = c; refused = refuses s };
+  first = λ s. told_refusal left rest before after v c e (refuses s);
+  front = headline.script v c sent;
+  made = made_of accepts left rest before after v c e sent;
+  statuses = more_statuses status statuses;
+}
+
+-- a run that stopped before anything went out
+pub idle_run : (accepts : Accepts) (status : ℕ) (left rest sent : Option (List ℕ)) → (status ≡ 4) ⊎ (status ≡ 6) → IsValidateRun accepts status left rest sent sent
+idle_run accepts status left rest sent (inl e) = record {
+  done = λ s. absurd (omega (arith, s, e));
+  told = λ s. absurd (omega (arith, s, e));
+  refused = λ s. absurd (omega (arith, s, e));
+  first = λ s. absurd (omega (arith, s, e));
+  front = headline.nothing (Keeps-refl sent);
+  made = made_nothing accepts left sent;
+  statuses = inr (inr (inl e));
+}
+idle_run accepts status left rest sent (inr e) = record {
+  done = λ s. absurd (omega (arith, s, e));
+  told = λ s. absurd (omega (arith, s, e));
+  refused = λ s. absurd (omega (arith, s, e));
+  first = λ s. absurd (omega (arith, s, e));
+  front = headline.nothing (Keeps-refl sent);
+  made = made_nothing accepts left sent;
+  statuses = inr (inr (inr (inr e)));
+}
+
+-- the words of `validate` are those of no other command
+pub no_sign : (words : List (List ℕ)) (said : SignWords) → IsValidate words → sign_in words ≡ Some said → ⊥
+no_sign words said valid e = none_said said (sym (ap sign_in valid) ∙ e)
+  where
+    none_said : (said : SignWords) → None ≡ Some said → ⊥
+    none_said said e = cc
+
+pub not_both : {A : Type 0} (o : Option A) (x : A) → o ≡ None → o ≡ Some x → ⊥
+not_both o x none some = let clash : None ≡ Some x = sym none ∙ some in cc
+
+pub same_words : (said other : SignWords) (o : Option SignWords) → o ≡ Some said → o ≡ Some other → said ≡ other
+same_words said other o a b = same_Some said other (sym a ∙ b)
+
+-- 2 is the status of no run of `validate`
+pub never_two : (accepts : Accepts) (status : ℕ) (left rest before after : Option (List ℕ)) → IsValidateRun accepts status left rest before after → status ≡ 2 → ⊥
+never_two accepts status left rest before after run e = by run.statuses
+  where
+    by : (status ≡ 0) ⊎ ((status ≡ 3) ⊎ ((status ≡ 4) ⊎ ((status ≡ 5) ⊎ (status ≡ 6)))) → ⊥
+    by (inl f) = omega (arith, e, f)
+    by (inr (inl f)) = omega (arith, e, f)
+    by (inr (inr (inl f))) = omega (arith, e, f)
+    by (inr (inr (inr (inl f)))) = omega (arith, e, f)
+    by (inr (inr (inr (inr f)))) = omega (arith, e, f)
+
+-- no memory to read the words
+pub no_usage : (sent : Option (List ℕ)) → IsUsageRun 6 sent sent
+no_usage sent = record { told = λ s. absurd (omega (arith, s)); front = (0, Appends-nil sent); statuses = inr (inr refl) }
 
 -- a refusal that was told is the script's
 pub refused_reads : (e : ScriptError) (r : Refused) (read : Result Script ScriptError) → e ≡ errors.Refused r → OnFalse (wants_memory e) (read ≡ Err e) → read ≡ Err (errors.Refused r)

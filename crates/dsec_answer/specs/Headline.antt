@@ -1,5 +1,5 @@
 -- What `run` promises.
-use Rattle.std.specs.Prelude.{◌≡◌, ℕ, List, Option, Ok, Err}
+use Rattle.std.specs.Prelude.{◌≡◌, ◌⊎◌, ℕ, List, Option, Ok, Err, IfSome}
 use Rattle.std.specs.Io.KnownBytes.{Appends, Consumes, IsAtEnd, Keeps}
 use Rattle.dsec_spec.specs.Accepts.{Accepts}
 use Rattle.dsec_spec.specs.Outside.{SentFront}
@@ -8,7 +8,7 @@ use Rattle.dsec_script.specs.declared.error.ScriptError.TheVariants as errors
 use Rattle.dsec_script.specs.declared.script.Script.{Script}
 use Rattle.dsec_script.specs.Script.{script_of}
 use Rattle.dsec_answer.specs.Outcomes.{IsAnswer}
-use Rattle.dsec_answer.specs.Words.{usage as usage_text, IsValidate, refused_text}
+use Rattle.dsec_answer.specs.Words.{usage as usage_text, refused_text}
 
 -- the content is a script, and the text of the outcomes of its messages went out
 pub record Answered (accepts : Accepts) (content : List ℕ) (before after : Option (List ℕ)) : Type 0 where
@@ -43,14 +43,24 @@ pub data SentFor (accepts : Accepts) (content : List ℕ) (before after : Option
   refused : (r : Refused) → script_of content ≡ Err (errors.Refused r) → SentFront before after (refused_text r) → SentFor accepts content before after
   answer : (script : Script) → script_of content ≡ Ok script → (text : List ℕ) → IsAnswer accepts script text → SentFront before after text → SentFor accepts content before after
 
--- where this is the whole content that the source held, this went out at any status: for `validate` a front of what the content makes, or
--- nothing; for other words a front of the usage
-pub record Makes (accepts : Accepts) (words : List (List ℕ)) (content : List ℕ) (before after : Option (List ℕ)) : Type 0 where
-  pub validates : IsValidate words → SentFor accepts content before after
-  pub others : (IsValidate words → ⊥) → SentFront before after usage_text
+-- the same by what was read: nothing went out, or a front of what the octets make that were read
+pub data WentOut (accepts : Accepts) (left rest before after : Option (List ℕ)) : Type 0 where
+  nothing : Keeps before after → WentOut accepts left rest before after
+  script : (content : List ℕ) → Consumes left rest content → SentFor accepts content before after → WentOut accepts left rest before after
 
--- the same by what was read: nothing went out, or a front of the usage, or of what the octets make that were read
-pub data WentOut (accepts : Accepts) (words : List (List ℕ)) (left rest before after : Option (List ℕ)) : Type 0 where
-  nothing : Keeps before after → WentOut accepts words left rest before after
-  usage : (IsValidate words → ⊥) → SentFront before after usage_text → WentOut accepts words left rest before after
-  script : IsValidate words → (content : List ℕ) → Consumes left rest content → SentFor accepts content before after → WentOut accepts words left rest before after
+-- A run of `validate` ended with the status. 0 and 3 are said twice: of what was read, and, where the source tells its octets, of its whole
+-- content. At any status nothing went out, or a front of what the content makes.
+pub record IsValidateRun (accepts : Accepts) (status : ℕ) (left rest before after : Option (List ℕ)) : Type 0 where
+  pub done : status ≡ 0 → Done accepts left rest before after
+  pub told : status ≡ 0 → IfSome left (λ content. Answered accepts content before after)
+  pub refused : status ≡ 3 → Refuses left rest before after
+  pub first : status ≡ 3 → IfSome left (λ content. RefusedAt content before after)
+  pub front : WentOut accepts left rest before after
+  pub made : IfSome left (λ content. SentFor accepts content before after)
+  pub statuses : (status ≡ 0) ⊎ ((status ≡ 3) ⊎ ((status ≡ 4) ⊎ ((status ≡ 5) ⊎ (status ≡ 6))))
+
+-- Words that name no command were answered with this status: by the usage, or by a front of it.
+pub record IsUsageRun (status : ℕ) (before after : Option (List ℕ)) : Type 0 where
+  pub told : status ≡ 2 → Appends before after usage_text
+  pub front : SentFront before after usage_text
+  pub statuses : (status ≡ 2) ⊎ ((status ≡ 5) ⊎ (status ≡ 6))

@@ -4,4 +4,3 @@ pub mod Texts
 pub mod Outcomes
 pub mod Words
 pub mod Headline
-pub mod Counting

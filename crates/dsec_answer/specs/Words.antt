@@ -1,5 +1,6 @@
--- The words of the command, and what is written where a script is refused.
-use Rattle.std.specs.Prelude.{◌≡◌, ℕ, List, [], ◌∷◌, ◌++◌, codes, decimal}
+-- The words of commands, and what is written where a script is refused.
+use Rattle.std.specs.Prelude.{◌≡◌, ℕ, List, [], ◌∷◌, ◌++◌, codes, decimal, None}
+use Rattle.dsec_signing.specs.Words.{sign_in}
 use Rattle.dsec_script.specs.declared.error.Refused.{Refused}
 use Rattle.dsec_script.specs.declared.error.Word.{Word}
 use Rattle.dsec_script.specs.declared.error.Word.TheVariants as words
@@ -8,9 +9,13 @@ use Rattle.dsec_script.specs.declared.error.Word.TheVariants as words
 abbrev pub usage : List ℕ
 usage = codes "usage: dsec validate|sign|reply|ask|gen\n"
 
--- the one word that is built
+-- the words of the command `validate`
 abbrev pub IsValidate : List (List ℕ) → Type 0
 IsValidate words = words ≡ codes "validate" ∷ []
+
+-- words that are those of no command
+abbrev pub IsNoCommand : List (List ℕ) → Type 0
+IsNoCommand words = (IsValidate words → ⊥) × (sign_in words ≡ None)
 
 -- the words for what is wrong with a line
 abbrev pub word_text : Word → List ℕ

@@ -7,8 +7,10 @@ mod judging;
 mod outcome;
 mod script;
 mod texts;
+mod validating;
 
 pub use command::{run, run_by};
 pub use context::ValidationContext;
 pub use outcome::Outcome;
 pub use texts::text;
+pub use validating::validate;

@@ -4,7 +4,7 @@ ghost use Rattle.std.specs.Prelude.{◌≡◌, ◌≤◌, ◌⊎◌, IfOk, OnOk,
 ghost use Rattle.std.specs.Io.KnownBytes.{Appends};
 ghost use Rattle.dsec_spec.specs.Outside.{Rose, SentFront};
 ghost use Rattle.dsec_outside.specs.Faults.{CountsWrites};
-ghost use Rattle.dsec_answer.specs.Counting.{counted_at, status_in};
+ghost use Rattle.dsec_outside.specs.Statuses.{counted_at};
 ghost use Rattle.dsec_answer.specs.Headline.{Answered, RefusedAt, SentFor};
 ghost use Rattle.dsec_answer.specs.Outcomes.{script_text};
 ghost use Rattle.dsec_answer.specs.Words.{refused_text, word_text};
@@ -20,18 +20,6 @@ use dsec_name::NoMemory;
 use dsec_outside::{Halt, Sink, TableUpstream, send};
 use dsec_script::{Refused, Script, ScriptError, Word, read_script};
 use std::alloc::Global;
-
-/// The status of a halt.
-pub fn status_of(halt: Halt) -> u8
-    ensures values { (result ≡ 5) ⊎ (result ≡ 6) }
-    ensures write { result ≡ 5 → halt ≡ Halt.Write }
-    ensures exact { result ≡ status_in halt }
-{
-    match halt {
-        Halt::Write => 5,
-        Halt::Memory => 6,
-    }
-}
 
 /// Judges a script's messages, over an upstream that answers by its replies.
 fn judge_script<V: Verifier, K: Sink>(
@@ -123,11 +111,11 @@ pub fn answer<V: Verifier, K: Sink>(alloc: Global, content: Vec<u8>, sink: &mut 
     match read_once(alloc, content) {
         Ok(script) => match judge_script::<V, K>(alloc, script, sink) {
             Ok(()) => 0,
-            Err(halt) => status_of(halt),
+            Err(halt) => halt.status(),
         },
         Err(ScriptError::Refused(refused)) => match refuse(alloc, refused, sink) {
             Ok(()) => 3,
-            Err(halt) => status_of(halt),
+            Err(halt) => halt.status(),
         },
         Err(ScriptError::NoMemory) => 6,
     }
