@@ -1,4 +1,4 @@
-use Rattle.std.proofs.Common.{sym, ap, subst}
+use Rattle.std.proofs.Common.{sym, subst}
 use Rattle.dsec_validated.specs.SigCaches.{AreTrue}
 use Rattle.dsec_validated.proofs.CacheLaws.{more_true}
 use Rattle.dsec_validated.proofs.sig_cache.SigCache.store.Goals as goal
