@@ -99,7 +99,7 @@ fn is_moved(alloc: Global, set: &mut GroupSet, row: &Row) -> bool {
     let Ok(cause) = cause else {
         return false;
     };
-    if too_many != matches!(cause, Some(Cause::TooManyUnsignedCnames)) {
+    if too_many != (cause == Some(Cause::TooManyUnsignedCnames)) {
         return false;
     }
     let found = set.as_slice();
@@ -144,9 +144,12 @@ const MAPPED: [Mapped; 4] = [
 ];
 
 fn is_shown(alloc: Global, name: &Name, want: Option<&str>) -> bool {
-    match (format!(in alloc; "{}", name), want) {
-        (Ok(shown), Some(want)) => shown.as_str() == want,
-        _ => false,
+    let Ok(shown) = format!(in alloc; "{}", name) else {
+        return false;
+    };
+    match want {
+        Some(want) => shown.as_str() == want,
+        None => false,
     }
 }
 
