@@ -59,8 +59,7 @@ type Span = (&'static str, u32, u32);
 const EARLY: &str = "a. 3600 IN RRSIG \\# 23 0001080100000e10000003e8000000000007017a000505";
 
 /// The same, from 4294967000 to 1000.
-const WRAPPED: &str =
-    "a. 3600 IN RRSIG \\# 23 0001080100000e10000003e8fffffed80007017a000505";
+const WRAPPED: &str = "a. 3600 IN RRSIG \\# 23 0001080100000e10000003e8fffffed80007017a000505";
 
 #[rattlefmt::skip]
 const SPANS: [Span; 8] = [

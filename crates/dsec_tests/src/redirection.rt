@@ -12,9 +12,16 @@ use std::process::Abort;
 type Shown = (&'static str, usize, usize);
 
 /// What a row shows, how many aliases may be followed, the lines of a section, whether these are too many, and the groups afterwards.
-type Row = (&'static str, u8, &'static [&'static str], bool, &'static [Shown]);
+type Row = (
+    &'static str,
+    u8,
+    &'static [&'static str],
+    bool,
+    &'static [Shown],
+);
 
-const LONG: &str = "xxxxxxxxxxxxxxxxxxxxxxxxxxxxxxxxxxxxxxxxxxxxxxxxxxxxxxxxxxxxxxx.xxxxxxxxxxxxxxxxxxxxxxxxxxxxxxxxxxxxxxxxxxxxxxxxxxxxxxxxxxxxxxx.xxxxxxxxxxxxxxxxxxxxxxxxxxxxxxxxxxxxxxxxxxxxxxxxxxxxxxxxxxxxxxx.";
+const LONG: &str =
+    "xxxxxxxxxxxxxxxxxxxxxxxxxxxxxxxxxxxxxxxxxxxxxxxxxxxxxxxxxxxxxxx.xxxxxxxxxxxxxxxxxxxxxxxxxxxxxxxxxxxxxxxxxxxxxxxxxxxxxxxxxxxxxxx.xxxxxxxxxxxxxxxxxxxxxxxxxxxxxxxxxxxxxxxxxxxxxxxxxxxxxxxxxxxxxxx.";
 
 #[rattlefmt::skip]
 const ROWS: [Row; 9] = [
@@ -88,9 +95,7 @@ fn is_like(alloc: Global, group: &Group, want: &Shown) -> bool {
     let Ok(shown) = format!(in alloc; "{}", group.owner()) else {
         return false;
     };
-    shown.as_str() == owner
-        && group.rr_set().len() == records
-        && group.extra_set().len() == extra
+    shown.as_str() == owner && group.rr_set().len() == records && group.extra_set().len() == extra
 }
 
 fn is_moved(alloc: Global, set: &mut GroupSet, row: &Row) -> bool {
@@ -133,7 +138,12 @@ fn aliases_move(rt: HostRuntime) {
 }
 
 /// A DNAME's owner and target, a name below it, and what that is mapped to; none where that would be too long.
-type Mapped = (&'static str, &'static str, &'static str, Option<&'static str>);
+type Mapped = (
+    &'static str,
+    &'static str,
+    &'static str,
+    Option<&'static str>,
+);
 
 #[rattlefmt::skip]
 const MAPPED: [Mapped; 4] = [
