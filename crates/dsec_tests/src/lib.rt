@@ -14,15 +14,11 @@ mod judged;
 #[cfg(test)]
 mod keys;
 #[cfg(test)]
-mod lasting;
-#[cfg(test)]
 mod lines;
 #[cfg(test)]
 mod links;
 #[cfg(test)]
 mod memos;
-#[cfg(test)]
-mod redirection;
 #[cfg(test)]
 mod runs;
 #[cfg(test)]
