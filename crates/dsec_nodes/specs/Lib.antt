@@ -1,0 +1,11 @@
+pub mod World
+pub mod Causes
+pub mod SignedCauses
+pub mod Nodes
+pub mod Signing
+pub mod Admission
+pub mod Replies
+pub mod MissingDs
+pub mod ByDs
+pub mod Walk
+pub mod Held
