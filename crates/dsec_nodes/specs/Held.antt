@@ -1,7 +1,7 @@
 -- What a node rests on when it is made: a zone that is held, and pairs of a signature and a key that are good (RFC 4035 5.2, 5.3).
-use Rattle.std.specs.Prelude.{◌≡◌, ℕ, ◌+◌, ◌≤◌, List, [], ◌∷◌, Contains, Some}
+use Rattle.std.specs.Prelude.{◌≡◌, ◌⊎◌, ℕ, ◌+◌, ◌≤◌, List, [], ◌∷◌, Contains, Some}
 use Rattle.dsec_spec.specs.Names.{Place, place}
-use Rattle.dsec_spec.specs.Numbers.{IN}
+use Rattle.dsec_spec.specs.Numbers.{IN, DS, DNSKEY}
 use Rattle.dsec_spec.specs.Records.{Record, RecordSet, Key, key_of, Ds, ds_of, Rrsig, rrsig_of, beside}
 use Rattle.dsec_spec.specs.Accepts.{Accepts}
 use Rattle.dsec_spec.specs.Signed.{Signed}
@@ -61,6 +61,26 @@ pub record GoodByDs (w : World) (group : Group) (ways : List (List ℕ)) (p : Re
   pub counts : Counts w.accepts (set_in group) (place group.owner) (moment w) (p.0, p.1.key)
   pub listed : Contains ways p.1.way
   pub is_admitted : IsAdmittedByDs group p.1
+
+-- an anchor speaks of a key: it is a DNSKEY record with the key's data, or a DS record that speaks of the key (RFC 4035 5)
+abbrev pub Speaks : Group → Record → List ℕ → Key → Type 0
+Speaks group anchor rdata key =
+    ((anchor.rtype ≡ DNSKEY) × (anchor.rdata ≡ rdata))
+    ⊎ ((anchor.rtype ≡ DS) × ((ds : Ds) × (ds_of anchor.rdata ≡ Some ds) × Matches ds group.owner key))
+
+-- a key of the set's own of which an anchor of class IN at the set's place speaks (RFC 4035 5)
+pub record IsAdmittedByAnchor (group : Group) (one : Admitted Record) : Type 0 where
+  pub stands_at : place one.way.owner ≡ place group.owner
+  pub of_class : one.way.class ≡ IN
+  pub its_own : Contains (set_in group).datas one.rdata
+  pub reads : key_of one.rdata ≡ Some one.key
+  pub speaks : Speaks group one.way one.rdata one.key
+
+-- a signature of a DNSKEY set that counts as that of a key which one of the anchors admits (RFC 4035 5)
+pub record GoodByAnchor (w : World) (group : Group) (p : Record × Admitted Record) : Type 0 where
+  pub counts : Counts w.accepts (set_in group) (place group.owner) (moment w) (p.0, p.1.key)
+  pub listed : Contains w.anchors p.1.way
+  pub is_admitted : IsAdmittedByAnchor group p.1
 
 -- a DS set that a zone has signed: it is one for as long as it may be kept, and that is no longer than the zone is (RFC 4035 5.2, 5.3.3)
 pub record IsPending (w : World) (zone : Node) (keys : List (List ℕ)) (pending : Pending) : Type 0 where

@@ -1,0 +1,9 @@
+pub mod Periods
+pub mod Signs
+pub mod Lasting
+pub mod KeptLaws
+pub mod MissingLaws
+pub mod ChildLaws
+pub mod AnchorLaws
+pub mod WalkLaws
+pub mod FoundLaws

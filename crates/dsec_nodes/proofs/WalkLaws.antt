@@ -1,0 +1,106 @@
+-- Each node on the way from an island down is kept.
+use Rattle.std.proofs.Common.{cond, take-take}
+use Rattle.std.proofs.Common.{◌≡◌, ℕ, zero, suc, ◌+◌, ◌-◌, ◌<◌, ◌≤◌, Bool, true, false, List, [], ◌∷◌, length, take, refl, sym, ap, ◌∙◌, subst, arith, length-append}
+use Rattle.std.proofs.Math.Seq.{take-append_seam}
+use Rattle.std.proofs.lemmas.Bool.{false≢true}
+use Rattle.dsec_spec.specs.Names.{Place, IsAtOrBelow, IsStrictlyBelow}
+use Rattle.dsec_nodes.specs.World.{World, Replies, on_circle}
+use Rattle.dsec_nodes.specs.Nodes.{Node, Standing, apex, within, insecure, bogus, Kept, HoldsAt, IsBogus}
+use Rattle.dsec_nodes.specs.Walk.{at_anchor, Reached, held_keys, goes_on, after, next, onward, way, node_of}
+use Rattle.dsec_nodes.proofs.KeptLaws.{held}
+use Rattle.dsec_nodes.proofs.ChildLaws.{child_kept}
+use Rattle.dsec_nodes.proofs.AnchorLaws.{anchor_kept, anchor_not_within}
+use Rattle.dsec_nodes.specs.Held.{HeldZone, KeptAt}
+
+-- of two fronts of a name, the longer is strictly below the other
+pub strictly_taken : (n : Place) (j m : ℕ) → j < m → m ≤ length n → IsStrictlyBelow (take m n) (take j n)
+strictly_taken [] j m a b = absurd (omega (arith, a, b))
+strictly_taken (x ∷ n) j zero a b = absurd (omega (arith, a))
+strictly_taken (x ∷ n) zero (suc m) a b = record { next = x; under = take m n; is = refl }
+strictly_taken (x ∷ n) (suc j) (suc m) a b = let r = strictly_taken n j m (omega (arith, a)) (omega (arith, b)) in record { next = r.next; under = r.under; is = ap (λ (p : Place). x ∷ p) r.is }
+
+-- the last zone is held, and its name is a front of the name, of so many labels at most
+pub record InZone (w : World) (name : Place) (labels : ℕ) (r : Reached) : Type 0 where
+  pub zone_held : HeldZone w r.zone (held_keys r.zone.standing)
+  pub count : ℕ
+  pub at_most : count ≤ labels
+  pub is : r.zone.signer ≡ take count name
+
+-- what is reached so many labels down the way: its node is kept, and where the walk goes on its last zone is held
+pub record OnTheWay (w : World) (name : Place) (labels : ℕ) (r : Reached) : Type 0 where
+  pub node_kept : Kept w.accepts r.node
+  pub in_zone : goes_on r.node.standing ≡ true → InZone w name labels r
+
+-- a zone that was made at a name now is held, and has that name
+zone_at : (w : World) (n : Node) (p : Place) (keys : List (List ℕ)) → KeptAt w p n → n.standing ≡ apex keys
+    → HeldZone w n keys × (n.signer ≡ p)
+zone_at w n p keys k is =
+    let facts = k.0 (ap IsBogus is) in
+    let now : HoldsAt w.accepts n.bounds facts.0 n.name n.signer n.links (apex keys) (on_circle w.now) =
+    subst (λ (x : Standing). HoldsAt w.accepts n.bounds facts.0 n.name n.signer n.links x (on_circle w.now)) is (facts.2 w.now k.2 k.3) in
+    (held w n keys k.0 is k.2 k.3, sym now.0 ∙ k.1)
+
+-- a zone that was made at a name now
+zone_in : (w : World) (name : Place) (labels : ℕ) (n : Node) (keys : List (List ℕ)) → n.standing ≡ apex keys → KeptAt w (take labels name) n
+    → InZone w name labels (record { zone = n; node = n })
+zone_in w name labels n keys e k =
+    let at = zone_at w n (take labels name) keys k e in
+    record { zone_held = subst (HeldZone w n) (sym (ap held_keys e)) at.0; count = labels; at_most = omega arith; is = at.1 }
+
+-- after a node that was made at the next name
+pub after_kept : (w : World) (name : Place) (labels : ℕ) (r : Reached) (n : Node) (s : Standing) → n.standing ≡ s → InZone w name labels r
+    → KeptAt w (take (suc labels) name) n → OnTheWay w name (suc labels) (after r.zone n s)
+after_kept w name labels r n (apex keys) e z k = record { node_kept = k.0; in_zone = λ _. zone_in w name (suc labels) n keys e k }
+after_kept w name labels r n within e z k =
+    record { node_kept = k.0; in_zone = λ _. record { zone_held = z.zone_held; count = z.count; at_most = omega (arith, z.at_most); is = z.is } }
+after_kept w name labels r n (insecure cause signed) e z k = record { node_kept = k.0; in_zone = λ g. absurd (false≢true (sym (ap goes_on e) ∙ g)) }
+after_kept w name labels r n (bogus cause) e z k = record { node_kept = k.0; in_zone = λ g. absurd (false≢true (sym (ap goes_on e) ∙ g)) }
+
+onward_kept : (w : World) (replies : Replies) (name : Place) (labels : ℕ) (r : Reached) → suc labels ≤ length name
+    → OnTheWay w name labels r → OnTheWay w name (suc labels) (onward w replies r (take (suc labels) name))
+onward_kept w replies name labels r le o = by (goes_on r.node.standing) refl
+  where
+    further : InZone w name labels r
+        → OnTheWay w name (suc labels) (after r.zone (next w replies r (take (suc labels) name)) (next w replies r (take (suc labels) name)).standing)
+    further z =
+        let below : IsStrictlyBelow (take (suc labels) name) r.zone.signer = subst (λ (p : Place). IsStrictlyBelow (take (suc labels) name) p) (sym z.is) (strictly_taken name z.count (suc labels) (omega (arith, z.at_most)) le) in
+        after_kept w name labels r (next w replies r (take (suc labels) name)) (next w replies r (take (suc labels) name)).standing refl z (child_kept w replies r.zone (held_keys r.zone.standing) (take (suc labels) name) z.zone_held below)
+
+    by : (b : Bool) → goes_on r.node.standing ≡ b
+        → OnTheWay w name (suc labels) (cond b (after r.zone (next w replies r (take (suc labels) name)) (next w replies r (take (suc labels) name)).standing) r)
+    by true f = further (o.in_zone f)
+    by false f = record { node_kept = o.node_kept; in_zone = λ g. absurd (false≢true (sym f ∙ g)) }
+
+-- a walk begins at an island's node that is kept
+pub first_kept : (w : World) (top name : Place) (n : Node) (s : Standing) → n.standing ≡ s → (n.standing ≡ within → ⊥)
+    → top ≡ take (length top) name → KeptAt w top n → OnTheWay w name (length top) (record { zone = n; node = n })
+first_kept w top name n (apex keys) e never t k = record { node_kept = k.0; in_zone = λ _. zone_in w name (length top) n keys e (subst (λ (p : Place). KeptAt w p n) t k) }
+first_kept w top name n within e never t k = absurd (never e)
+first_kept w top name n (insecure cause signed) e never t k = record { node_kept = k.0; in_zone = λ g. absurd (false≢true (sym (ap goes_on e) ∙ g)) }
+first_kept w top name n (bogus cause) e never t k = record { node_kept = k.0; in_zone = λ g. absurd (false≢true (sym (ap goes_on e) ∙ g)) }
+
+-- each node on the way is kept
+pub way_kept : (w : World) (replies : Replies) (top name : Place) (k : ℕ) → top ≡ take (length top) name → length top + k ≤ length name
+    → OnTheWay w name (length top + k) (way w replies top name k)
+way_kept w replies top name zero t le =
+    let none : length top ≡ length top + 0 = omega arith in
+    subst (λ (m : ℕ). OnTheWay w name m (way w replies top name zero)) none (first_kept w top name (at_anchor w replies top) (at_anchor w replies top).standing refl (anchor_not_within w replies top) t (anchor_kept w replies top))
+way_kept w replies top name (suc k) t le =
+    let more : suc (length top + k) ≡ length top + suc k = omega arith in
+    subst (λ (m : ℕ). OnTheWay w name m (onward w replies (way w replies top name k) (take m name))) more
+    (onward_kept w replies name (length top + k) (way w replies top name k) (omega (arith, le)) (way_kept w replies top name k t (omega (arith, le))))
+
+-- the node of a name under an island is kept
+pub node_kept : (w : World) (replies : Replies) (top name : Place) → IsAtOrBelow name top → Kept w.accepts (node_of w replies top name)
+node_kept w replies top name below =
+    let long : length name ≡ length top + length below.under = ap length below.is ∙ length-append top below.under in
+    (way_kept w replies top name (length name - length top) (sym (ap (take (length top)) below.is ∙ take-append_seam top below.under)) (omega (arith, long))).node_kept
+
+-- the way to a name begins with the way to each name above it
+pub way_to : (w : World) (replies : Replies) (top name : Place) (k m : ℕ) → length top + k ≤ m
+    → way w replies top (take m name) k ≡ way w replies top name k
+way_to w replies top name zero m le = refl
+way_to w replies top name (suc k) m le =
+    let front : take (length top + suc k) (take m name) ≡ take (length top + suc k) name = take-take (length top + suc k) m name le in
+    ap (λ (r : Reached). onward w replies r (take (length top + suc k) (take m name))) (way_to w replies top name k m (omega (arith, le)))
+    ∙ ap (onward w replies (way w replies top name k)) front
