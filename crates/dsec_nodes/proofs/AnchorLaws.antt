@@ -117,7 +117,8 @@ from_tried_anchors w most group p e =
     }
 
 -- the node of an island, by a DNSKEY set that an anchor admits, is kept: a chain of one link, for as long as its signature allows (RFC 4035 5, 5.3.3)
-pub anchored_kept : (w : World) (top : Place) (group : Group) (p : Record × Admitted Record) → GoodByAnchor w group p → SetAt top DNSKEY group
+pub anchored_kept : (w : World) (top : Place) (group : Group) (p : Record × Admitted Record) → GoodByAnchor w group p
+    → SetAt top DNSKEY group
     → KeptAt w top (anchored w top group p)
 anchored_kept w top group p g at =
     let rest = min (least_ttl group.records) (ttl_for_sig p.0 (moment w)) in (

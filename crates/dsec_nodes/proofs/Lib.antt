@@ -7,3 +7,8 @@ pub mod ChildLaws
 pub mod AnchorLaws
 pub mod WalkLaws
 pub mod FoundLaws
+pub mod TakingLaws
+pub mod WayLaws
+pub mod NextLaws
+pub mod MachineLaws
+pub mod SoundWalk

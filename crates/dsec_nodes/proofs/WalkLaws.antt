@@ -10,6 +10,7 @@ use Rattle.dsec_nodes.specs.Walk.{at_anchor, Reached, held_keys, goes_on, after,
 use Rattle.dsec_nodes.proofs.KeptLaws.{held}
 use Rattle.dsec_nodes.proofs.ChildLaws.{child_kept}
 use Rattle.dsec_nodes.proofs.AnchorLaws.{anchor_kept, anchor_not_within}
+use Rattle.dsec_nodes.specs.SoundSteps.{InZone, OnTheWay}
 use Rattle.dsec_nodes.specs.Held.{HeldZone, KeptAt}
 
 -- of two fronts of a name, the longer is strictly below the other
@@ -18,18 +19,6 @@ strictly_taken [] j m a b = absurd (omega (arith, a, b))
 strictly_taken (x ∷ n) j zero a b = absurd (omega (arith, a))
 strictly_taken (x ∷ n) zero (suc m) a b = record { next = x; under = take m n; is = refl }
 strictly_taken (x ∷ n) (suc j) (suc m) a b = let r = strictly_taken n j m (omega (arith, a)) (omega (arith, b)) in record { next = r.next; under = r.under; is = ap (λ (p : Place). x ∷ p) r.is }
-
--- the last zone is held, and its name is a front of the name, of so many labels at most
-pub record InZone (w : World) (name : Place) (labels : ℕ) (r : Reached) : Type 0 where
-  pub zone_held : HeldZone w r.zone (held_keys r.zone.standing)
-  pub count : ℕ
-  pub at_most : count ≤ labels
-  pub is : r.zone.signer ≡ take count name
-
--- what is reached so many labels down the way: its node is kept, and where the walk goes on its last zone is held
-pub record OnTheWay (w : World) (name : Place) (labels : ℕ) (r : Reached) : Type 0 where
-  pub node_kept : Kept w.accepts r.node
-  pub in_zone : goes_on r.node.standing ≡ true → InZone w name labels r
 
 -- a zone that was made at a name now is held, and has that name
 zone_at : (w : World) (n : Node) (p : Place) (keys : List (List ℕ)) → KeptAt w p n → n.standing ≡ apex keys

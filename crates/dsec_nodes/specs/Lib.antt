@@ -9,3 +9,7 @@ pub mod MissingDs
 pub mod ByDs
 pub mod Walk
 pub mod Held
+pub mod Taking
+pub mod Machine
+pub mod InStep
+pub mod SoundSteps

@@ -1,0 +1,94 @@
+-- A node that passes the tests of a taker counts.
+use Rattle.std.proofs.Common.{◌≡◌, ℕ, ◌+◌, ◌||◌, Bool, true, false, List, [], ◌∷◌, Option, Some, None, refl, ap, ◌∙◌}
+use Rattle.std.specs.Prelude.{Contains}
+use Rattle.std.specs.List.{list_any}
+use Rattle.std.proofs.lemmas.Bool.{false≢true, and_parts, eqb-true, leb-true, not-true}
+use Rattle.std.proofs.lemmas.Slice.Eq.{bytes_eq-Decides}
+use Rattle.dsec_spec.specs.Names.{Place, place}
+use Rattle.dsec_spec.specs.Records.{Record}
+use Rattle.dsec_spec.proofs.CanonicalNames.{same_place_decides}
+use Rattle.dsec_spec.proofs.Members.{first_in, later_in}
+use Rattle.dsec_nodes.specs.World.{World, Bounds}
+use Rattle.dsec_nodes.specs.Nodes.{Node, IsBogus}
+use Rattle.dsec_nodes.specs.Taking.{same_anchor, rests_at, same_bounds, counts, IsListed, RestsAt, Taken}
+
+-- where one passes a test, there is one that does
+from_any : {A : Type 0} (test : A → Bool) (xs : List A) → list_any test xs ≡ true → (x : A) × Contains xs x × (test x ≡ true)
+from_any test [] e = absurd (false≢true e)
+from_any {A} test (x ∷ xs) e = by (from_any test xs) (test x) refl e
+  where
+    by : (list_any test xs ≡ true → (y : A) × Contains xs y × (test y ≡ true)) → (b : Bool) → test x ≡ b → (b || list_any test xs) ≡ true
+        → (y : A) × Contains (x ∷ xs) y × (test y ≡ true)
+    by others true t f = (x, first_in x xs, t)
+    by others false t f = let rest = others f in (rest.0, later_in x rest.0 xs rest.1, rest.2)
+
+-- an anchor that is found among these is one of them
+listed_by : (anchors : List Record) (anchor : Record) → list_any (same_anchor anchor) anchors ≡ true → IsListed anchors anchor
+listed_by anchors anchor e =
+    let one = from_any (same_anchor anchor) anchors e in
+    let all = and_parts _ _ one.2 in
+    let three = and_parts _ _ all.0 in
+    let two = and_parts _ _ three.0 in
+    record {
+      listed = one.0;
+      there = one.1;
+      same_owner = (same_place_decides (place anchor.owner) (place one.0.owner)).0 two.0;
+      same_class = eqb-true anchor.class one.0.class two.1;
+      same_type = eqb-true anchor.rtype one.0.rtype three.1;
+      same_data = (bytes_eq-Decides anchor.rdata one.0.rdata).0 all.1;
+    }
+
+-- a node's anchor that passes the test is one of these, at the place
+pub rests_by : (anchors : List Record) (top : Place) (n : Node) → rests_at anchors top n.anchor ≡ true → RestsAt anchors top n
+rests_by anchors top n e = by n.anchor refl e
+  where
+    by : (o : Option Record) → n.anchor ≡ o → rests_at anchors top o ≡ true → RestsAt anchors top n
+    by None its f = absurd (false≢true f)
+    by (Some anchor) its f =
+        let both = and_parts _ _ f in
+        record { anchor = anchor; its = its; at = (same_place_decides (place anchor.owner) top).0 both.0; is_listed = listed_by anchors anchor both.1 }
+
+abbrev bounds_of : ℕ → ℕ → ℕ → ℕ → ℕ → ℕ → ℕ → Bounds
+bounds_of room validity bogus ds_records keys insecure bogus_at = record {
+  room = room;
+  max_validity = validity;
+  max_bogus_validity = bogus;
+  max_ds_records = ds_records;
+  max_keys_for_ds = keys;
+  iterations_insecure = insecure;
+  iterations_bogus = bogus_at;
+}
+
+-- bounds that pass the test are the same
+pub bounds_same : (a b : Bounds) → same_bounds a b ≡ true → a ≡ b
+bounds_same a b e =
+    let s7 = and_parts _ _ e in
+    let s6 = and_parts _ _ s7.0 in
+    let s5 = and_parts _ _ s6.0 in
+    let s4 = and_parts _ _ s5.0 in
+    let s3 = and_parts _ _ s4.0 in
+    let s2 = and_parts _ _ s3.0 in
+    ap (λ (x : ℕ). bounds_of x a.max_validity a.max_bogus_validity a.max_ds_records a.max_keys_for_ds a.iterations_insecure a.iterations_bogus) (eqb-true a.room b.room s2.0)
+    ∙ (ap (λ (x : ℕ). bounds_of b.room x a.max_bogus_validity a.max_ds_records a.max_keys_for_ds a.iterations_insecure a.iterations_bogus) (eqb-true a.max_validity b.max_validity s2.1)
+    ∙ (ap (λ (x : ℕ). bounds_of b.room b.max_validity x a.max_ds_records a.max_keys_for_ds a.iterations_insecure a.iterations_bogus) (eqb-true a.max_bogus_validity b.max_bogus_validity s3.1)
+    ∙ (ap (λ (x : ℕ). bounds_of b.room b.max_validity b.max_bogus_validity x a.max_keys_for_ds a.iterations_insecure a.iterations_bogus) (eqb-true a.max_ds_records b.max_ds_records s4.1)
+    ∙ (ap (λ (x : ℕ). bounds_of b.room b.max_validity b.max_bogus_validity b.max_ds_records x a.iterations_insecure a.iterations_bogus) (eqb-true a.max_keys_for_ds b.max_keys_for_ds s5.1)
+    ∙ (ap (λ (x : ℕ). bounds_of b.room b.max_validity b.max_bogus_validity b.max_ds_records b.max_keys_for_ds x a.iterations_bogus) (eqb-true a.iterations_insecure b.iterations_insecure s6.1)
+    ∙ ap (λ (x : ℕ). bounds_of b.room b.max_validity b.max_bogus_validity b.max_ds_records b.max_keys_for_ds b.iterations_insecure x) (eqb-true a.iterations_bogus b.iterations_bogus s7.1))))))
+
+-- a node that passes the tests counts
+pub taken : (w : World) (top name : Place) (n : Node) → counts w top name n ≡ true → Taken w top name n
+taken w top name n e =
+    let all = and_parts _ _ e in
+    let four = and_parts _ _ all.0 in
+    let three = and_parts _ _ four.0 in
+    let two = and_parts _ _ three.0 in
+    let time = and_parts _ _ all.1 in
+    record {
+      not_bogus = not-true (IsBogus n.standing) two.0;
+      named = (same_place_decides n.name name).0 two.1;
+      rests = rests_by w.anchors top n three.1;
+      within = bounds_same n.bounds w.bounds four.1;
+      from = leb-true n.made w.now time.0;
+      to = leb-true w.now (n.made + n.valid_for) time.1;
+    }

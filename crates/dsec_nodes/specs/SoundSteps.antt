@@ -1,0 +1,62 @@
+-- Walks that are sound: what they reach, put and end with is kept (RFC 4035 4.5, 5).
+use Rattle.std.specs.Prelude.{◌≡◌, ℕ, suc, ◌+◌, ◌≤◌, true, length, take, Option, Some, None}
+use Rattle.dsec_spec.specs.Names.{Place}
+use Rattle.dsec_nodes.specs.World.{World}
+use Rattle.dsec_nodes.specs.Nodes.{Kept}
+use Rattle.dsec_nodes.specs.Walk.{Reached, held_keys, goes_on}
+use Rattle.dsec_nodes.specs.Held.{HeldZone, IsPending}
+use Rattle.dsec_nodes.specs.Machine.{Phase, begins, gets, asks_first, asks_keys, puts, ends, Walking, Step, node_get, node_put, ask, done, Input, begin, node, stored, reply, name_at, IsAhead}
+
+-- the last zone of what is reached is held, and its name is a front of this name, of so many labels at most
+pub record InZone (w : World) (name : Place) (labels : ℕ) (r : Reached) : Type 0 where
+  pub zone_held : HeldZone w r.zone (held_keys r.zone.standing)
+  pub count : ℕ
+  pub at_most : count ≤ labels
+  pub is : r.zone.signer ≡ take count name
+
+-- what is reached so many labels down the way to a name: its node is kept, and where the walk goes on its last zone is held
+pub record OnTheWay (w : World) (name : Place) (labels : ℕ) (r : Reached) : Type 0 where
+  pub node_kept : Kept w.accepts r.node
+  pub in_zone : goes_on r.node.standing ≡ true → InZone w name labels r
+
+-- what a walk has reached is on the way to its target
+abbrev pub SoundAt : World → Walking → Option Reached → Type 0
+SoundAt w s None = s.behind ≡ 0
+SoundAt w s (Some r) = (k : ℕ) × (s.behind ≡ suc k) × (length s.top + k ≤ length s.target) × OnTheWay w s.target (length s.top + k) r
+
+-- a DS set whose key set is waited for was signed by the last zone (RFC 4035 5.2)
+abbrev pub PendingSound : World → Walking → Phase → Option Reached → Type 0
+PendingSound w s (asks_keys pending) (Some r) = IsPending w r.zone (held_keys r.zone.standing) pending × (pending.name ≡ name_at s)
+PendingSound w s (asks_keys pending) None = Unit {0}
+PendingSound w s begins o = Unit {0}
+PendingSound w s gets o = Unit {0}
+PendingSound w s asks_first o = Unit {0}
+PendingSound w s puts o = Unit {0}
+PendingSound w s ends o = Unit {0}
+
+-- a walk that has reached, and waits for, what is kept
+pub record SoundStep (w : World) (s : Walking) : Type 0 where
+  pub below : s.top ≡ take (length s.top) s.target
+  pub shorter : length s.top ≤ length s.target
+  pub is_ahead : IsAhead s s.phase
+  pub on_way : SoundAt w s s.reached
+  pub pends : PendingSound w s s.phase s.reached
+
+-- a node that a walk is given is kept, from whichever moment it is
+abbrev pub InputKept : World → Input → Type 0
+InputKept w begin = Unit {0}
+InputKept w (node None) = Unit {0}
+InputKept w (node (Some n)) = Kept w.accepts n
+InputKept w stored = Unit {0}
+InputKept w (reply octets) = Unit {0}
+
+-- a node that is put, or ended with, is kept
+abbrev pub StepKept : World → Step → Type 0
+StepKept w (node_get name) = Unit {0}
+StepKept w (node_put name n) = Kept w.accepts n
+StepKept w (ask name rtype) = Unit {0}
+StepKept w (done n) = Kept w.accepts n
+
+-- a walk and its next step are sound
+abbrev pub Sound : World → Walking × Step → Type 0
+Sound w p = SoundStep w p.0 × StepKept w p.1
