@@ -10,6 +10,7 @@ pub mod ByDs
 pub mod Walk
 pub mod Held
 pub mod Taking
+pub mod Walking
 pub mod Machine
 pub mod InStep
 pub mod SoundSteps
