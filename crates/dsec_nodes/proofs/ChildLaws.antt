@@ -9,7 +9,7 @@ use Rattle.dsec_spec.specs.Groups.{Group, set_in}
 use Rattle.dsec_spec.specs.Trying.{Tried, good, nothing, all_bad, too_many_bad}
 use Rattle.dsec_spec.proofs.Members.{from_find, in_filter, not_in_none}
 use Rattle.dsec_nodes.specs.World.{World, Replies}
-use Rattle.dsec_nodes.specs.Causes.{NoSignature, BadSignature, TooManyBadSignatures, RequestFailed, RequestUnreadable, NoDnskey, NoSupportedDs, TooManyBadSignaturesForDnskey, BadSignatureForDnskey}
+use Rattle.dsec_nodes.specs.Causes.{Cause, NoSignature, BadSignature, TooManyBadSignatures, RequestFailed, RequestUnreadable, NoDnskey, NoSupportedDs, TooManyBadSignaturesForDnskey, BadSignatureForDnskey}
 use Rattle.dsec_nodes.specs.Nodes.{Node, ds_not_supported}
 use Rattle.dsec_nodes.specs.SignedCauses.{IsUnsupported}
 use Rattle.dsec_nodes.specs.Signing.{under_keys, is_expanded, is_set_at}
@@ -19,22 +19,22 @@ use Rattle.dsec_nodes.specs.ByDs.{is_supported, is_usable, usable, Pending, Belo
 use Rattle.dsec_nodes.specs.Walk.{finished, child}
 use Rattle.dsec_nodes.proofs.Signs.{from_under, from_tried_by}
 use Rattle.dsec_nodes.proofs.Lasting.{set_at}
-use Rattle.dsec_nodes.proofs.KeptLaws.{is_pending, bogus_kept, within_kept, insecure_kept, apex_kept}
-use Rattle.dsec_nodes.proofs.MissingLaws.{either, missing_kept}
-use Rattle.dsec_nodes.specs.Held.{GoodPair, HeldZone, IsPending, KeptAt, SetAt}
+use Rattle.dsec_nodes.proofs.KeptLaws.{KeptBelow, bogus_below, is_pending, within_kept, insecure_kept, apex_kept}
+use Rattle.dsec_nodes.proofs.MissingLaws.{either, missing_below}
+use Rattle.dsec_nodes.specs.Held.{BelowKept, GoodPair, HeldZone, IsPending, KeptAt, SetAt}
 
--- what comes of a reply to the question for a DS set is kept, or a DS set that was signed
-abbrev pub BelowKept : World → Node → List (List ℕ) → Place → Below → Type 0
-BelowKept w zone keys name (made n) = KeptAt w name n
-BelowKept w zone keys name (asks pending) = IsPending w zone keys pending × (pending.name ≡ name)
+-- what comes of a reply to the question for a DS set is kept and follows from the zone, or is a DS set that the zone has signed
+abbrev pub BelowFollows : World → Node → List (List ℕ) → Place → Below → Type 0
+BelowFollows w zone keys name (made n) = KeptBelow w zone name n
+BelowFollows w zone keys name (asks pending) = IsPending w zone keys pending × (pending.name ≡ name)
 
 one_kept : (w : World) (zone : Node) (keys : List (List ℕ)) (name : Place) (group : Group) (by : Record × Key → Below) (t : Tried (Record × Key)) → under_keys w zone.signer keys group ≡ t
-    → ((p : Record × Key) → GoodPair w zone.signer keys group p → BelowKept w zone keys name (by p))
-    → BelowKept w zone keys name (if_one w name t by)
+    → ((p : Record × Key) → GoodPair w zone.signer keys group p → BelowFollows w zone keys name (by p))
+    → BelowFollows w zone keys name (if_one w name t by)
 one_kept w zone keys name group by (good p) e each = each p (from_under w zone.signer keys group p e)
-one_kept w zone keys name group by nothing e each = bogus_kept w name NoSignature
-one_kept w zone keys name group by all_bad e each = bogus_kept w name BadSignature
-one_kept w zone keys name group by too_many_bad e each = bogus_kept w name TooManyBadSignatures
+one_kept w zone keys name group by nothing e each = bogus_below w zone name NoSignature
+one_kept w zone keys name group by all_bad e each = bogus_below w zone name BadSignature
+one_kept w zone keys name group by too_many_bad e each = bogus_below w zone name TooManyBadSignatures
 
 none_usable : (datas : List (List ℕ)) → (length (usable datas) == 0) ≡ true → (x : List ℕ) → Contains datas x → IsUnsupported x
 none_usable datas e x there ds says supported =
@@ -47,66 +47,103 @@ none_usable datas e x there ds says supported =
 
 alias_kept : (w : World) (zone : Node) (keys : List (List ℕ)) (name : Place) (authorities : List Group) (o : Option Group)
     → HeldZone w zone keys → IsStrictlyBelow name zone.signer
-    → BelowKept w zone keys name (by_alias w zone keys name authorities o)
-alias_kept w zone keys name authorities None h below = missing_kept w zone keys name authorities h below
+    → BelowFollows w zone keys name (by_alias w zone keys name authorities o)
+alias_kept w zone keys name authorities None h below = missing_below w zone keys name authorities h below
 alias_kept w zone keys name authorities (Some group) h below =
-    either (BelowKept w zone keys name) (length group.records == 1) _ _
+    either (BelowFollows w zone keys name) (length group.records == 1) _ _
     (λ _. one_kept w zone keys name group _ (under_keys w zone.signer keys group) refl (λ p g.
-    either (BelowKept w zone keys name) (is_expanded group p.0) _ _ (λ _. missing_kept w zone keys name authorities h below) (λ _. within_kept w zone keys name group p h)))
-    (λ _. missing_kept w zone keys name authorities h below)
+    either (BelowFollows w zone keys name) (is_expanded group p.0) _ _ (λ _. missing_below w zone keys name authorities h below) (λ _. (within_kept w zone keys name group p h, λ _. refl))))
+    (λ _. missing_below w zone keys name authorities h below)
 
 signed_ds_kept : (w : World) (zone : Node) (keys : List (List ℕ)) (name : Place) (group : Group) (p : Record × Key) → HeldZone w zone keys
     → IsStrictlyBelow name zone.signer → SetAt name DS group
     → GoodPair w zone.signer keys group p → is_expanded group p.0 ≡ false
-    → BelowKept w zone keys name (by_signed_ds w zone keys name group p)
+    → BelowFollows w zone keys name (by_signed_ds w zone keys name group p)
 signed_ds_kept w zone keys name group p h below at g whole =
-    either (BelowKept w zone keys name) (length (usable (set_in group).datas) == 0) _ _
-    (λ none. insecure_kept w zone keys name (Some NoSupportedDs) ds_not_supported group p h g at.at at.of_class below whole (record { of_type = at.of_type; at = at.at; none = none_usable (set_in group).datas none }))
+    either (BelowFollows w zone keys name) (length (usable (set_in group).datas) == 0) _ _
+    (λ none. (
+      insecure_kept w zone keys name (Some NoSupportedDs) ds_not_supported group p h g at.at at.of_class below whole (record {
+        of_type = at.of_type;
+        at = at.at;
+        none = none_usable (set_in group).datas none;
+      }),
+      λ _. refl,
+    ))
     (λ _. (is_pending w zone keys name group p g at below, refl))
 
 ds_set_kept : (w : World) (zone : Node) (keys : List (List ℕ)) (name : Place) (answers authorities : List Group) (o : Option Group)
     → find (is_set_at name DS) answers ≡ o → HeldZone w zone keys → IsStrictlyBelow name zone.signer
-    → BelowKept w zone keys name (by_ds_set w zone keys name answers authorities o)
+    → BelowFollows w zone keys name (by_ds_set w zone keys name answers authorities o)
 ds_set_kept w zone keys name answers authorities None e h below = alias_kept w zone keys name authorities (find (is_set_at name CNAME) answers) h below
 ds_set_kept w zone keys name answers authorities (Some group) e h below =
     let at = set_at name DS group (from_find (is_set_at name DS) answers group e).0 in
     one_kept w zone keys name group _ (under_keys w zone.signer keys group) refl (λ p g.
-    either (BelowKept w zone keys name) (is_expanded group p.0) _ _
+    either (BelowFollows w zone keys name) (is_expanded group p.0) _ _
     (λ _. alias_kept w zone keys name authorities (find (is_set_at name CNAME) answers) h below)
     (λ whole. signed_ds_kept w zone keys name group p h below at g whole))
+
+-- what the reply to the question for a DS set comes to follows from the zone
+pub ds_reply_below : (w : World) (zone : Node) (keys : List (List ℕ)) (name : Place) (reply : Reply) → HeldZone w zone keys
+    → IsStrictlyBelow name zone.signer → BelowFollows w zone keys name (by_ds_reply w zone keys name reply)
+ds_reply_below w zone keys name failed h below = bogus_below w zone name RequestFailed
+ds_reply_below w zone keys name unreadable h below = bogus_below w zone name RequestUnreadable
+ds_reply_below w zone keys name (sections answers authorities) h below = ds_set_kept w zone keys name answers authorities (find (is_set_at name DS) answers) refl h below
+
+key_set_below : (w : World) (zone : Node) (keys : List (List ℕ)) (pending : Pending) (answers : List Group) (o : Option Group)
+    → find (is_set_at pending.name DNSKEY) answers ≡ o → HeldZone w zone keys → IsPending w zone keys pending
+    → KeptBelow w zone pending.name (by_key_set w zone pending o)
+key_set_below w zone keys pending answers None e h d = bogus_below w zone pending.name NoDnskey
+key_set_below w zone keys pending answers (Some group) e h d = by (tried_by w group (ds_search w.bounds.max_keys_for_ds group) (ways w pending)) refl
+  where
+    why : Cause
+    why = none_by w pending (cause_among BadSignatureForDnskey group (ds_search w.bounds.max_keys_for_ds group) (ways w pending))
+
+    by : (t : Tried (Record × Admitted (List ℕ))) → tried_by w group (ds_search w.bounds.max_keys_for_ds group) (ways w pending) ≡ t
+        → KeptBelow w zone pending.name (by_tried w zone pending group t)
+    by (good p) f = (
+      apex_kept w zone keys pending group p h d (from_tried_by w w.bounds.max_keys_for_ds group (ways w pending) p f)
+          (set_at pending.name DNSKEY group (from_find (is_set_at pending.name DNSKEY) answers group e).0),
+      λ _. refl,
+    )
+    by nothing f = bogus_below w zone pending.name why
+    by all_bad f = bogus_below w zone pending.name why
+    by too_many_bad f = bogus_below w zone pending.name TooManyBadSignaturesForDnskey
+
+-- what the reply to the question for a DNSKEY set comes to, after a signed DS set, follows from the zone
+pub key_reply_below : (w : World) (zone : Node) (keys : List (List ℕ)) (pending : Pending) (reply : Reply) → HeldZone w zone keys
+    → IsPending w zone keys pending → KeptBelow w zone pending.name (by_key_reply w zone pending reply)
+key_reply_below w zone keys pending failed h d = bogus_below w zone pending.name RequestFailed
+key_reply_below w zone keys pending unreadable h d = bogus_below w zone pending.name RequestUnreadable
+key_reply_below w zone keys pending (sections answers authorities) h d =
+    key_set_below w zone keys pending answers (find (is_set_at pending.name DNSKEY) answers) refl h d
+
+-- the node of a name strictly below a held zone is kept, and follows from it
+pub child_below : (w : World) (replies : Replies) (zone : Node) (keys : List (List ℕ)) (name : Place) → HeldZone w zone keys
+    → IsStrictlyBelow name zone.signer → KeptBelow w zone name (child w replies zone keys name)
+child_below w replies zone keys name h below =
+    by (by_ds_reply w zone keys name (read_reply (replies name DS))) (ds_reply_below w zone keys name (read_reply (replies name DS)) h below)
+  where
+    by : (b : Below) → BelowFollows w zone keys name b → KeptBelow w zone name (finished w replies zone name b)
+    by (made n) p = p
+    by (asks pending) p =
+        subst (λ (x : Place). KeptBelow w zone x (finished w replies zone name (asks pending))) p.1
+        (key_reply_below w zone keys pending (read_reply (replies name DNSKEY)) h p.0)
 
 -- what the reply to the question for a DS set comes to is a kept node, or a DS set that the zone has signed (RFC 4035 5.2)
 pub ds_reply_kept : (w : World) (zone : Node) (keys : List (List ℕ)) (name : Place) (reply : Reply) → HeldZone w zone keys
     → IsStrictlyBelow name zone.signer → BelowKept w zone keys name (by_ds_reply w zone keys name reply)
-ds_reply_kept w zone keys name failed h below = bogus_kept w name RequestFailed
-ds_reply_kept w zone keys name unreadable h below = bogus_kept w name RequestUnreadable
-ds_reply_kept w zone keys name (sections answers authorities) h below = ds_set_kept w zone keys name answers authorities (find (is_set_at name DS) answers) refl h below
-
-key_set_kept : (w : World) (zone : Node) (keys : List (List ℕ)) (pending : Pending) (answers : List Group) (o : Option Group)
-    → find (is_set_at pending.name DNSKEY) answers ≡ o → HeldZone w zone keys → IsPending w zone keys pending
-    → KeptAt w pending.name (by_key_set w zone pending o)
-key_set_kept w zone keys pending answers None e h d = bogus_kept w pending.name NoDnskey
-key_set_kept w zone keys pending answers (Some group) e h d = by (tried_by w group (ds_search w.bounds.max_keys_for_ds group) (ways w pending)) refl
+ds_reply_kept w zone keys name reply h below = by (by_ds_reply w zone keys name reply) (ds_reply_below w zone keys name reply h below)
   where
-    by : (t : Tried (Record × Admitted (List ℕ))) → tried_by w group (ds_search w.bounds.max_keys_for_ds group) (ways w pending) ≡ t
-        → KeptAt w pending.name (by_tried w zone pending group t)
-    by (good p) f = apex_kept w zone keys pending group p h d (from_tried_by w w.bounds.max_keys_for_ds group (ways w pending) p f) (set_at pending.name DNSKEY group (from_find (is_set_at pending.name DNSKEY) answers group e).0)
-    by nothing f = bogus_kept w pending.name (none_by w pending (cause_among BadSignatureForDnskey group (ds_search w.bounds.max_keys_for_ds group) (ways w pending)))
-    by all_bad f = bogus_kept w pending.name (none_by w pending (cause_among BadSignatureForDnskey group (ds_search w.bounds.max_keys_for_ds group) (ways w pending)))
-    by too_many_bad f = bogus_kept w pending.name TooManyBadSignaturesForDnskey
+    by : (b : Below) → BelowFollows w zone keys name b → BelowKept w zone keys name b
+    by (made n) p = p.0
+    by (asks pending) p = p
 
 -- what the reply to the question for a DNSKEY set comes to, after a signed DS set, is kept (RFC 4035 5.2)
 pub key_reply_kept : (w : World) (zone : Node) (keys : List (List ℕ)) (pending : Pending) (reply : Reply) → HeldZone w zone keys
     → IsPending w zone keys pending → KeptAt w pending.name (by_key_reply w zone pending reply)
-key_reply_kept w zone keys pending failed h d = bogus_kept w pending.name RequestFailed
-key_reply_kept w zone keys pending unreadable h d = bogus_kept w pending.name RequestUnreadable
-key_reply_kept w zone keys pending (sections answers authorities) h d = key_set_kept w zone keys pending answers (find (is_set_at pending.name DNSKEY) answers) refl h d
+key_reply_kept w zone keys pending reply h d = (key_reply_below w zone keys pending reply h d).0
 
 -- the node of a name strictly below a held zone is kept
 pub child_kept : (w : World) (replies : Replies) (zone : Node) (keys : List (List ℕ)) (name : Place) → HeldZone w zone keys
     → IsStrictlyBelow name zone.signer → KeptAt w name (child w replies zone keys name)
-child_kept w replies zone keys name h below = by (by_ds_reply w zone keys name (read_reply (replies name DS))) (ds_reply_kept w zone keys name (read_reply (replies name DS)) h below)
-  where
-    by : (b : Below) → BelowKept w zone keys name b → KeptAt w name (finished w replies zone name b)
-    by (made n) p = p
-    by (asks pending) p = subst (λ (x : Place). KeptAt w x (finished w replies zone name (asks pending))) p.1 (key_reply_kept w zone keys pending (read_reply (replies name DNSKEY)) h p.0)
+child_kept w replies zone keys name h below = (child_below w replies zone keys name h below).0

@@ -15,14 +15,14 @@ use Rattle.dsec_nodes.specs.Nodes.{Node, nsec_without_ds}
 use Rattle.dsec_nodes.specs.Signing.{under_keys, is_expanded}
 use Rattle.dsec_nodes.specs.MissingDs.{Looked, decided, passed, if_signed, is_in_range, delegates, by_matching, by_covering, by_range, by_prefix, by_nsec, by_records, by_group, then_looked, nsec_search, nsec3_search, by_looked, missing_ds}
 use Rattle.dsec_nodes.proofs.Signs.{from_under}
-use Rattle.dsec_nodes.proofs.KeptLaws.{bogus_kept, within_kept, insecure_kept}
+use Rattle.dsec_nodes.proofs.KeptLaws.{KeptBelow, bogus_below, within_kept, insecure_kept}
 use Rattle.dsec_spec.specs.TypeBitmaps.{has_type}
 use Rattle.dsec_nodes.specs.Held.{GoodPair, HeldZone, KeptAt}
 
 -- what a group shows is kept, if it is a node
-abbrev pub LookedKept : World → Place → Looked → Type 0
-LookedKept w name (decided n) = KeptAt w name n
-LookedKept w name (passed cause) = Unit {0}
+abbrev pub LookedKept : World → Node → Place → Looked → Type 0
+LookedKept w zone name (decided n) = KeptBelow w zone name n
+LookedKept w zone name (passed cause) = Unit {0}
 
 -- a choice by a test
 pub either : {A : Type 0} (P : A → Type 0) (b : Bool) (x y : A) → (b ≡ true → P x) → (b ≡ false → P y) → P (cond b x y)
@@ -30,11 +30,11 @@ either P true x y p q = p refl
 either P false x y p q = q refl
 
 signed_kept : (w : World) (zone : Node) (keys : List (List ℕ)) (name : Place) (group : Group) (by : Record × Key → Looked) (t : Tried (Record × Key)) → under_keys w zone.signer keys group ≡ t
-    → ((p : Record × Key) → GoodPair w zone.signer keys group p → LookedKept w name (by p)) → LookedKept w name (if_signed w name t by)
+    → ((p : Record × Key) → GoodPair w zone.signer keys group p → LookedKept w zone name (by p)) → LookedKept w zone name (if_signed w name t by)
 signed_kept w zone keys name group by (good p) e each = each p (from_under w zone.signer keys group p e)
-signed_kept w zone keys name group by nothing e each = bogus_kept w name NoSignature
-signed_kept w zone keys name group by all_bad e each = bogus_kept w name BadSignature
-signed_kept w zone keys name group by too_many_bad e each = bogus_kept w name TooManyBadSignatures
+signed_kept w zone keys name group by nothing e each = bogus_below w zone name NoSignature
+signed_kept w zone keys name group by all_bad e each = bogus_below w zone name BadSignature
+signed_kept w zone keys name group by too_many_bad e each = bogus_below w zone name TooManyBadSignatures
 
 -- one record of NSEC, below a held zone
 pub record NsecGroup (w : World) (zone : Node) (keys : List (List ℕ)) (name : Place) (group : Group) (nsec : Nsec) : Type 0 where
@@ -48,88 +48,96 @@ pub record NsecGroup (w : World) (zone : Node) (keys : List (List ℕ)) (name : 
 
 matching_kept : (w : World) (zone : Node) (keys : List (List ℕ)) (name : Place) (group : Group) (nsec : Nsec) (p : Record × Key)
     → NsecGroup w zone keys name group nsec → place group.owner ≡ name
-    → GoodPair w zone.signer keys group p → LookedKept w name (by_matching w zone keys name group nsec p)
+    → GoodPair w zone.signer keys group p → LookedKept w zone name (by_matching w zone keys name group nsec p)
 matching_kept w zone keys name group nsec p n at g =
-    either (LookedKept w name) (is_expanded group p.0) _ _ (λ _. bogus_kept w name NsecForDsFromWildcard) (λ whole.
-    either (LookedKept w name) (has_type nsec.types DS) _ _ (λ _. bogus_kept w name NsecProvesDs) (λ no_ds.
-    either (LookedKept w name) (has_type nsec.types SOA) _ _ (λ _. bogus_kept w name NsecForDsFromApex) (λ no_apex.
-    either (LookedKept w name) (has_type nsec.types NS) _ _
-    (λ cut. insecure_kept w zone keys name None nsec_without_ds group p n.zone_held g at n.of_class n.below whole (record {
-      of_type = n.of_type;
-      rdata = n.one.rdata;
-      alone = ap (map (λ (r : Record). r.rdata)) n.alone;
-      nsec = nsec;
-      reads = n.reads;
-      matches = at;
-      delegates = cut;
-      no_ds = no_ds;
-      no_apex = no_apex;
-    }))
-    (λ _. within_kept w zone keys name group p n.zone_held))))
+    either (LookedKept w zone name) (is_expanded group p.0) _ _ (λ _. bogus_below w zone name NsecForDsFromWildcard) (λ whole.
+    either (LookedKept w zone name) (has_type nsec.types DS) _ _ (λ _. bogus_below w zone name NsecProvesDs) (λ no_ds.
+    either (LookedKept w zone name) (has_type nsec.types SOA) _ _ (λ _. bogus_below w zone name NsecForDsFromApex) (λ no_apex.
+    either (LookedKept w zone name) (has_type nsec.types NS) _ _
+    (λ cut. (
+      insecure_kept w zone keys name None nsec_without_ds group p n.zone_held g at n.of_class n.below whole (record {
+        of_type = n.of_type;
+        rdata = n.one.rdata;
+        alone = ap (map (λ (r : Record). r.rdata)) n.alone;
+        nsec = nsec;
+        reads = n.reads;
+        matches = at;
+        delegates = cut;
+        no_ds = no_ds;
+        no_apex = no_apex;
+      }),
+      λ _. refl,
+    ))
+    (λ _. (within_kept w zone keys name group p n.zone_held, λ _. refl)))))
 
 range_kept : (w : World) (zone : Node) (keys : List (List ℕ)) (name : Place) (group : Group) (nsec : Nsec) → HeldZone w zone keys
-    → LookedKept w name (by_range w zone keys name group nsec)
+    → LookedKept w zone name (by_range w zone keys name group nsec)
 range_kept w zone keys name group nsec h =
-    either (LookedKept w name) (is_in_range (place group.owner) (place nsec.next_name) name && is_below (place nsec.next_name) name) _ _
+    either (LookedKept w zone name) (is_in_range (place group.owner) (place nsec.next_name) name && is_below (place nsec.next_name) name) _ _
     (λ _. signed_kept w zone keys name group (by_covering w zone name group) (under_keys w zone.signer keys group) refl (λ p g.
-    either (LookedKept w name) (is_expanded group p.0) _ _ (λ _. bogus_kept w name EmptyNonTerminalNsecFromWildcard) (λ _. within_kept w zone keys name group p h)))
+    either (LookedKept w zone name) (is_expanded group p.0) _ _ (λ _. bogus_below w zone name EmptyNonTerminalNsecFromWildcard) (λ _. (within_kept w zone keys name group p h, λ _. refl))))
     (λ _. tt)
 
 prefix_kept : (w : World) (zone : Node) (keys : List (List ℕ)) (name : Place) (group : Group) (nsec : Nsec) (p : Record × Key)
-    → HeldZone w zone keys → LookedKept w name (by_prefix w zone keys name group nsec p)
+    → HeldZone w zone keys → LookedKept w zone name (by_prefix w zone keys name group nsec p)
 prefix_kept w zone keys name group nsec p h =
-    either (LookedKept w name) (is_expanded group p.0) _ _ (λ _. bogus_kept w name PrefixNsecFromWildcard) (λ _.
-    either (LookedKept w name) (has_type nsec.types DNAME) _ _ (λ _. bogus_kept w name PrefixNsecIsDname) (λ _.
-    either (LookedKept w name) (delegates nsec) _ _ (λ _. bogus_kept w name PrefixNsecIsDelegation) (λ _. range_kept w zone keys name group nsec h)))
+    either (LookedKept w zone name) (is_expanded group p.0) _ _ (λ _. bogus_below w zone name PrefixNsecFromWildcard) (λ _.
+    either (LookedKept w zone name) (has_type nsec.types DNAME) _ _ (λ _. bogus_below w zone name PrefixNsecIsDname) (λ _.
+    either (LookedKept w zone name) (delegates nsec) _ _ (λ _. bogus_below w zone name PrefixNsecIsDelegation) (λ _. range_kept w zone keys name group nsec h)))
 
 nsec_kept : (w : World) (zone : Node) (keys : List (List ℕ)) (name : Place) (group : Group) (nsec : Nsec)
-    → NsecGroup w zone keys name group nsec → LookedKept w name (by_nsec w zone keys name group (Some nsec))
+    → NsecGroup w zone keys name group nsec → LookedKept w zone name (by_nsec w zone keys name group (Some nsec))
 nsec_kept w zone keys name group nsec n =
-    either (LookedKept w name) (same_place (place group.owner) name) _ _
+    either (LookedKept w zone name) (same_place (place group.owner) name) _ _
     (λ same. signed_kept w zone keys name group (by_matching w zone keys name group nsec) (under_keys w zone.signer keys group) refl (λ p g. matching_kept w zone keys name group nsec p n ((same_place_decides (place group.owner) name).0 same) g))
-    (λ _. either (LookedKept w name) (is_strictly_below name (place group.owner)) _ _
+    (λ _. either (LookedKept w zone name) (is_strictly_below name (place group.owner)) _ _
     (λ _. signed_kept w zone keys name group (by_prefix w zone keys name group nsec) (under_keys w zone.signer keys group) refl (λ p g. prefix_kept w zone keys name group nsec p n.zone_held))
     (λ _. range_kept w zone keys name group nsec n.zone_held))
 
 group_kept : (w : World) (zone : Node) (keys : List (List ℕ)) (name : Place) (group : Group) → HeldZone w zone keys
-    → IsStrictlyBelow name zone.signer → LookedKept w name (by_group w zone keys name group)
+    → IsStrictlyBelow name zone.signer → LookedKept w zone name (by_group w zone keys name group)
 group_kept w zone keys name group h below =
-    either (LookedKept w name) ((group.rtype == NSEC) && (group.class == IN)) _ _ (λ e. by_list e group.records refl) (λ _. tt)
+    either (LookedKept w zone name) ((group.rtype == NSEC) && (group.class == IN)) _ _ (λ e. by_list e group.records refl) (λ _. tt)
   where
     by_read : ((group.rtype == NSEC) && (group.class == IN)) ≡ true → (r : Record) → group.records ≡ r ∷ [] → (o : Option Nsec)
-        → nsec_of r.rdata ≡ o → LookedKept w name (by_nsec w zone keys name group o)
+        → nsec_of r.rdata ≡ o → LookedKept w zone name (by_nsec w zone keys name group o)
     by_read e r f None g = tt
     by_read e r f (Some nsec) g =
         let both = and_parts _ _ e in
         nsec_kept w zone keys name group nsec (record { zone_held = h; below = below; of_class = eqb-true group.class IN both.1; of_type = eqb-true group.rtype NSEC both.0; one = r; alone = f; reads = g })
 
     by_list : ((group.rtype == NSEC) && (group.class == IN)) ≡ true → (rs : List Record) → group.records ≡ rs
-        → LookedKept w name (by_records w zone keys name group rs)
+        → LookedKept w zone name (by_records w zone keys name group rs)
     by_list e [] f = tt
     by_list e (r ∷ []) f = by_read e r f (nsec_of r.rdata) refl
     by_list e (r ∷ s ∷ rs) f = tt
 
-then_kept : (w : World) (name : Place) (first later : Looked) → LookedKept w name first → LookedKept w name later
-    → LookedKept w name (then_looked first later)
-then_kept w name (decided n) later p q = p
-then_kept w name (passed cause) (decided n) p q = q
-then_kept w name (passed cause) (passed None) p q = tt
-then_kept w name (passed cause) (passed (Some later)) p q = tt
+then_kept : (w : World) (zone : Node) (name : Place) (first later : Looked) → LookedKept w zone name first → LookedKept w zone name later
+    → LookedKept w zone name (then_looked first later)
+then_kept w zone name (decided n) later p q = p
+then_kept w zone name (passed cause) (decided n) p q = q
+then_kept w zone name (passed cause) (passed None) p q = tt
+then_kept w zone name (passed cause) (passed (Some later)) p q = tt
 
 search_kept : (w : World) (zone : Node) (keys : List (List ℕ)) (name : Place) (groups : List Group) → HeldZone w zone keys
-    → IsStrictlyBelow name zone.signer → LookedKept w name (nsec_search w zone keys name groups)
+    → IsStrictlyBelow name zone.signer → LookedKept w zone name (nsec_search w zone keys name groups)
 unfolding nsec_search
 search_kept w zone keys name [] h below = tt
-search_kept w zone keys name (g ∷ gs) h below = then_kept w name (by_group w zone keys name g) (nsec_search w zone keys name gs) (group_kept w zone keys name g h below) (search_kept w zone keys name gs h below)
+search_kept w zone keys name (g ∷ gs) h below = then_kept w zone name (by_group w zone keys name g) (nsec_search w zone keys name gs) (group_kept w zone keys name g h below) (search_kept w zone keys name gs h below)
+
+-- what is known of a name by a reply without a DS set for it is kept, and follows from the zone
+pub missing_below : (w : World) (zone : Node) (keys : List (List ℕ)) (name : Place) (groups : List Group) → HeldZone w zone keys
+    → IsStrictlyBelow name zone.signer → KeptBelow w zone name (missing_ds w zone keys name groups)
+missing_below w zone keys name groups h below = by (then_looked (nsec_search w zone keys name groups) (nsec3_search w zone keys name groups))
+    (then_kept w zone name (nsec_search w zone keys name groups) (nsec3_search w zone keys name groups) (search_kept w zone keys name groups h below)
+    (either (LookedKept w zone name) (list_any (λ g. g.rtype == NSEC3) groups) _ _ (λ _. bogus_below w zone name NotBuilt) (λ _. tt)))
+  where
+    by : (l : Looked) → LookedKept w zone name l → KeptBelow w zone name (by_looked w name l)
+    by (decided n) p = p
+    by (passed None) p = bogus_below w zone name NoProofForMissingDs
+    by (passed (Some cause)) p = bogus_below w zone name cause
 
 -- what is known of a name by a reply without a DS set for it is kept
 pub missing_kept : (w : World) (zone : Node) (keys : List (List ℕ)) (name : Place) (groups : List Group) → HeldZone w zone keys
     → IsStrictlyBelow name zone.signer → KeptAt w name (missing_ds w zone keys name groups)
-missing_kept w zone keys name groups h below = by (then_looked (nsec_search w zone keys name groups) (nsec3_search w zone keys name groups))
-    (then_kept w name (nsec_search w zone keys name groups) (nsec3_search w zone keys name groups) (search_kept w zone keys name groups h below)
-    (either (LookedKept w name) (list_any (λ g. g.rtype == NSEC3) groups) _ _ (λ _. bogus_kept w name NotBuilt) (λ _. tt)))
-  where
-    by : (l : Looked) → LookedKept w name l → KeptAt w name (by_looked w name l)
-    by (decided n) p = p
-    by (passed None) p = bogus_kept w name NoProofForMissingDs
-    by (passed (Some cause)) p = bogus_kept w name cause
+missing_kept w zone keys name groups h below = (missing_below w zone keys name groups h below).0

@@ -10,9 +10,9 @@ use Rattle.dsec_nodes.specs.ByDs.{Pending, Below, made, asks, by_ds_reply, by_ke
 use Rattle.dsec_nodes.specs.Walk.{by_anchor_reply, Reached, held_keys, after, may_stand}
 use Rattle.dsec_nodes.specs.Machine.{started, Question, Phase, begins, gets, asks_first, asks_keys, puts, ends, Walking, node_get, node_put, done, Input, begin, node, stored, reply, name_at, arrived, in_phase, is_further, ahead_from, ahead, with_got, asking, given, heard, with_node, made_by, making, below_by, first_reply, key_reply, replied, advanced, IsFurther, Answers}
 use Rattle.dsec_nodes.specs.Taking.{counts}
-use Rattle.dsec_nodes.specs.Held.{KeptAt}
+use Rattle.dsec_nodes.specs.Held.{BelowKept, KeptAt}
 use Rattle.dsec_nodes.specs.SoundSteps.{InZone, OnTheWay, SoundAt, PendingSound, SoundStep, InputKept, Sound}
-use Rattle.dsec_nodes.proofs.ChildLaws.{BelowKept, ds_reply_kept, key_reply_kept}
+use Rattle.dsec_nodes.proofs.ChildLaws.{ds_reply_kept, key_reply_kept}
 use Rattle.dsec_nodes.proofs.AnchorLaws.{anchor_reply_kept, anchor_reply_not_within}
 use Rattle.dsec_nodes.proofs.WalkLaws.{strictly_taken, after_kept, first_kept}
 use Rattle.dsec_nodes.proofs.TakingLaws.{taken}

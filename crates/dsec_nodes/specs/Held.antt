@@ -12,7 +12,7 @@ use Rattle.dsec_nodes.specs.World.{World, moment, on_circle}
 use Rattle.dsec_nodes.specs.Nodes.{Node, Kept}
 use Rattle.dsec_nodes.specs.Signing.{data_of, time_left}
 use Rattle.dsec_nodes.specs.Admission.{Admitted}
-use Rattle.dsec_nodes.specs.ByDs.{Pending}
+use Rattle.dsec_nodes.specs.ByDs.{Pending, Below, made, asks}
 
 -- a zone with these keys: a chain leads to them, from the moment of judging on for as long as the node is kept (RFC 4035 4.5)
 pub record HeldZone (w : World) (zone : Node) (keys : List (List ℕ)) : Type 0 where
@@ -87,3 +87,9 @@ pub record IsPending (w : World) (zone : Node) (keys : List (List ℕ)) (pending
   pub at : place pending.link.records.owner ≡ pending.name
   pub no_longer : pending.valid_for ≤ time_left w zone
   pub signed : (s : ℕ) → w.now ≤ s → s ≤ w.now + pending.valid_for → IsDsLink w.accepts zone.signer keys pending.link (on_circle s)
+
+-- what a reply to the question for a DS set comes to is a kept node of the name, or a DS set at the name that the zone has signed
+-- (RFC 4035 5.2)
+abbrev pub BelowKept : World → Node → List (List ℕ) → Place → Below → Type 0
+BelowKept w zone keys name (made n) = KeptAt w name n
+BelowKept w zone keys name (asks pending) = IsPending w zone keys pending × (pending.name ≡ name)

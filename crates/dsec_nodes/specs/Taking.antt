@@ -58,3 +58,7 @@ pub record Taken (w : World) (top name : Place) (n : Node) : Type 0 where
   pub within : n.bounds ≡ w.bounds
   pub from : n.made ≤ w.now
   pub to : w.now ≤ n.made + n.valid_for
+
+-- a node that isn't bogus has an anchor of the island's (RFC 4033 2, island of security)
+abbrev pub Rests : List Record → Place → Node → Type 0
+Rests anchors top n = IsBogus n.standing ≡ false → RestsAt anchors top n
