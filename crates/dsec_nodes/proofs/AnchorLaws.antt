@@ -5,7 +5,7 @@ use Rattle.std.specs.List.{position_or_len}
 use Rattle.std.specs.Prelude.{length, nat_lt}
 use Rattle.std.specs.Str.{bytes_eq}
 use Rattle.std.proofs.Math.Nat.{min-le_right}
-use Rattle.std.proofs.lemmas.Bool.{and_parts, eqb-true}
+use Rattle.std.proofs.lemmas.Bool.{and_parts, eqb-true, true≢false}
 use Rattle.std.proofs.lemmas.Option.{same_Some}
 use Rattle.std.proofs.lemmas.Slice.Eq.{bytes_eq-Decides}
 use Rattle.dsec_spec.specs.Names.{Place, place, same_place}
@@ -20,12 +20,15 @@ use Rattle.dsec_spec.proofs.CanonicalNames.{same_place_decides}
 use Rattle.dsec_spec.proofs.ReadingLemmas.{from_bind}
 use Rattle.dsec_spec.proofs.Members.{first_in, from_find, in_map, at_index}
 use Rattle.dsec_nodes.specs.Held.{GoodByAnchor, IsAdmittedByAnchor, KeptAt, SetAt, Speaks}
+use Rattle.dsec_nodes.specs.Taking.{RestsAt}
+use Rattle.dsec_nodes.specs.SoundSteps.{KeptUnder}
 use Rattle.dsec_nodes.specs.World.{World, Replies, moment, on_circle}
-use Rattle.dsec_nodes.specs.Causes.{NoDnskeyForAnchor, BadSignature, TooManyBadSignaturesForDnskey}
+use Rattle.dsec_nodes.specs.Causes.{Cause, NoDnskeyForAnchor, BadSignature, TooManyBadSignaturesForDnskey}
 use Rattle.dsec_nodes.specs.Nodes.{within}
 use Rattle.dsec_nodes.specs.Signing.{is_set_at}
 use Rattle.dsec_nodes.specs.Admission.{Admitted, admitted_at, matching_by, ds_search, own_key, anchor_search, admitted_link, tried_by, cause_among}
 use Rattle.dsec_nodes.specs.Replies.{Reply, failed, unreadable, sections, read_reply}
+use Rattle.dsec_nodes.specs.MissingDs.{bogus_at}
 use Rattle.dsec_nodes.specs.Walk.{anchor_kind, anchored, anchored_by, anchored_in, by_anchor_reply, at_anchor}
 use Rattle.dsec_nodes.proofs.Signs.{from_signs, from_tried, from_flat_map, from_search, from_ds_search, from_matching, mapped_at, after_those_failing}
 use Rattle.dsec_nodes.proofs.Lasting.{set_at, signed_at, in_its_period}
@@ -175,23 +178,48 @@ anchored_kept w top group p g at =
       })
     ]
 
-in_kept : (w : World) (top : Place) (answers : List Group) (o : Option Group) → find (is_set_at top DNSKEY) answers ≡ o
-    → KeptAt w top (anchored_in w top o)
-in_kept w top answers None e = bogus_kept w top NoDnskeyForAnchor
-in_kept w top answers (Some group) e = by (tried_by w group (anchor_search w.bounds.max_keys_for_ds group) w.anchors) refl
+-- the node of an island has an anchor that stands there
+pub anchored_rests : (w : World) (top : Place) (group : Group) (p : Record × Admitted Record) → GoodByAnchor w group p → SetAt top DNSKEY group
+    → RestsAt w.anchors top (anchored w top group p)
+anchored_rests w top group p g at = record {
+  anchor = p.1.way;
+  its = refl;
+  at = g.is_admitted.stands_at ∙ at.at;
+  is_listed = record { listed = p.1.way; there = g.listed; same_owner = refl; same_class = refl; same_type = refl; same_data = refl };
+}
+
+bogus_under : (w : World) (top : Place) (cause : Cause) → KeptUnder w top top (bogus_at w top cause)
+bogus_under w top cause = (bogus_kept w top cause, λ e. absurd (true≢false e))
+
+in_under : (w : World) (top : Place) (answers : List Group) (o : Option Group) → find (is_set_at top DNSKEY) answers ≡ o
+    → KeptUnder w top top (anchored_in w top o)
+in_under w top answers None e = bogus_under w top NoDnskeyForAnchor
+in_under w top answers (Some group) e = by (tried_by w group (anchor_search w.bounds.max_keys_for_ds group) w.anchors) refl
   where
+    why : Cause
+    why = cause_among BadSignature group (anchor_search w.bounds.max_keys_for_ds group) w.anchors
+
+    at : SetAt top DNSKEY group
+    at = set_at top DNSKEY group (from_find (is_set_at top DNSKEY) answers group e).0
+
     by : (t : Tried (Record × Admitted Record)) → tried_by w group (anchor_search w.bounds.max_keys_for_ds group) w.anchors ≡ t
-        → KeptAt w top (anchored_by w top group t)
-    by (good p) f = anchored_kept w top group p (from_tried_anchors w w.bounds.max_keys_for_ds group p f) (set_at top DNSKEY group (from_find (is_set_at top DNSKEY) answers group e).0)
-    by nothing f = bogus_kept w top (cause_among BadSignature group (anchor_search w.bounds.max_keys_for_ds group) w.anchors)
-    by all_bad f = bogus_kept w top (cause_among BadSignature group (anchor_search w.bounds.max_keys_for_ds group) w.anchors)
-    by too_many_bad f = bogus_kept w top TooManyBadSignaturesForDnskey
+        → KeptUnder w top top (anchored_by w top group t)
+    by (good p) f =
+        let g = from_tried_anchors w w.bounds.max_keys_for_ds group p f in
+        (anchored_kept w top group p g at, λ _. anchored_rests w top group p g at)
+    by nothing f = bogus_under w top why
+    by all_bad f = bogus_under w top why
+    by too_many_bad f = bogus_under w top TooManyBadSignaturesForDnskey
+
+-- what the reply to the question for an island's DNSKEY set comes to is kept, from an anchor of the island's unless it is bogus
+pub anchor_reply_under : (w : World) (top : Place) (reply : Reply) → KeptUnder w top top (by_anchor_reply w top reply)
+anchor_reply_under w top failed = bogus_under w top NoDnskeyForAnchor
+anchor_reply_under w top unreadable = bogus_under w top NoDnskeyForAnchor
+anchor_reply_under w top (sections answers authorities) = in_under w top answers (find (is_set_at top DNSKEY) answers) refl
 
 -- what the reply to the question for an island's DNSKEY set comes to is kept
 pub anchor_reply_kept : (w : World) (top : Place) (reply : Reply) → KeptAt w top (by_anchor_reply w top reply)
-anchor_reply_kept w top failed = bogus_kept w top NoDnskeyForAnchor
-anchor_reply_kept w top unreadable = bogus_kept w top NoDnskeyForAnchor
-anchor_reply_kept w top (sections answers authorities) = in_kept w top answers (find (is_set_at top DNSKEY) answers) refl
+anchor_reply_kept w top reply = (anchor_reply_under w top reply).0
 
 -- the node of an island is kept
 pub anchor_kept : (w : World) (replies : Replies) (top : Place) → KeptAt w top (at_anchor w replies top)

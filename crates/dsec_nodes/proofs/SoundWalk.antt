@@ -10,11 +10,12 @@ use Rattle.dsec_nodes.specs.ByDs.{Pending, Below, made, asks, by_ds_reply, by_ke
 use Rattle.dsec_nodes.specs.Walk.{by_anchor_reply, Reached, held_keys, after, may_stand}
 use Rattle.dsec_nodes.specs.Machine.{started, Question, Phase, begins, gets, asks_first, asks_keys, puts, ends, Walking, node_get, node_put, done, Input, begin, node, stored, reply, name_at, arrived, in_phase, is_further, ahead_from, ahead, with_got, asking, given, heard, with_node, made_by, making, below_by, first_reply, key_reply, replied, advanced, IsFurther, Answers}
 use Rattle.dsec_nodes.specs.Taking.{counts}
-use Rattle.dsec_nodes.specs.Held.{BelowKept, KeptAt}
-use Rattle.dsec_nodes.specs.SoundSteps.{InZone, OnTheWay, SoundAt, PendingSound, SoundStep, InputKept, Sound}
-use Rattle.dsec_nodes.proofs.ChildLaws.{ds_reply_kept, key_reply_kept}
-use Rattle.dsec_nodes.proofs.AnchorLaws.{anchor_reply_kept, anchor_reply_not_within}
-use Rattle.dsec_nodes.proofs.WalkLaws.{strictly_taken, after_kept, first_kept}
+use Rattle.dsec_nodes.specs.Held.{KeptAt}
+use Rattle.dsec_nodes.specs.Taking.{RestsAt}
+use Rattle.dsec_nodes.specs.SoundSteps.{KeptUnder, InZone, OnTheWay, SoundAt, PendingSound, SoundStep, InputKept, Sound}
+use Rattle.dsec_nodes.proofs.ChildLaws.{BelowFollows, ds_reply_below, key_reply_below}
+use Rattle.dsec_nodes.proofs.AnchorLaws.{anchor_reply_under, anchor_reply_not_within}
+use Rattle.dsec_nodes.proofs.WalkLaws.{rests_below, strictly_taken, after_kept, first_kept}
 use Rattle.dsec_nodes.proofs.TakingLaws.{taken}
 use Rattle.dsec_nodes.proofs.MachineLaws.{further_by}
 
@@ -36,7 +37,7 @@ fits w s (Some r) le f g = leb-true (length s.top + s.behind) (length s.target) 
 
 -- a walk that goes on is in a zone that is held
 in_zone : (w : World) (s : Walking) (r : Reached) (f : SoundAt w s (Some r)) → IsFurther s (Some r)
-    → InZone w s.target (length s.top + f.0) r
+    → InZone w s.top s.target (length s.top + f.0) r
 in_zone w s r f g = f.3.in_zone (and_parts _ _ g).0
 
 -- the name that is next is strictly below the last zone
@@ -48,17 +49,17 @@ next_below w s r f le g =
 
 -- a kept node at the next name is on the way
 arrives : (w : World) (s : Walking) (o : Option Reached) (n : Node) → s.top ≡ take (length s.top) s.target → length s.top ≤ length s.target
-    → SoundAt w s o → IsFurther s o → may_stand o n.standing ≡ true → KeptAt w (name_at s) n
-    → OnTheWay w s.target (length s.top + s.behind) (arrived o n)
+    → SoundAt w s o → IsFurther s o → may_stand o n.standing ≡ true → KeptUnder w s.top (name_at s) n
+    → OnTheWay w s.top s.target (length s.top + s.behind) (arrived o n)
 arrives w s None n below le f g may k =
     let top : name_at s ≡ s.top = ap (λ (m : ℕ). take m s.target) (let m : length s.top + s.behind ≡ length s.top = omega (arith, f) in m) ∙ sym below in
     let never : n.standing ≡ within → ⊥ = λ e. false≢true (sym (ap (may_stand None) e) ∙ may) in
     let count : length s.top ≡ length s.top + s.behind = omega (arith, f) in
-    subst (λ (m : ℕ). OnTheWay w s.target m (record { zone = n; node = n })) count (first_kept w s.top s.target n n.standing refl never below (subst (λ (p : Place). KeptAt w p n) top k))
+    subst (λ (m : ℕ). OnTheWay w s.top s.target m (record { zone = n; node = n })) count (first_kept w s.top s.target n n.standing refl never below (subst (λ (p : Place). KeptUnder w s.top p n) top k))
 arrives w s (Some r) n below le f g may k =
     let one : suc (length s.top + f.0) ≡ length s.top + s.behind = omega (arith, f.1) in
-    subst (λ (m : ℕ). OnTheWay w s.target m (after r.zone n n.standing)) one
-    (after_kept w s.target (length s.top + f.0) r n n.standing refl (in_zone w s r f g) (subst (λ (m : ℕ). KeptAt w (take m s.target) n) (sym one) k))
+    subst (λ (m : ℕ). OnTheWay w s.top s.target m (after r.zone n n.standing)) one
+    (after_kept w s.top s.target (length s.top + f.0) r n n.standing refl (in_zone w s r f g) (subst (λ (m : ℕ). KeptUnder w s.top (take m s.target) n) (sym one) k))
 
 -- the next step from what is reached is sound
 ahead_sound : (w : World) (s : Walking) → Whole w s → Sound w (ahead s)
@@ -72,7 +73,7 @@ ahead_sound w s h = by s.reached refl
     by_further r e true f = to_next (Some r) e f
     by_further r e false f =
         let at = subst (SoundAt w s) e h.on_way in
-        (record { below = h.below; shorter = h.shorter; is_ahead = tt; on_way = h.on_way; pends = tt }, at.3.node_kept)
+        (record { below = h.below; shorter = h.shorter; is_ahead = tt; on_way = h.on_way; pends = tt }, (at.3.node_kept, at.3.node_rests))
 
     by : (o : Option Reached) → s.reached ≡ o → Sound w (ahead_from s o)
     by None e = to_next None e tt
@@ -80,20 +81,20 @@ ahead_sound w s h = by s.reached refl
 
 -- so is the step after a kept node was made
 making_sound : (w : World) (s : Walking) (asked : List Question) (n : Node) → Whole w s → IsFurther s s.reached
-    → may_stand s.reached n.standing ≡ true → KeptAt w (name_at s) n → Sound w (making s asked n)
+    → may_stand s.reached n.standing ≡ true → KeptUnder w s.top (name_at s) n → Sound w (making s asked n)
 making_sound w s asked n h further may k = by n.standing
   where
-    there : (kk : ℕ) × (suc s.behind ≡ suc kk) × (length s.top + kk ≤ length s.target) × OnTheWay w s.target (length s.top + kk) (arrived s.reached n)
+    there : (kk : ℕ) × (suc s.behind ≡ suc kk) × (length s.top + kk ≤ length s.target) × OnTheWay w s.top s.target (length s.top + kk) (arrived s.reached n)
     there = (s.behind, refl, fits w s s.reached h.shorter h.on_way further, arrives w s s.reached n h.below h.shorter h.on_way further may k)
 
     put : Sound w (with_node s asked n puts, node_put (name_at s) n)
-    put = (record { below = h.below; shorter = h.shorter; is_ahead = tt; on_way = there; pends = tt }, k.0)
+    put = (record { below = h.below; shorter = h.shorter; is_ahead = tt; on_way = there; pends = tt }, (k.0.0, k.1))
 
     by : (x : Standing) → Sound w (made_by s asked n x)
     by (apex keys) = put
     by within = put
     by (insecure cause signed) = put
-    by (bogus cause) = (record { below = h.below; shorter = h.shorter; is_ahead = tt; on_way = there; pends = tt }, k.0)
+    by (bogus cause) = (record { below = h.below; shorter = h.shorter; is_ahead = tt; on_way = there; pends = tt }, (k.0.0, k.1))
 
 -- so is a question for the next name
 asking_sound : (w : World) (s : Walking) → Whole w s → IsFurther s s.reached → Sound w (asking s)
@@ -110,18 +111,14 @@ given_sound w s (Some n) h further i = by (counts w s.top (name_at s) n && may_s
     by true e =
         let both = and_parts _ _ e in
         let t = taken w s.top (name_at s) n both.0 in
-        let k : KeptAt w (name_at s) n = (i, t.named, t.from, t.to) in
+        let k : KeptUnder w s.top (name_at s) n = ((i, t.named, t.from, t.to), λ _. t.rests) in
         ahead_sound w (with_got s n) (record {
           below = h.below;
           shorter = h.shorter;
           on_way = (s.behind, refl, fits w s s.reached h.shorter h.on_way further, arrives w s s.reached n h.below h.shorter h.on_way further both.1 k);
         })
 
--- below the island a walk can stand on any node
-may_after : (r : Reached) (x : Standing) → may_stand (Some r) x ≡ true
-may_after r x = refl
-
--- at the island it can on any that isn't within a zone
+-- at the island a walk can stand on any node that isn't within a zone
 may_first : (x : Standing) → (x ≡ within → ⊥) → may_stand None x ≡ true
 may_first (apex keys) never = refl
 may_first within never = absurd (never refl)
@@ -133,10 +130,12 @@ first_sound : (w : World) (s : Walking) (octets : Option (List ℕ)) → Whole w
     → Sound w (first_reply w s s.reached octets)
 first_sound w s octets h further = by s.reached refl
   where
-    by_below : (r : Reached) → s.reached ≡ Some r → (b : Below) → BelowKept w r.zone (held_keys r.zone.standing) (name_at s) b
-        → Sound w (below_by s (heard s DS octets) b)
-    by_below r e (made n) k = making_sound w s (heard s DS octets) n h further (ap (λ (x : Option Reached). may_stand x n.standing) e) k
-    by_below r e (asks pending) k =
+    by_below : (r : Reached) → s.reached ≡ Some r → RestsAt w.anchors s.top r.zone → (b : Below)
+        → BelowFollows w r.zone (held_keys r.zone.standing) (name_at s) b → Sound w (below_by s (heard s DS octets) b)
+    by_below r e z (made n) k =
+        making_sound w s (heard s DS octets) n h further (ap (λ (x : Option Reached). may_stand x n.standing) e)
+        (k.0, rests_below w.anchors s.top r.zone n z k.1)
+    by_below r e z (asks pending) k =
         (record { below = h.below; shorter = h.shorter; is_ahead = further; on_way = h.on_way; pends = subst (PendingSound w s (asks_keys pending)) (sym e) k }, tt)
 
     by : (o : Option Reached) → s.reached ≡ o → Sound w (first_reply w s o octets)
@@ -145,12 +144,13 @@ first_sound w s octets h further = by s.reached refl
         let none : s.behind ≡ 0 = subst (SoundAt w s) e h.on_way in
         let top : s.top ≡ name_at s = h.below ∙ ap (λ (m : ℕ). take m s.target) (let m : length s.top ≡ length s.top + s.behind = omega (arith, none) in m) in
         making_sound w s (heard s DNSKEY octets) n h further (ap (λ (x : Option Reached). may_stand x n.standing) e ∙ may_first n.standing (anchor_reply_not_within w s.top (read_reply octets)))
-        (subst (λ (p : Place). KeptAt w p n) top (anchor_reply_kept w s.top (read_reply octets)))
+        (subst (λ (p : Place). KeptUnder w s.top p n) top (anchor_reply_under w s.top (read_reply octets)))
     by (Some r) e =
         let f = subst (SoundAt w s) e h.on_way in
         let g = subst (IsFurther s) e further in
-        by_below r e (by_ds_reply w r.zone (held_keys r.zone.standing) (name_at s) (read_reply octets))
-        (ds_reply_kept w r.zone (held_keys r.zone.standing) (name_at s) (read_reply octets) (in_zone w s r f g).zone_held (next_below w s r f h.shorter g))
+        let z = in_zone w s r f g in
+        by_below r e z.zone_rests (by_ds_reply w r.zone (held_keys r.zone.standing) (name_at s) (read_reply octets))
+        (ds_reply_below w r.zone (held_keys r.zone.standing) (name_at s) (read_reply octets) z.zone_held (next_below w s r f h.shorter g))
 
 -- so does the reply with a key set that a DS set is to admit
 key_sound : (w : World) (s : Walking) (pending : Pending) (octets : Option (List ℕ)) → Whole w s
@@ -164,8 +164,10 @@ key_sound w s pending octets h p further = by s.reached refl
         let f = subst (SoundAt w s) e h.on_way in
         let g = subst (IsFurther s) e further in
         let q = subst (PendingSound w s (asks_keys pending)) e p in
+        let z = in_zone w s r f g in
+        let k = key_reply_below w r.zone (held_keys r.zone.standing) pending (read_reply octets) z.zone_held q.0 in
         making_sound w s (heard s DNSKEY octets) n h further (ap (λ (x : Option Reached). may_stand x n.standing) e)
-        (subst (λ (x : Place). KeptAt w x n) q.1 (key_reply_kept w r.zone (held_keys r.zone.standing) pending (read_reply octets) (in_zone w s r f g).zone_held q.0))
+        (subst (λ (x : Place). KeptAt w x n) q.1 k.0, rests_below w.anchors s.top r.zone n z.zone_rests k.1)
 
 -- each step keeps a walk sound, and puts and ends with kept nodes alone
 pub advanced_sound : (w : World) (s : Walking) (input : Input) → SoundStep w s → Answers s.phase input → InputKept w input

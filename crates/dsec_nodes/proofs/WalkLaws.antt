@@ -4,13 +4,17 @@ use Rattle.std.proofs.Common.{◌≡◌, ℕ, zero, suc, ◌+◌, ◌-◌, ◌<�
 use Rattle.std.proofs.Math.Seq.{take-append_seam}
 use Rattle.std.proofs.lemmas.Bool.{false≢true}
 use Rattle.dsec_spec.specs.Names.{Place, IsAtOrBelow, IsStrictlyBelow}
+use Rattle.dsec_spec.specs.Numbers.{DNSKEY}
+use Rattle.dsec_spec.specs.Records.{Record}
+use Rattle.dsec_nodes.specs.Replies.{read_reply}
 use Rattle.dsec_nodes.specs.World.{World, Replies, on_circle}
 use Rattle.dsec_nodes.specs.Nodes.{Node, Standing, apex, within, insecure, bogus, Kept, HoldsAt, IsBogus}
 use Rattle.dsec_nodes.specs.Walk.{at_anchor, Reached, held_keys, goes_on, after, next, onward, way, node_of}
-use Rattle.dsec_nodes.proofs.KeptLaws.{held}
-use Rattle.dsec_nodes.proofs.ChildLaws.{child_kept}
-use Rattle.dsec_nodes.proofs.AnchorLaws.{anchor_kept, anchor_not_within}
-use Rattle.dsec_nodes.specs.SoundSteps.{InZone, OnTheWay}
+use Rattle.dsec_nodes.proofs.KeptLaws.{held, Follows}
+use Rattle.dsec_nodes.proofs.ChildLaws.{child_below}
+use Rattle.dsec_nodes.proofs.AnchorLaws.{anchor_reply_under, anchor_not_within}
+use Rattle.dsec_nodes.specs.SoundSteps.{KeptUnder, InZone, OnTheWay}
+use Rattle.dsec_nodes.specs.Taking.{RestsAt, Rests}
 use Rattle.dsec_nodes.specs.Held.{HeldZone, KeptAt}
 
 -- of two fronts of a name, the longer is strictly below the other
@@ -30,60 +34,99 @@ zone_at w n p keys k is =
     (held w n keys k.0 is k.2 k.3, sym now.0 ∙ k.1)
 
 -- a zone that was made at a name now
-zone_in : (w : World) (name : Place) (labels : ℕ) (n : Node) (keys : List (List ℕ)) → n.standing ≡ apex keys → KeptAt w (take labels name) n
-    → InZone w name labels (record { zone = n; node = n })
-zone_in w name labels n keys e k =
-    let at = zone_at w n (take labels name) keys k e in
-    record { zone_held = subst (HeldZone w n) (sym (ap held_keys e)) at.0; count = labels; at_most = omega arith; is = at.1 }
+zone_in : (w : World) (top name : Place) (labels : ℕ) (n : Node) (keys : List (List ℕ)) → n.standing ≡ apex keys
+    → KeptUnder w top (take labels name) n → InZone w top name labels (record { zone = n; node = n })
+zone_in w top name labels n keys e k =
+    let at = zone_at w n (take labels name) keys k.0 e in
+    record {
+      zone_held = subst (HeldZone w n) (sym (ap held_keys e)) at.0;
+      zone_rests = k.1 (ap IsBogus e);
+      count = labels;
+      at_most = omega arith;
+      is = at.1;
+    }
 
 -- after a node that was made at the next name
-pub after_kept : (w : World) (name : Place) (labels : ℕ) (r : Reached) (n : Node) (s : Standing) → n.standing ≡ s → InZone w name labels r
-    → KeptAt w (take (suc labels) name) n → OnTheWay w name (suc labels) (after r.zone n s)
-after_kept w name labels r n (apex keys) e z k = record { node_kept = k.0; in_zone = λ _. zone_in w name (suc labels) n keys e k }
-after_kept w name labels r n within e z k =
-    record { node_kept = k.0; in_zone = λ _. record { zone_held = z.zone_held; count = z.count; at_most = omega (arith, z.at_most); is = z.is } }
-after_kept w name labels r n (insecure cause signed) e z k = record { node_kept = k.0; in_zone = λ g. absurd (false≢true (sym (ap goes_on e) ∙ g)) }
-after_kept w name labels r n (bogus cause) e z k = record { node_kept = k.0; in_zone = λ g. absurd (false≢true (sym (ap goes_on e) ∙ g)) }
+pub after_kept : (w : World) (top name : Place) (labels : ℕ) (r : Reached) (n : Node) (s : Standing) → n.standing ≡ s
+    → InZone w top name labels r → KeptUnder w top (take (suc labels) name) n → OnTheWay w top name (suc labels) (after r.zone n s)
+after_kept w top name labels r n (apex keys) e z k =
+    record { node_kept = k.0.0; node_rests = k.1; in_zone = λ _. zone_in w top name (suc labels) n keys e k }
+after_kept w top name labels r n within e z k = record {
+  node_kept = k.0.0;
+  node_rests = k.1;
+  in_zone = λ _. record { zone_held = z.zone_held; zone_rests = z.zone_rests; count = z.count; at_most = omega (arith, z.at_most); is = z.is };
+}
+after_kept w top name labels r n (insecure cause signed) e z k =
+    record { node_kept = k.0.0; node_rests = k.1; in_zone = λ g. absurd (false≢true (sym (ap goes_on e) ∙ g)) }
+after_kept w top name labels r n (bogus cause) e z k =
+    record { node_kept = k.0.0; node_rests = k.1; in_zone = λ g. absurd (false≢true (sym (ap goes_on e) ∙ g)) }
 
-onward_kept : (w : World) (replies : Replies) (name : Place) (labels : ℕ) (r : Reached) → suc labels ≤ length name
-    → OnTheWay w name labels r → OnTheWay w name (suc labels) (onward w replies r (take (suc labels) name))
-onward_kept w replies name labels r le o = by (goes_on r.node.standing) refl
+-- a node that follows from a zone has its anchor
+pub rests_below : (anchors : List Record) (top : Place) (zone n : Node) → RestsAt anchors top zone → Follows zone n → Rests anchors top n
+rests_below anchors top zone n r f e = record { anchor = r.anchor; its = f e ∙ r.its; at = r.at; is_listed = r.is_listed }
+
+onward_kept : (w : World) (replies : Replies) (top name : Place) (labels : ℕ) (r : Reached) → suc labels ≤ length name
+    → OnTheWay w top name labels r → OnTheWay w top name (suc labels) (onward w replies r (take (suc labels) name))
+onward_kept w replies top name labels r le o = by (goes_on r.node.standing) refl
   where
-    further : InZone w name labels r
-        → OnTheWay w name (suc labels) (after r.zone (next w replies r (take (suc labels) name)) (next w replies r (take (suc labels) name)).standing)
-    further z =
-        let below : IsStrictlyBelow (take (suc labels) name) r.zone.signer = subst (λ (p : Place). IsStrictlyBelow (take (suc labels) name) p) (sym z.is) (strictly_taken name z.count (suc labels) (omega (arith, z.at_most)) le) in
-        after_kept w name labels r (next w replies r (take (suc labels) name)) (next w replies r (take (suc labels) name)).standing refl z (child_kept w replies r.zone (held_keys r.zone.standing) (take (suc labels) name) z.zone_held below)
+    next_name : Place
+    next_name = take (suc labels) name
 
-    by : (b : Bool) → goes_on r.node.standing ≡ b
-        → OnTheWay w name (suc labels) (cond b (after r.zone (next w replies r (take (suc labels) name)) (next w replies r (take (suc labels) name)).standing) r)
+    n : Node
+    n = next w replies r next_name
+
+    further : InZone w top name labels r → OnTheWay w top name (suc labels) (after r.zone n n.standing)
+    further z =
+        let below : IsStrictlyBelow next_name r.zone.signer =
+        subst (λ (p : Place). IsStrictlyBelow next_name p) (sym z.is) (strictly_taken name z.count (suc labels) (omega (arith, z.at_most)) le) in
+        let kept = child_below w replies r.zone (held_keys r.zone.standing) next_name z.zone_held below in
+        after_kept w top name labels r n n.standing refl z (kept.0, rests_below w.anchors top r.zone n z.zone_rests kept.1)
+
+    by : (b : Bool) → goes_on r.node.standing ≡ b → OnTheWay w top name (suc labels) (cond b (after r.zone n n.standing) r)
     by true f = further (o.in_zone f)
-    by false f = record { node_kept = o.node_kept; in_zone = λ g. absurd (false≢true (sym f ∙ g)) }
+    by false f = record { node_kept = o.node_kept; node_rests = o.node_rests; in_zone = λ g. absurd (false≢true (sym f ∙ g)) }
 
 -- a walk begins at an island's node that is kept
 pub first_kept : (w : World) (top name : Place) (n : Node) (s : Standing) → n.standing ≡ s → (n.standing ≡ within → ⊥)
-    → top ≡ take (length top) name → KeptAt w top n → OnTheWay w name (length top) (record { zone = n; node = n })
-first_kept w top name n (apex keys) e never t k = record { node_kept = k.0; in_zone = λ _. zone_in w name (length top) n keys e (subst (λ (p : Place). KeptAt w p n) t k) }
+    → top ≡ take (length top) name → KeptUnder w top top n → OnTheWay w top name (length top) (record { zone = n; node = n })
+first_kept w top name n (apex keys) e never t k = record {
+  node_kept = k.0.0;
+  node_rests = k.1;
+  in_zone = λ _. zone_in w top name (length top) n keys e (subst (λ (p : Place). KeptUnder w top p n) t k);
+}
 first_kept w top name n within e never t k = absurd (never e)
-first_kept w top name n (insecure cause signed) e never t k = record { node_kept = k.0; in_zone = λ g. absurd (false≢true (sym (ap goes_on e) ∙ g)) }
-first_kept w top name n (bogus cause) e never t k = record { node_kept = k.0; in_zone = λ g. absurd (false≢true (sym (ap goes_on e) ∙ g)) }
+first_kept w top name n (insecure cause signed) e never t k =
+    record { node_kept = k.0.0; node_rests = k.1; in_zone = λ g. absurd (false≢true (sym (ap goes_on e) ∙ g)) }
+first_kept w top name n (bogus cause) e never t k =
+    record { node_kept = k.0.0; node_rests = k.1; in_zone = λ g. absurd (false≢true (sym (ap goes_on e) ∙ g)) }
 
 -- each node on the way is kept
 pub way_kept : (w : World) (replies : Replies) (top name : Place) (k : ℕ) → top ≡ take (length top) name → length top + k ≤ length name
-    → OnTheWay w name (length top + k) (way w replies top name k)
+    → OnTheWay w top name (length top + k) (way w replies top name k)
 way_kept w replies top name zero t le =
     let none : length top ≡ length top + 0 = omega arith in
-    subst (λ (m : ℕ). OnTheWay w name m (way w replies top name zero)) none (first_kept w top name (at_anchor w replies top) (at_anchor w replies top).standing refl (anchor_not_within w replies top) t (anchor_kept w replies top))
+    let n = at_anchor w replies top in
+    subst (λ (m : ℕ). OnTheWay w top name m (way w replies top name zero)) none
+    (first_kept w top name n n.standing refl (anchor_not_within w replies top) t (anchor_reply_under w top (read_reply (replies top DNSKEY))))
 way_kept w replies top name (suc k) t le =
     let more : suc (length top + k) ≡ length top + suc k = omega arith in
-    subst (λ (m : ℕ). OnTheWay w name m (onward w replies (way w replies top name k) (take m name))) more
-    (onward_kept w replies name (length top + k) (way w replies top name k) (omega (arith, le)) (way_kept w replies top name k t (omega (arith, le))))
+    subst (λ (m : ℕ). OnTheWay w top name m (onward w replies (way w replies top name k) (take m name))) more
+    (onward_kept w replies top name (length top + k) (way w replies top name k) (omega (arith, le)) (way_kept w replies top name k t (omega (arith, le))))
+
+-- the node of a name under an island is on the way
+pub node_on_way : (w : World) (replies : Replies) (top name : Place) → IsAtOrBelow name top
+    → OnTheWay w top name (length top + (length name - length top)) (way w replies top name (length name - length top))
+node_on_way w replies top name below =
+    let long : length name ≡ length top + length below.under = ap length below.is ∙ length-append top below.under in
+    way_kept w replies top name (length name - length top) (sym (ap (take (length top)) below.is ∙ take-append_seam top below.under)) (omega (arith, long))
 
 -- the node of a name under an island is kept
 pub node_kept : (w : World) (replies : Replies) (top name : Place) → IsAtOrBelow name top → Kept w.accepts (node_of w replies top name)
-node_kept w replies top name below =
-    let long : length name ≡ length top + length below.under = ap length below.is ∙ length-append top below.under in
-    (way_kept w replies top name (length name - length top) (sym (ap (take (length top)) below.is ∙ take-append_seam top below.under)) (omega (arith, long))).node_kept
+node_kept w replies top name below = (node_on_way w replies top name below).node_kept
+
+-- and unless it is bogus it has an anchor of the island's
+pub node_rests : (w : World) (replies : Replies) (top name : Place) → IsAtOrBelow name top → Rests w.anchors top (node_of w replies top name)
+node_rests w replies top name below = (node_on_way w replies top name below).node_rests
 
 -- the way to a name begins with the way to each name above it
 pub way_to : (w : World) (replies : Replies) (top name : Place) (k m : ℕ) → length top + k ≤ m
