@@ -6,7 +6,7 @@ pub mod MissingLaws
 pub mod ChildLaws
 pub mod AnchorLaws
 pub mod WalkLaws
-pub mod FoundLaws
+pub mod AmongLaws
 pub mod TakingLaws
 pub mod WayLaws
 pub mod NextLaws
