@@ -83,10 +83,15 @@ pub record BeginsAt (links : List Link) (p : Place) : Type 0 where
 pub chain_begins : (accepts : Accepts) (anchor : Record) (links : List Link) (zone : Place) (keys : List (List ℕ)) (t : ℕ)
     → IsChain accepts (anchor ∷ []) links zone keys t → BeginsAt links (place anchor.owner)
 chain_begins accepts anchor [] zone keys t c = absurd c
-chain_begins accepts anchor (first ∷ links) zone keys t c = record { first = first; others = links; are = refl; at = elim c.0 [
-  | inl own ↦ its DNSKEY first.signing_key own.anchored
-  | inr spoken ↦ its DS spoken.ds_data spoken.anchored
-] }
+chain_begins accepts anchor (first ∷ links) zone keys t c = record {
+  first = first;
+  others = links;
+  are = refl;
+  at = elim c.0 [
+    | inl own ↦ its DNSKEY first.signing_key own.anchored
+    | inr spoken ↦ its DS spoken.ds_data spoken.anchored
+  ];
+}
   where
     its : (rtype : ℕ) (rdata : List ℕ) → IsAnchor (anchor ∷ []) rtype (place first.records.owner) rdata → place first.records.owner ≡ place anchor.owner
     its rtype rdata a = sym a.stands_at ∙ sym (ap (λ (x : Record). place x.owner) (only anchor a.anchor a.listed))

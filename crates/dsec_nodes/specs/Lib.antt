@@ -14,3 +14,6 @@ pub mod Walking
 pub mod Machine
 pub mod InStep
 pub mod SoundSteps
+pub mod Judging
+pub mod Outcomes
+pub mod Alone

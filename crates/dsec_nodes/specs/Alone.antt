@@ -1,0 +1,113 @@
+-- What a message is judged to be by a table of replies: a plain recursion (RFC 4033 5, RFC 4035 4.3, 5).
+use Rattle.std.specs.Prelude.{ℕ, ◌==◌, ◌&&◌, List, [], ◌∷◌, ◌++◌, position, slice_get, Bool, false, Option, Some, None, Result, Ok, Err, if◌then◌else◌}
+use Rattle.std.proofs.Math.Bool.{not}
+use Rattle.dsec_spec.specs.Reading.{◌>>=◌}
+use Rattle.dsec_spec.specs.Names.{Place, place, same_place}
+use Rattle.dsec_spec.specs.Numbers.{ANY}
+use Rattle.dsec_spec.specs.Records.{Record}
+use Rattle.dsec_spec.specs.Messages.{Question, questions_of, answers_of, authorities_of, rcode_of}
+use Rattle.dsec_spec.specs.Groups.{Group, groups_of}
+use Rattle.dsec_spec.specs.Redirection.{moved}
+use Rattle.dsec_nodes.specs.World.{World, Replies}
+use Rattle.dsec_nodes.specs.Causes.{RrsigWithoutRrset, NoTrustAnchor, TooManyUnsignedCnames}
+use Rattle.dsec_nodes.specs.Signing.{is_expanded}
+use Rattle.dsec_nodes.specs.Judging.{Finding, is_shown, has_no_set, is_insecure, is_bogus, is_indeterminate, Judged, AllJudged, all, one_bogus, judged_all}
+use Rattle.dsec_nodes.specs.Outcomes.{State, secure, insecure, indeterminate, Why, by_groups, by_cause, by_links, by_nothing, Outcome, bogus_by, not_built, AliasEnd, ends_at, ends_bogus, alias_path, by_wildcard, by_denial}
+
+-- why a message isn't judged: it can't be read (RFC 1035 4.1), or it hasn't one question
+pub data Refusal : Type 0 where
+  unreadable : Refusal
+  not_one_question : Refusal
+
+-- the outcome by what was found of the answer's set (RFC 4033 5)
+abbrev pub by_answer : World → Place → List Judged → Judged → Finding → Outcome
+by_answer w name authorities j (is_shown links last signature) =
+    if is_expanded j.group signature then by_wildcard w name j authorities else record { state = secure; cause = None; why = by_groups (j ∷ []) }
+by_answer w name authorities j has_no_set = record { state = insecure; cause = Some RrsigWithoutRrset; why = by_nothing }
+by_answer w name authorities j (is_insecure cause signed) = record { state = insecure; cause = cause; why = by_cause signed }
+by_answer w name authorities j (is_bogus cause links) = bogus_by cause (by_links links)
+by_answer w name authorities j is_indeterminate = record { state = indeterminate; cause = Some NoTrustAnchor; why = by_nothing }
+
+-- whether a group is at this name and of the question's class and type (RFC 1034 3.7.1)
+abbrev pub is_answer : Place → Question → Judged → Bool
+is_answer name question j = same_place (place j.group.owner) name && (j.group.class == question.class) && (j.group.rtype == question.rtype)
+
+-- the outcome by the group at an index
+abbrev pub at_answer : World → Place → List Judged → Option Judged → Outcome
+at_answer w name authorities None = not_built
+at_answer w name authorities (Some j) = by_answer w name authorities j j.finding
+
+-- the outcome by the first group that answers, or by a denial where there is none (RFC 4035 5.4)
+abbrev pub by_answers : World → List ℕ → Question → Place → List Judged → List Judged → Option ℕ → Outcome
+by_answers w message question name answers authorities None = by_denial w message question name authorities
+by_answers w message question name answers authorities (Some index) = at_answer w name authorities (slice_get answers index)
+
+-- whether an rcode says that there was no error (RFC 1035 4.1.1)
+abbrev pub no_error_in : Option ℕ → Bool
+no_error_in None = false
+no_error_in (Some rcode) = rcode == 0
+
+-- the outcome at a name: by an answer where there was no error and one type is asked for, or else by a denial (RFC 4035 5)
+abbrev pub at_name : World → List ℕ → Question → Place → List Judged → List Judged → Outcome
+at_name w message question name answers authorities =
+    if no_error_in (rcode_of message) && not (question.rtype == ANY)
+    then by_answers w message question name answers authorities (position (is_answer name question) answers)
+    else by_denial w message question name authorities
+
+-- the state after aliases: of Secure ones what is found after them, of others theirs (RFC 4035 5)
+abbrev pub map_maybe_secure : State → State → State
+map_maybe_secure found secure = found
+map_maybe_secure found maybe = maybe
+
+-- why, with the groups of the aliases before it
+abbrev pub why_after : List Judged → Why → Why
+why_after steps (by_groups js) = by_groups (steps ++ js)
+why_after steps (by_cause signed) = by_cause signed
+why_after steps (by_links links) = by_links links
+why_after steps by_nothing = by_nothing
+
+-- an outcome, after aliases of this state
+abbrev pub after_path : State → List Judged → Outcome → Outcome
+after_path maybe steps o = record { state = map_maybe_secure o.state maybe; cause = o.cause; why = why_after steps o.why }
+
+-- the outcome where the path of names ends
+abbrev pub at_end : World → List ℕ → Question → List Judged → List Judged → AliasEnd → Outcome
+at_end w message question answers authorities (ends_bogus cause) = bogus_by cause by_nothing
+at_end w message question answers authorities (ends_at name maybe steps) =
+    after_path maybe steps (at_name w message question name answers authorities)
+
+-- the outcome where no group was bogus: there has to be one question (RFC 1035 4.1.2)
+abbrev pub on_questions : World → List ℕ → List Question → List Judged → List Judged → Result Outcome Refusal
+on_questions w message (question ∷ []) answers authorities = Ok (at_end w message question answers authorities (alias_path w question answers))
+on_questions w message _ answers authorities = Err not_one_question
+
+-- the outcome by what judging the answer section's groups came to, and then the authority section's
+abbrev pub on_judged : World → List ℕ → List Question → AllJudged → AllJudged → Result Outcome Refusal
+on_judged w message questions (one_bogus cause links) authorities = Ok (bogus_by cause (by_links links))
+on_judged w message questions (all answers) (one_bogus cause links) = Ok (bogus_by cause (by_links links))
+on_judged w message questions (all answers) (all authorities) = on_questions w message questions answers authorities
+
+-- the outcome by the groups of both sections, those of CNAME records made for a DNAME record moved to it; too many of them are bogus
+-- (RFC 6672 3.1)
+abbrev pub on_groups : World → Replies → List ℕ → List Question → Option (List Group) → List Group → Result Outcome Refusal
+on_groups w replies message questions None authorities = Ok (bogus_by TooManyUnsignedCnames by_nothing)
+on_groups w replies message questions (Some answers) authorities =
+    on_judged w message questions (judged_all w replies answers) (judged_all w replies authorities)
+
+-- the questions and the records of the answer and authority sections, where all records to the latter's end can be read (RFC 1035 4.1)
+abbrev pub sections_of : List ℕ → Option (List Question × List Record × List Record)
+sections_of message = do
+  authorities ← authorities_of message
+  answers ← answers_of message
+  questions ← questions_of message
+  Some (questions.0, answers.0, authorities.0)
+
+-- the outcome by the sections, where they can be read; of bare CNAME records so many are followed
+abbrev pub on_sections : World → ℕ → Replies → List ℕ → Option (List Question × List Record × List Record) → Result Outcome Refusal
+on_sections w most replies message None = Err unreadable
+on_sections w most replies message (Some s) = on_groups w replies message s.0 (moved most (groups_of s.1)) (groups_of s.2)
+
+-- the outcome of a message by a table of replies, where so many bare CNAME records are followed: what each way of asking comes to
+-- (RFC 4033 5, RFC 4035 5)
+abbrev pub alone : World → ℕ → Replies → List ℕ → Result Outcome Refusal
+alone w most replies message = on_sections w most replies message (sections_of message)
