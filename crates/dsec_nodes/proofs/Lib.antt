@@ -4,6 +4,8 @@ pub mod Lasting
 pub mod KeptLaws
 pub mod MissingLaws
 pub mod ChildLaws
+pub mod DecidingLaws
+pub mod WithinLaws
 pub mod AnchorLaws
 pub mod WalkLaws
 pub mod AmongLaws

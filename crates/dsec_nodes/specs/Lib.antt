@@ -9,6 +9,7 @@ pub mod MissingDs
 pub mod ByDs
 pub mod Walk
 pub mod Held
+pub mod WithinCauses
 pub mod Taking
 pub mod Walking
 pub mod Machine

@@ -1,0 +1,58 @@
+-- By which signed records it is known that no zone begins at a name (RFC 1034 3.6.2, RFC 4034 4.1, RFC 4592 2.2.2).
+use Rattle.std.specs.Prelude.{◌≡◌, ◌⊎◌, ℕ, ◌&&◌, List, [], ◌∷◌, Some, false}
+use Rattle.std.proofs.Math.Bool.{not}
+use Rattle.dsec_spec.specs.Names.{Place, place, IsAtOrBelow, IsStrictlyBelow}
+use Rattle.dsec_spec.specs.Numbers.{IN, NS, SOA, DS, CNAME, DNAME, NSEC}
+use Rattle.dsec_spec.specs.Records.{Record, RecordSet, Key}
+use Rattle.dsec_spec.specs.RecordViews.{Nsec, nsec_of}
+use Rattle.dsec_spec.specs.DenyingRecords.{NsecAt, Matches, Covers, has, next_of, owner_of}
+use Rattle.dsec_spec.specs.Groups.{Group, set_in}
+use Rattle.dsec_nodes.specs.World.{World}
+use Rattle.dsec_nodes.specs.Signing.{is_expanded}
+use Rattle.dsec_nodes.specs.SignedCauses.{nsec_at}
+use Rattle.dsec_nodes.specs.Held.{GoodPair}
+
+-- one CNAME record at the name, beside which no DNSKEY set can stand (RFC 1034 3.6.2, RFC 2181 10.1)
+pub record HasAlias (c : Place) (set : RecordSet) : Type 0 where
+  pub of_type : set.rtype ≡ CNAME
+  pub at : place set.owner ≡ c
+  pub rdata : List ℕ
+  pub alone : set.datas ≡ rdata ∷ []
+
+-- one NSEC record of a set
+pub record IsOneNsec (set : RecordSet) (r : NsecAt) : Type 0 where
+  pub of_type : set.rtype ≡ NSEC
+  pub rdata : List ℕ
+  pub alone : set.datas ≡ rdata ∷ []
+  pub nsec : Nsec
+  pub reads : nsec_of rdata ≡ Some nsec
+  pub is : r ≡ nsec_at set nsec
+
+-- an NSEC record, the name's own, without NS, DS and SOA: neither a delegation nor a zone's apex (RFC 4034 4.1.2)
+pub record HasNoCut (c : Place) (r : NsecAt) : Type 0 where
+  pub matches : Matches r c
+  pub no_delegation : has r NS ≡ false
+  pub no_ds : has r DS ≡ false
+  pub no_apex : has r SOA ≡ false
+
+-- an NSEC record with the name in its gap, and its next name below it: the name is an empty non-terminal (RFC 4592 2.2.2); where the record
+-- stands above the name, it is neither one with DNAME nor that of a delegation (RFC 6840 4.1)
+pub record HasNamesBelow (c : Place) (r : NsecAt) : Type 0 where
+  pub covers : Covers r c
+  pub next_below : IsAtOrBelow (next_of r) c
+  pub no_dname : IsStrictlyBelow c (owner_of r) → has r DNAME ≡ false
+  pub no_delegation : IsStrictlyBelow c (owner_of r) → (has r NS && not (has r SOA)) ≡ false
+
+-- what a set shows: that no zone begins at the name
+abbrev pub ShowsNoZone : Place → RecordSet → Type 0
+ShowsNoZone c set = HasAlias c set ⊎ ((r : NsecAt) × IsOneNsec set r × (HasNoCut c r ⊎ HasNamesBelow c r))
+
+-- a group of class IN that a zone's keys have signed, and that is no expansion of a wildcard, shows that no zone begins at the name
+-- (RFC 4035 5.3.4)
+pub record IsShownWithin (w : World) (zone : Place) (keys : List (List ℕ)) (c : Place) : Type 0 where
+  pub group : Group
+  pub pair : Record × Key
+  pub signed : GoodPair w zone keys group pair
+  pub of_class : group.class ≡ IN
+  pub no_expansion : is_expanded group pair.0 ≡ false
+  pub shows : ShowsNoZone c (set_in group)
