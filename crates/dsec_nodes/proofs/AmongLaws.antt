@@ -7,6 +7,7 @@ use Rattle.dsec_spec.specs.Records.{Record, RecordSet}
 use Rattle.dsec_spec.specs.Accepts.{Accepts}
 use Rattle.dsec_spec.specs.Chain.{Link, Holds, IsAnchor, IsChain}
 use Rattle.dsec_nodes.specs.Taking.{IsListed}
+use Rattle.dsec_nodes.specs.SoundOutcomes.{BeginsAt}
 use Rattle.dsec_spec.proofs.Members.{in_more, not_in_none}
 
 -- an anchor that is among others is one of them
@@ -71,13 +72,6 @@ holds_among accepts anchor anchors links set t l h = record {
   shows = h.shows;
   same = h.same;
 }
-
--- a chain begins with a link
-pub record BeginsAt (links : List Link) (p : Place) : Type 0 where
-  pub first : Link
-  pub others : List Link
-  pub are : links ≡ first ∷ others
-  pub at : place first.records.owner ≡ p
 
 -- a chain from an anchor begins where the anchor stands (RFC 4033 2, island of security)
 pub chain_begins : (accepts : Accepts) (anchor : Record) (links : List Link) (zone : Place) (keys : List (List ℕ)) (t : ℕ)

@@ -14,3 +14,5 @@ pub mod WayLaws
 pub mod NextLaws
 pub mod MachineLaws
 pub mod SoundWalk
+pub mod ShownLaws
+pub mod OutcomeLaws

@@ -18,3 +18,4 @@ pub mod SoundSteps
 pub mod Judging
 pub mod Outcomes
 pub mod Alone
+pub mod SoundOutcomes

@@ -1,0 +1,285 @@
+-- A Secure outcome is sound.
+use Rattle.std.proofs.Common.{◌≡◌, ℕ, zero, suc, ◌==◌, ◌&&◌, Bool, true, false, cond, List, [], ◌∷◌, length, map, Option, Some, None, Ok, refl, sym, ap, ◌∙◌, subst}
+use Rattle.std.specs.Prelude.{Contains, position, slice_get, nat_lt}
+use Rattle.std.specs.List.{list_any, position_or_len}
+use Rattle.std.proofs.Math.Bool.{not}
+use Rattle.std.proofs.lemmas.Bool.{false≢true, and_parts, eqb-true}
+use Rattle.std.proofs.lemmas.Option.{same_Some}
+use Rattle.dsec_spec.specs.Names.{Place, place}
+use Rattle.dsec_spec.specs.Numbers.{ANY}
+use Rattle.dsec_spec.specs.Records.{Record, Rrsig, rrsig_of}
+use Rattle.dsec_spec.specs.Messages.{Question, questions_of, answers_of, authorities_of, rcode_of}
+use Rattle.dsec_spec.specs.SignedBytes.{IsExpansion}
+use Rattle.dsec_spec.specs.Groups.{Group, groups_of}
+use Rattle.dsec_spec.specs.Islands.{island}
+use Rattle.dsec_spec.specs.Redirection.{moved}
+use Rattle.dsec_spec.specs.Chain.{Link}
+use Rattle.dsec_spec.specs.Trying.{of_signature}
+use Rattle.dsec_spec.specs.Answering.{leads_on, is_expansion}
+use Rattle.dsec_spec.specs.Sound.{LeadsOn}
+use Rattle.dsec_spec.proofs.ReadingLemmas.{from_bind}
+use Rattle.dsec_spec.proofs.Members.{none_passes, from_map}
+use Rattle.dsec_spec.proofs.AnsweringLemmas.{at_question, leads_nowhere, no_expansion}
+use Rattle.dsec_nodes.specs.World.{World, Replies}
+use Rattle.dsec_nodes.specs.Causes.{Cause, NotBuilt, TooManyUnsignedCnames}
+use Rattle.dsec_nodes.specs.Signing.{is_expanded}
+use Rattle.dsec_nodes.specs.Judging.{Finding, is_shown, has_no_set, is_insecure, is_bogus, is_indeterminate, Judged, AllJudged, all, one_bogus, and_others, by_island, judged_of, judged_all}
+use Rattle.dsec_nodes.specs.Outcomes.{secure, bogus, Why, by_groups, by_links, by_nothing, Outcome, alias_path, bogus_by, not_built, ends_at, ends_bogus, by_denial}
+use Rattle.dsec_nodes.specs.Alone.{by_answer, is_answer, at_answer, by_answers, no_error_in, at_name, why_after, at_end, on_questions, on_judged, on_groups, on_sections, sections_of, alone}
+use Rattle.dsec_nodes.specs.SoundOutcomes.{IsShownSet, IsRead, IsSound}
+use Rattle.dsec_nodes.proofs.Signs.{after_those_failing}
+use Rattle.dsec_nodes.proofs.ShownLaws.{shown_is}
+
+-- what stands at the position of a test passes it
+from_position : {A : Type 0} (test : A → Bool) (xs : List A) (k : ℕ) (x : A) → position test xs ≡ Some k → slice_get xs k ≡ Some x
+    → test x ≡ true
+from_position test xs k x e f = by (nat_lt (position_or_len test xs) (length xs)) e
+  where
+    by : (b : Bool) → cond b (Some (position_or_len test xs)) None ≡ Some k → test x ≡ true
+    by true g = let same : position_or_len test xs ≡ k = same_Some _ _ g in after_those_failing test xs x (ap (slice_get xs) same ∙ f)
+    by false g = absurd cc
+
+-- a judged group is the group that was judged
+pub judged_group : (w : World) (replies : Replies) (group : Group) → (judged_of w replies group).group ≡ group
+judged_group w replies group = by_records (length group.records == 0)
+  where
+    by_top : (o : Option Place) → (by_island w replies group o).group ≡ group
+    by_top None = refl
+    by_top (Some top) = refl
+
+    by_records : (b : Bool)
+        → (cond b (record { group = group; signer = []; finding = has_no_set }) (by_island w replies group (island w.anchors (place group.owner) group.rtype))).group ≡ group
+    by_records true = refl
+    by_records false = by_top (island w.anchors (place group.owner) group.rtype)
+
+-- where all are judged, so are those after the first
+others : (j : Judged) (f : Finding) (rest : AllJudged) (js : List Judged) → and_others j f rest ≡ all js
+    → (later : List Judged) × (rest ≡ all later) × (j ∷ later ≡ js)
+others j (is_bogus cause links) rest js e = absurd cc
+others j (is_shown links last signature) (all later) js e = (later, refl, cc)
+others j has_no_set (all later) js e = (later, refl, cc)
+others j (is_insecure cause signed) (all later) js e = (later, refl, cc)
+others j is_indeterminate (all later) js e = (later, refl, cc)
+others j (is_shown links last signature) (one_bogus cause other) js e = absurd cc
+others j has_no_set (one_bogus cause other) js e = absurd cc
+others j (is_insecure cause signed) (one_bogus cause2 other) js e = absurd cc
+others j is_indeterminate (one_bogus cause other) js e = absurd cc
+
+-- groups that are all judged are those that were given, in order
+pub groups_same : (w : World) (replies : Replies) (groups : List Group) (js : List Judged) → judged_all w replies groups ≡ all js
+    → map (λ (j : Judged). j.group) js ≡ groups
+unfolding judged_all
+groups_same w replies [] js e = let none : [] ≡ js = cc in ap (map (λ (j : Judged). j.group)) (sym none)
+groups_same w replies (g ∷ gs) js e =
+    let o = others (judged_of w replies g) (judged_of w replies g).finding (judged_all w replies gs) js e in
+    ap (map (λ (j : Judged). j.group)) (sym o.2)
+    ∙ (ap (λ (x : Group). x ∷ map (λ (j : Judged). j.group) o.0) (judged_group w replies g) ∙ ap (λ (xs : List Group). g ∷ xs) (groups_same w replies gs o.0 o.1))
+
+-- and each at its place
+pub judged_at : (w : World) (replies : Replies) (groups : List Group) (js : List Judged) (k : ℕ) (j : Judged)
+    → judged_all w replies groups ≡ all js
+    → slice_get js k ≡ Some j → (g : Group) × (slice_get groups k ≡ Some g) × (judged_of w replies g ≡ j)
+unfolding judged_all
+judged_at w replies [] js k j e f = let none : [] ≡ js = cc in absurd (let g : slice_get [] k ≡ Some j = ap (λ (xs : List Judged). slice_get xs k) none ∙ f in cc)
+judged_at w replies (g ∷ gs) js zero j e f =
+    let o = others (judged_of w replies g) (judged_of w replies g).finding (judged_all w replies gs) js e in
+    (g, refl, same_Some _ _ (ap (λ (xs : List Judged). slice_get xs 0) o.2 ∙ f))
+judged_at w replies (g ∷ gs) js (suc k) j e f =
+    let o = others (judged_of w replies g) (judged_of w replies g).finding (judged_all w replies gs) js e in
+    judged_at w replies gs o.0 k j o.1 (ap (λ (xs : List Judged). slice_get xs (suc k)) o.2 ∙ f)
+
+-- a Secure outcome at a name comes of a judged group that is shown
+pub record Answered (w : World) (message : List ℕ) (question : Question) (js : List Judged) (o : Outcome) : Type 0 where
+  pub no_error : rcode_of message ≡ Some 0
+  pub index : ℕ
+  pub judged : Judged
+  pub stands : slice_get js index ≡ Some judged
+  pub at : is_answer (place question.name) question judged ≡ true
+  pub links : List Link
+  pub last : Link
+  pub signature : Record
+  pub found : judged.finding ≡ is_shown links last signature
+  pub own : is_expanded judged.group signature ≡ false
+  pub why : o.why ≡ by_groups (judged ∷ [])
+  pub no_cause : o.cause ≡ None
+
+from_no_error : (o : Option ℕ) → no_error_in o ≡ true → o ≡ Some 0
+from_no_error None e = absurd (false≢true e)
+from_no_error (Some n) e = ap (λ (k : ℕ). Some k) (eqb-true n 0 e)
+
+from_name : (w : World) (message : List ℕ) (question : Question) (js beside : List Judged)
+    → (at_name w message question (place question.name) js beside).state ≡ secure
+    → Answered w message question js (at_name w message question (place question.name) js beside)
+from_name w message question js beside e = by_error (no_error_in (rcode_of message) && not (question.rtype == ANY)) refl e
+  where
+    name : Place
+    name = place question.name
+
+    by_own : (k : ℕ) (j : Judged) (links : List Link) (last : Link) (signature : Record) → no_error_in (rcode_of message) ≡ true
+        → position (is_answer name question) js ≡ Some k → slice_get js k ≡ Some j → j.finding ≡ is_shown links last signature
+        → (b : Bool) → is_expanded j.group signature ≡ b
+        → (cond b not_built (record { state = secure; cause = None; why = by_groups (j ∷ []) })).state ≡ secure
+        → Answered w message question js (cond b not_built (record { state = secure; cause = None; why = by_groups (j ∷ []) }))
+    by_own k j links last signature fine p s f true x g = absurd cc
+    by_own k j links last signature fine p s f false x g = record {
+      no_error = from_no_error (rcode_of message) fine;
+      index = k;
+      judged = j;
+      stands = s;
+      at = from_position (is_answer name question) js k j p s;
+      links = links;
+      last = last;
+      signature = signature;
+      found = f;
+      own = x;
+      why = refl;
+      no_cause = refl;
+    }
+
+    by_finding : (k : ℕ) (j : Judged) → no_error_in (rcode_of message) ≡ true → position (is_answer name question) js ≡ Some k
+        → slice_get js k ≡ Some j → (o : Finding) → j.finding ≡ o → (by_answer w name beside j o).state ≡ secure
+        → Answered w message question js (by_answer w name beside j o)
+    by_finding k j fine p s (is_shown links last signature) f g = by_own k j links last signature fine p s f (is_expanded j.group signature) refl g
+    by_finding k j fine p s has_no_set f g = absurd cc
+    by_finding k j fine p s (is_insecure cause signed) f g = absurd cc
+    by_finding k j fine p s (is_bogus cause links) f g = absurd cc
+    by_finding k j fine p s is_indeterminate f g = absurd cc
+
+    by_judged : (k : ℕ) → no_error_in (rcode_of message) ≡ true → position (is_answer name question) js ≡ Some k → (o : Option Judged)
+        → slice_get js k ≡ o → (at_answer w name beside o).state ≡ secure → Answered w message question js (at_answer w name beside o)
+    by_judged k fine p None s g = absurd cc
+    by_judged k fine p (Some j) s g = by_finding k j fine p s j.finding refl g
+
+    by_position : no_error_in (rcode_of message) ≡ true → (o : Option ℕ) → position (is_answer name question) js ≡ o
+        → (by_answers w message question name js beside o).state ≡ secure
+        → Answered w message question js (by_answers w message question name js beside o)
+    by_position fine None p g = absurd cc
+    by_position fine (Some k) p g = by_judged k fine p (slice_get js k) refl g
+
+    by_error : (b : Bool) → (no_error_in (rcode_of message) && not (question.rtype == ANY)) ≡ b
+        → (cond b (by_answers w message question name js beside (position (is_answer name question) js)) (by_denial w message question name beside)).state ≡ secure
+        → Answered w message question js (cond b (by_answers w message question name js beside (position (is_answer name question) js)) (by_denial w message question name beside))
+    by_error true f g = by_position (and_parts _ _ f).0 (position (is_answer name question) js) refl g
+    by_error false f g = absurd cc
+
+-- where the path of names ends at the question's own name, a Secure outcome is the answer's
+pub record Ended (w : World) (message : List ℕ) (question : Question) (js : List Judged) (o : Outcome) : Type 0 where
+  pub no_alias : list_any (λ (j : Judged). leads_on w.anchors question j.group) js ≡ false
+  pub answered : Answered w message question js o
+
+from_end : (w : World) (message : List ℕ) (question : Question) (js beside : List Judged)
+    → (at_end w message question js beside (alias_path w question js)).state ≡ secure
+    → Ended w message question js (at_end w message question js beside (alias_path w question js))
+from_end w message question js beside e = by (list_any (λ (j : Judged). leads_on w.anchors question j.group) js) refl e
+  where
+    by : (b : Bool) → list_any (λ (j : Judged). leads_on w.anchors question j.group) js ≡ b
+        → (at_end w message question js beside (cond b (ends_bogus NotBuilt) (ends_at (place question.name) secure []))).state ≡ secure
+        → Ended w message question js (at_end w message question js beside (cond b (ends_bogus NotBuilt) (ends_at (place question.name) secure [])))
+    by true f g = absurd cc
+    by false f g =
+        let a = from_name w message question js beside g in
+        record {
+          no_alias = f;
+          answered = record {
+            no_error = a.no_error;
+            index = a.index;
+            judged = a.judged;
+            stands = a.stands;
+            at = a.at;
+            links = a.links;
+            last = a.last;
+            signature = a.signature;
+            found = a.found;
+            own = a.own;
+            why = ap (why_after []) a.why;
+            no_cause = a.no_cause;
+          };
+        }
+
+-- the set of a shown group is no expansion, where the test of its signature says so
+own_set : (group : Group) (signature : Record) (sig : Rrsig) → rrsig_of signature.rdata ≡ Some sig → is_expanded group signature ≡ false
+    → IsExpansion sig.labels group.owner → ⊥
+own_set group signature sig reads e =
+    no_expansion sig.labels group.owner (sym (ap (of_signature (λ (s : Rrsig). is_expansion s.labels group.owner)) reads) ∙ e)
+
+-- an outcome that ends so is sound
+sound_end : (w : World) (most : ℕ) (replies : Replies) (message : List ℕ) (question : Question) (groups : List Group) (js : List Judged) (o : Outcome)
+    → IsRead message most question groups → judged_all w replies groups ≡ all js → Ended w message question js o → IsSound w most message o
+sound_end w most replies message question groups js o read e end =
+    let a = end.answered in
+    let at = judged_at w replies groups js a.index a.judged e a.stands in
+    let shown = shown_is w replies at.0 a.links a.last a.signature (ap (λ (j : Judged). j.finding) at.2 ∙ a.found) in
+    record {
+      question = question;
+      answers = groups;
+      read = read;
+      index = a.index;
+      judged = a.judged;
+      stands = at.1 ∙ ap (λ (g : Group). Some g) (sym (sym (ap (λ (j : Judged). j.group) at.2) ∙ shown.1));
+      links = a.links;
+      last = a.last;
+      signature = a.signature;
+      found = a.found;
+      shown = subst (λ (j : Judged). IsShownSet w j a.links a.last a.signature) at.2 shown.0;
+      ends = record {
+        no_error = a.no_error;
+        no_alias = λ other there leads.
+            let m = from_map (λ (j : Judged). j.group) js other (subst (λ (gs : List Group). Contains gs other) (sym (groups_same w replies groups js e)) there) in
+            leads_nowhere w.anchors question m.0.group (none_passes (λ (j : Judged). leads_on w.anchors question j.group) js end.no_alias m.0 m.1)
+            (subst (LeadsOn w.anchors question) (sym m.2) leads);
+        at_question = at_question question a.judged.group a.at;
+        no_expansion = λ rrsig reads. own_set a.judged.group a.signature rrsig reads a.own;
+      };
+      why = a.why;
+      no_cause = a.no_cause;
+    }
+
+bogus_never : (cause : Cause) (why : Why) (o : Outcome) → bogus_by cause why ≡ o → o.state ≡ secure → ⊥
+bogus_never cause why o e f = let g : bogus ≡ secure = ap (λ (x : Outcome). x.state) e ∙ f in cc
+
+-- a Secure outcome is sound (RFC 4033 5, RFC 4035 5)
+pub alone_sound : (w : World) (most : ℕ) (replies : Replies) (message : List ℕ) (o : Outcome) → alone w most replies message ≡ Ok o
+    → o.state ≡ secure
+    → IsSound w most message o
+alone_sound w most replies message o e st = by_sections (sections_of message) refl e
+  where
+    by_questions : (s : List Question × List Record × List Record) → sections_of message ≡ Some s → (groups : List Group)
+        → moved most (groups_of s.1) ≡ Some groups → (js beside : List Judged) → judged_all w replies groups ≡ all js
+        → (qs : List Question) → s.0 ≡ qs → on_questions w message qs js beside ≡ Ok o → IsSound w most message o
+    by_questions s r groups m js beside j [] q g = absurd cc
+    by_questions s r groups m js beside j (question ∷ other ∷ more) q g = absurd cc
+    by_questions s r groups m js beside j (question ∷ []) q g =
+        let out = at_end w message question js beside (alias_path w question js) in
+        let same : out ≡ o = cc in
+        let authorities = from_bind (authorities_of message) _ s r in
+        let answers = from_bind (answers_of message) _ s authorities.2 in
+        let questions = from_bind (questions_of message) _ s answers.2 in
+        let parts : (questions.0.0, answers.0.0, authorities.0.0) ≡ s = same_Some _ _ questions.2 in
+        let read : IsRead message most question groups = record {
+          questions_end = questions.0.1;
+          asked = questions.1 ∙ ap (λ (x : List Question). Some (x, questions.0.1)) (ap (λ (x : List Question × List Record × List Record). x.0) parts ∙ q);
+          section = s.1;
+          section_end = answers.0.1;
+          read = answers.1 ∙ ap (λ (x : List Record). Some (x, answers.0.1)) (ap (λ (x : List Question × List Record × List Record). x.1) parts);
+          groups = m;
+        } in
+        subst (IsSound w most message) same
+        (sound_end w most replies message question groups js out read j (from_end w message question js beside (ap (λ (x : Outcome). x.state) same ∙ st)))
+
+    by_judged : (s : List Question × List Record × List Record) → sections_of message ≡ Some s → (groups : List Group)
+        → moved most (groups_of s.1) ≡ Some groups → (a b : AllJudged) → judged_all w replies groups ≡ a
+        → on_judged w message s.0 a b ≡ Ok o → IsSound w most message o
+    by_judged s r groups m (one_bogus cause links) b j g = absurd (let same : bogus_by cause (by_links links) ≡ o = cc in bogus_never cause (by_links links) o same st)
+    by_judged s r groups m (all js) (one_bogus cause links) j g = absurd (let same : bogus_by cause (by_links links) ≡ o = cc in bogus_never cause (by_links links) o same st)
+    by_judged s r groups m (all js) (all beside) j g = by_questions s r groups m js beside j s.0 refl g
+
+    by_moved : (s : List Question × List Record × List Record) → sections_of message ≡ Some s → (m : Option (List Group))
+        → moved most (groups_of s.1) ≡ m → on_groups w replies message s.0 m (groups_of s.2) ≡ Ok o → IsSound w most message o
+    by_moved s r None m g = absurd (let same : bogus_by TooManyUnsignedCnames by_nothing ≡ o = cc in bogus_never TooManyUnsignedCnames by_nothing o same st)
+    by_moved s r (Some groups) m g = by_judged s r groups m (judged_all w replies groups) (judged_all w replies (groups_of s.2)) refl g
+
+    by_sections : (x : Option (List Question × List Record × List Record)) → sections_of message ≡ x
+        → on_sections w most replies message x ≡ Ok o
+        → IsSound w most message o
+    by_sections None f g = absurd cc
+    by_sections (Some s) f g = by_moved s f (moved most (groups_of s.1)) refl g
