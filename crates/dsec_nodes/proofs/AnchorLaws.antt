@@ -189,7 +189,7 @@ anchored_rests w top group p g at = record {
 }
 
 bogus_under : (w : World) (top : Place) (cause : Cause) → KeptUnder w top top (bogus_at w top cause)
-bogus_under w top cause = (bogus_kept w top cause, λ e. absurd (true≢false e))
+bogus_under w top cause = (bogus_kept w top cause, λ e. absurd (true≢false e), refl)
 
 in_under : (w : World) (top : Place) (answers : List Group) (o : Option Group) → find (is_set_at top DNSKEY) answers ≡ o
     → KeptUnder w top top (anchored_in w top o)
@@ -206,7 +206,7 @@ in_under w top answers (Some group) e = by (tried_by w group (anchor_search w.bo
         → KeptUnder w top top (anchored_by w top group t)
     by (good p) f =
         let g = from_tried_anchors w w.bounds.max_keys_for_ds group p f in
-        (anchored_kept w top group p g at, λ _. anchored_rests w top group p g at)
+        (anchored_kept w top group p g at, λ _. anchored_rests w top group p g at, refl)
     by nothing f = bogus_under w top why
     by all_bad f = bogus_under w top why
     by too_many_bad f = bogus_under w top TooManyBadSignaturesForDnskey

@@ -52,7 +52,7 @@ alias_kept w zone keys name authorities None h below = missing_below w zone keys
 alias_kept w zone keys name authorities (Some group) h below =
     either (BelowFollows w zone keys name) (length group.records == 1) _ _
     (λ _. one_kept w zone keys name group _ (under_keys w zone.signer keys group) refl (λ p g.
-    either (BelowFollows w zone keys name) (is_expanded group p.0) _ _ (λ _. missing_below w zone keys name authorities h below) (λ _. (within_kept w zone keys name group p h, λ _. refl))))
+    either (BelowFollows w zone keys name) (is_expanded group p.0) _ _ (λ _. missing_below w zone keys name authorities h below) (λ _. (within_kept w zone keys name group p h, λ _. refl, refl))))
     (λ _. missing_below w zone keys name authorities h below)
 
 signed_ds_kept : (w : World) (zone : Node) (keys : List (List ℕ)) (name : Place) (group : Group) (p : Record × Key) → HeldZone w zone keys
@@ -68,6 +68,7 @@ signed_ds_kept w zone keys name group p h below at g whole =
         none = none_usable (set_in group).datas none;
       }),
       λ _. refl,
+      refl,
     ))
     (λ _. (is_pending w zone keys name group p g at below, refl))
 
@@ -104,6 +105,7 @@ key_set_below w zone keys pending answers (Some group) e h d = by (tried_by w gr
       apex_kept w zone keys pending group p h d (from_tried_by w w.bounds.max_keys_for_ds group (ways w pending) p f)
           (set_at pending.name DNSKEY group (from_find (is_set_at pending.name DNSKEY) answers group e).0),
       λ _. refl,
+      refl,
     )
     by nothing f = bogus_below w zone pending.name why
     by all_bad f = bogus_below w zone pending.name why

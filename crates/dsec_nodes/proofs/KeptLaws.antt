@@ -137,10 +137,10 @@ insecure_kept w zone keys name cause basis group p h g at classed below whole sh
 abbrev pub Follows : Node → Node → Type 0
 Follows zone n = IsBogus n.standing ≡ false → n.anchor ≡ zone.anchor
 
--- a node of this name that is kept, and follows from a zone
+-- a node of this name that is kept, follows from a zone, and was made within the taker's bounds
 abbrev pub KeptBelow : World → Node → Place → Node → Type 0
-KeptBelow w zone name n = KeptAt w name n × Follows zone n
+KeptBelow w zone name n = KeptAt w name n × Follows zone n × (n.bounds ≡ w.bounds)
 
 -- a bogus node is kept, and follows from each zone
 pub bogus_below : (w : World) (zone : Node) (name : Place) (cause : Cause) → KeptBelow w zone name (bogus_at w name cause)
-bogus_below w zone name cause = (bogus_kept w name cause, λ e. absurd (true≢false e))
+bogus_below w zone name cause = (bogus_kept w name cause, λ e. absurd (true≢false e), refl)

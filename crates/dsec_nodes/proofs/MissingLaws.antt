@@ -67,15 +67,16 @@ matching_kept w zone keys name group nsec p n at g =
         no_apex = no_apex;
       }),
       λ _. refl,
+      refl,
     ))
-    (λ _. (within_kept w zone keys name group p n.zone_held, λ _. refl)))))
+    (λ _. (within_kept w zone keys name group p n.zone_held, λ _. refl, refl)))))
 
 range_kept : (w : World) (zone : Node) (keys : List (List ℕ)) (name : Place) (group : Group) (nsec : Nsec) → HeldZone w zone keys
     → LookedKept w zone name (by_range w zone keys name group nsec)
 range_kept w zone keys name group nsec h =
     either (LookedKept w zone name) (is_in_range (place group.owner) (place nsec.next_name) name && is_below (place nsec.next_name) name) _ _
     (λ _. signed_kept w zone keys name group (by_covering w zone name group) (under_keys w zone.signer keys group) refl (λ p g.
-    either (LookedKept w zone name) (is_expanded group p.0) _ _ (λ _. bogus_below w zone name EmptyNonTerminalNsecFromWildcard) (λ _. (within_kept w zone keys name group p h, λ _. refl))))
+    either (LookedKept w zone name) (is_expanded group p.0) _ _ (λ _. bogus_below w zone name EmptyNonTerminalNsecFromWildcard) (λ _. (within_kept w zone keys name group p h, λ _. refl, refl))))
     (λ _. tt)
 
 prefix_kept : (w : World) (zone : Node) (keys : List (List ℕ)) (name : Place) (group : Group) (nsec : Nsec) (p : Record × Key)

@@ -111,7 +111,7 @@ given_sound w s (Some n) h further i = by (counts w s.top (name_at s) n && may_s
     by true e =
         let both = and_parts _ _ e in
         let t = taken w s.top (name_at s) n both.0 in
-        let k : KeptUnder w s.top (name_at s) n = ((i, t.named, t.from, t.to), λ _. t.rests) in
+        let k : KeptUnder w s.top (name_at s) n = ((i, t.named, t.from, t.to), λ _. t.rests, t.within) in
         ahead_sound w (with_got s n) (record {
           below = h.below;
           shorter = h.shorter;
@@ -134,7 +134,7 @@ first_sound w s octets h further = by s.reached refl
         → BelowFollows w r.zone (held_keys r.zone.standing) (name_at s) b → Sound w (below_by s (heard s DS octets) b)
     by_below r e z (made n) k =
         making_sound w s (heard s DS octets) n h further (ap (λ (x : Option Reached). may_stand x n.standing) e)
-        (k.0, rests_below w.anchors s.top r.zone n z k.1)
+        (k.0, rests_below w.anchors s.top r.zone n z k.1, k.2)
     by_below r e z (asks pending) k =
         (record { below = h.below; shorter = h.shorter; is_ahead = further; on_way = h.on_way; pends = subst (PendingSound w s (asks_keys pending)) (sym e) k }, tt)
 
@@ -167,7 +167,7 @@ key_sound w s pending octets h p further = by s.reached refl
         let z = in_zone w s r f g in
         let k = key_reply_below w r.zone (held_keys r.zone.standing) pending (read_reply octets) z.zone_held q.0 in
         making_sound w s (heard s DNSKEY octets) n h further (ap (λ (x : Option Reached). may_stand x n.standing) e)
-        (subst (λ (x : Place). KeptAt w x n) q.1 k.0, rests_below w.anchors s.top r.zone n z.zone_rests k.1)
+        (subst (λ (x : Place). KeptAt w x n) q.1 k.0, rests_below w.anchors s.top r.zone n z.zone_rests k.1, k.2)
 
 -- each step keeps a walk sound, and puts and ends with kept nodes alone
 pub advanced_sound : (w : World) (s : Walking) (input : Input) → SoundStep w s → Answers s.phase input → InputKept w input

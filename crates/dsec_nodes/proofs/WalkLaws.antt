@@ -1,8 +1,9 @@
 -- Each node on the way from an island down is kept.
-use Rattle.std.proofs.Common.{cond, take-take}
+use Rattle.std.proofs.Common.{cond, take-take, drop}
 use Rattle.std.proofs.Common.{◌≡◌, ℕ, zero, suc, ◌+◌, ◌-◌, ◌<◌, ◌≤◌, Bool, true, false, List, [], ◌∷◌, length, take, refl, sym, ap, ◌∙◌, subst, arith, length-append}
 use Rattle.std.proofs.Math.Seq.{take-append_seam}
 use Rattle.std.proofs.lemmas.Bool.{false≢true}
+use Rattle.std.proofs.lemmas.List.{take-append-drop}
 use Rattle.dsec_spec.specs.Names.{Place, IsAtOrBelow, IsStrictlyBelow}
 use Rattle.dsec_spec.specs.Numbers.{DNSKEY}
 use Rattle.dsec_spec.specs.Records.{Record}
@@ -46,20 +47,38 @@ zone_in w top name labels n keys e k =
       is = at.1;
     }
 
+-- a front of a name is at or above it
+front_over : (name : Place) (m : ℕ) → IsAtOrBelow name (take m name)
+front_over name m = record { under = drop m name; is = sym (take-append-drop m name) }
+
+-- what is reached with a node at or above the name is on the way
+on_way : (w : World) (top name p : Place) (labels : ℕ) (r : Reached) → KeptUnder w top p r.node → IsAtOrBelow name p
+    → (goes_on r.node.standing ≡ true → InZone w top name labels r) → OnTheWay w top name labels r
+on_way w top name p labels r k over z = record {
+  node_kept = k.0.0;
+  node_rests = k.1;
+  node_bounds = k.2;
+  from = k.0.2;
+  to = k.0.3;
+  over = subst (λ (q : Place). IsAtOrBelow name q) (sym k.0.1) over;
+  in_zone = z;
+}
+
 -- after a node that was made at the next name
 pub after_kept : (w : World) (top name : Place) (labels : ℕ) (r : Reached) (n : Node) (s : Standing) → n.standing ≡ s
     → InZone w top name labels r → KeptUnder w top (take (suc labels) name) n → OnTheWay w top name (suc labels) (after r.zone n s)
 after_kept w top name labels r n (apex keys) e z k =
-    record { node_kept = k.0.0; node_rests = k.1; in_zone = λ _. zone_in w top name (suc labels) n keys e k }
-after_kept w top name labels r n within e z k = record {
-  node_kept = k.0.0;
-  node_rests = k.1;
-  in_zone = λ _. record { zone_held = z.zone_held; zone_rests = z.zone_rests; count = z.count; at_most = omega (arith, z.at_most); is = z.is };
-}
+    on_way w top name (take (suc labels) name) (suc labels) (record { zone = n; node = n }) k (front_over name (suc labels))
+    (λ _. zone_in w top name (suc labels) n keys e k)
+after_kept w top name labels r n within e z k =
+    on_way w top name (take (suc labels) name) (suc labels) (record { zone = r.zone; node = n }) k (front_over name (suc labels))
+    (λ _. record { zone_held = z.zone_held; zone_rests = z.zone_rests; count = z.count; at_most = omega (arith, z.at_most); is = z.is })
 after_kept w top name labels r n (insecure cause signed) e z k =
-    record { node_kept = k.0.0; node_rests = k.1; in_zone = λ g. absurd (false≢true (sym (ap goes_on e) ∙ g)) }
+    on_way w top name (take (suc labels) name) (suc labels) (record { zone = r.zone; node = n }) k (front_over name (suc labels))
+    (λ g. absurd (false≢true (sym (ap goes_on e) ∙ g)))
 after_kept w top name labels r n (bogus cause) e z k =
-    record { node_kept = k.0.0; node_rests = k.1; in_zone = λ g. absurd (false≢true (sym (ap goes_on e) ∙ g)) }
+    on_way w top name (take (suc labels) name) (suc labels) (record { zone = r.zone; node = n }) k (front_over name (suc labels))
+    (λ g. absurd (false≢true (sym (ap goes_on e) ∙ g)))
 
 -- a node that follows from a zone has its anchor
 pub rests_below : (anchors : List Record) (top : Place) (zone n : Node) → RestsAt anchors top zone → Follows zone n → Rests anchors top n
@@ -80,25 +99,34 @@ onward_kept w replies top name labels r le o = by (goes_on r.node.standing) refl
         let below : IsStrictlyBelow next_name r.zone.signer =
         subst (λ (p : Place). IsStrictlyBelow next_name p) (sym z.is) (strictly_taken name z.count (suc labels) (omega (arith, z.at_most)) le) in
         let kept = child_below w replies r.zone (held_keys r.zone.standing) next_name z.zone_held below in
-        after_kept w top name labels r n n.standing refl z (kept.0, rests_below w.anchors top r.zone n z.zone_rests kept.1)
+        after_kept w top name labels r n n.standing refl z (kept.0, rests_below w.anchors top r.zone n z.zone_rests kept.1, kept.2)
 
     by : (b : Bool) → goes_on r.node.standing ≡ b → OnTheWay w top name (suc labels) (cond b (after r.zone n n.standing) r)
     by true f = further (o.in_zone f)
-    by false f = record { node_kept = o.node_kept; node_rests = o.node_rests; in_zone = λ g. absurd (false≢true (sym f ∙ g)) }
+    by false f = record {
+      node_kept = o.node_kept;
+      node_rests = o.node_rests;
+      node_bounds = o.node_bounds;
+      from = o.from;
+      to = o.to;
+      over = o.over;
+      in_zone = λ g. absurd (false≢true (sym f ∙ g));
+    }
+
+-- an island that is a front of a name is at or above it
+top_over : (name top : Place) → top ≡ take (length top) name → IsAtOrBelow name top
+top_over name top t = subst (λ (p : Place). IsAtOrBelow name p) (sym t) (front_over name (length top))
 
 -- a walk begins at an island's node that is kept
 pub first_kept : (w : World) (top name : Place) (n : Node) (s : Standing) → n.standing ≡ s → (n.standing ≡ within → ⊥)
     → top ≡ take (length top) name → KeptUnder w top top n → OnTheWay w top name (length top) (record { zone = n; node = n })
-first_kept w top name n (apex keys) e never t k = record {
-  node_kept = k.0.0;
-  node_rests = k.1;
-  in_zone = λ _. zone_in w top name (length top) n keys e (subst (λ (p : Place). KeptUnder w top p n) t k);
-}
+first_kept w top name n (apex keys) e never t k = on_way w top name top (length top) (record { zone = n; node = n }) k (top_over name top t)
+    (λ _. zone_in w top name (length top) n keys e (subst (λ (p : Place). KeptUnder w top p n) t k))
 first_kept w top name n within e never t k = absurd (never e)
-first_kept w top name n (insecure cause signed) e never t k =
-    record { node_kept = k.0.0; node_rests = k.1; in_zone = λ g. absurd (false≢true (sym (ap goes_on e) ∙ g)) }
-first_kept w top name n (bogus cause) e never t k =
-    record { node_kept = k.0.0; node_rests = k.1; in_zone = λ g. absurd (false≢true (sym (ap goes_on e) ∙ g)) }
+first_kept w top name n (insecure cause signed) e never t k = on_way w top name top (length top) (record { zone = n; node = n }) k (top_over name top t)
+    (λ g. absurd (false≢true (sym (ap goes_on e) ∙ g)))
+first_kept w top name n (bogus cause) e never t k = on_way w top name top (length top) (record { zone = n; node = n }) k (top_over name top t)
+    (λ g. absurd (false≢true (sym (ap goes_on e) ∙ g)))
 
 -- each node on the way is kept
 pub way_kept : (w : World) (replies : Replies) (top name : Place) (k : ℕ) → top ≡ take (length top) name → length top + k ≤ length name

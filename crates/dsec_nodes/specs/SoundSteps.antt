@@ -1,6 +1,6 @@
 -- Walks that are sound: what they reach, put and end with is kept (RFC 4035 4.5, 5).
 use Rattle.std.specs.Prelude.{◌≡◌, ℕ, suc, ◌+◌, ◌≤◌, true, length, take, Option, Some, None}
-use Rattle.dsec_spec.specs.Names.{Place}
+use Rattle.dsec_spec.specs.Names.{Place, IsAtOrBelow}
 use Rattle.dsec_nodes.specs.World.{World}
 use Rattle.dsec_nodes.specs.Nodes.{Node, Kept}
 use Rattle.dsec_nodes.specs.Walk.{Reached, held_keys, goes_on}
@@ -8,9 +8,10 @@ use Rattle.dsec_nodes.specs.Held.{HeldZone, KeptAt, IsPending}
 use Rattle.dsec_nodes.specs.Taking.{RestsAt, Rests}
 use Rattle.dsec_nodes.specs.Machine.{Phase, begins, gets, asks_first, asks_keys, puts, ends, Walking, Step, node_get, node_put, ask, done, Input, begin, node, stored, reply, name_at, IsAhead}
 
--- a node of this name that is kept, counts at the moment of judging, and unless it is bogus has an anchor of the island's (RFC 4033 2)
+-- a node of this name that is kept, counts at the moment of judging, was made within the taker's bounds, and unless it is bogus has an anchor
+-- of the island's (RFC 4033 2)
 abbrev pub KeptUnder : World → Place → Place → Node → Type 0
-KeptUnder w top name n = KeptAt w name n × Rests w.anchors top n
+KeptUnder w top name n = KeptAt w name n × Rests w.anchors top n × (n.bounds ≡ w.bounds)
 
 -- the last zone of what is reached is held from an anchor of the island's, and its name is a front of this name, of so many labels at most
 pub record InZone (w : World) (top name : Place) (labels : ℕ) (r : Reached) : Type 0 where
@@ -20,10 +21,15 @@ pub record InZone (w : World) (top name : Place) (labels : ℕ) (r : Reached) : 
   pub at_most : count ≤ labels
   pub is : r.zone.signer ≡ take count name
 
--- what is reached so many labels down the way from an island to a name: its node is kept, from an anchor of the island's, and where the walk goes on its last zone is held
+-- what is reached so many labels down the way from an island to a name: its node counts, from an anchor of the island's, and is
+-- at or above the name; and where the walk goes on its last zone is held
 pub record OnTheWay (w : World) (top name : Place) (labels : ℕ) (r : Reached) : Type 0 where
   pub node_kept : Kept w.accepts r.node
   pub node_rests : Rests w.anchors top r.node
+  pub node_bounds : r.node.bounds ≡ w.bounds
+  pub from : r.node.made ≤ w.now
+  pub to : w.now ≤ r.node.made + r.node.valid_for
+  pub over : IsAtOrBelow name r.node.name
   pub in_zone : goes_on r.node.standing ≡ true → InZone w top name labels r
 
 -- what a walk has reached is on the way to its target
