@@ -15,4 +15,5 @@ pub mod NextLaws
 pub mod MachineLaws
 pub mod SoundWalk
 pub mod ShownLaws
+pub mod UnsignedLaws
 pub mod OutcomeLaws
