@@ -16,4 +16,6 @@ pub mod MachineLaws
 pub mod SoundWalk
 pub mod ShownLaws
 pub mod UnsignedLaws
+pub mod JudgingLaws
 pub mod OutcomeLaws
+pub mod TruthLaws

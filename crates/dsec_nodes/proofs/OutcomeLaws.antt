@@ -1,5 +1,5 @@
 -- Each outcome is justified: a Secure one by links, an Insecure one by a signed cause.
-use Rattle.std.proofs.Common.{◌≡◌, ℕ, zero, suc, ◌==◌, ◌&&◌, Bool, true, false, cond, List, [], ◌∷◌, length, map, Option, Some, None, Ok, refl, sym, ap, ◌∙◌, subst, inl, inr, ◌⊎◌}
+use Rattle.std.proofs.Common.{◌≡◌, ℕ, ◌==◌, ◌&&◌, Bool, true, false, cond, List, [], ◌∷◌, length, Option, Some, None, Ok, refl, sym, ap, ◌∙◌, subst, inl, inr, ◌⊎◌}
 use Rattle.std.specs.Prelude.{Contains, position, slice_get, nat_lt, IsSome}
 use Rattle.std.specs.List.{list_any, position_or_len}
 use Rattle.std.proofs.Math.Bool.{not}
@@ -23,11 +23,12 @@ use Rattle.dsec_spec.proofs.AnsweringLemmas.{at_question, leads_nowhere, no_expa
 use Rattle.dsec_nodes.specs.World.{World, Replies}
 use Rattle.dsec_nodes.specs.Causes.{Cause, NotBuilt, TooManyUnsignedCnames}
 use Rattle.dsec_nodes.specs.Signing.{is_expanded}
-use Rattle.dsec_nodes.specs.Judging.{Finding, is_shown, has_no_set, is_insecure, is_bogus, is_indeterminate, Judged, AllJudged, all, one_bogus, and_others, by_island, judged_of, judged_all}
+use Rattle.dsec_nodes.specs.Judging.{Finding, is_shown, has_no_set, is_insecure, is_bogus, is_indeterminate, Judged, AllJudged, all, one_bogus, judged_of, judged_all}
 use Rattle.dsec_nodes.specs.Outcomes.{State, secure, bogus, Why, by_groups, by_links, by_nothing, Outcome, bogus_by, not_built, alias_path, ends_at, ends_bogus, by_denial}
 use Rattle.dsec_nodes.specs.Alone.{by_answer, is_answer, at_answer, by_answers, no_error_in, at_name, after_path, at_end, on_questions, on_judged, on_groups, on_sections, sections_of, alone}
 use Rattle.dsec_nodes.specs.SoundOutcomes.{IsShownSet, IsShownInsecure, IsRead, IsAnswered, IsSound, IsJustified}
 use Rattle.dsec_nodes.proofs.Signs.{after_those_failing}
+use Rattle.dsec_nodes.proofs.JudgingLaws.{judged_group, groups_same, judged_at}
 use Rattle.dsec_nodes.proofs.ShownLaws.{shown_is}
 use Rattle.dsec_nodes.proofs.UnsignedLaws.{insecure_is, no_set_is, indeterminate_is}
 
@@ -39,55 +40,6 @@ from_position test xs k x e f = by (nat_lt (position_or_len test xs) (length xs)
     by : (b : Bool) → cond b (Some (position_or_len test xs)) None ≡ Some k → test x ≡ true
     by true g = let same : position_or_len test xs ≡ k = same_Some _ _ g in after_those_failing test xs x (ap (slice_get xs) same ∙ f)
     by false g = absurd cc
-
--- a judged group is the group that was judged
-pub judged_group : (w : World) (replies : Replies) (group : Group) → (judged_of w replies group).group ≡ group
-judged_group w replies group = by_records (length group.records == 0)
-  where
-    by_top : (o : Option Place) → (by_island w replies group o).group ≡ group
-    by_top None = refl
-    by_top (Some top) = refl
-
-    by_records : (b : Bool)
-        → (cond b (record { group = group; signer = []; finding = has_no_set }) (by_island w replies group (island w.anchors (place group.owner) group.rtype))).group ≡ group
-    by_records true = refl
-    by_records false = by_top (island w.anchors (place group.owner) group.rtype)
-
--- where all are judged, so are those after the first
-others : (j : Judged) (f : Finding) (rest : AllJudged) (js : List Judged) → and_others j f rest ≡ all js
-    → (later : List Judged) × (rest ≡ all later) × (j ∷ later ≡ js)
-others j (is_bogus cause links) rest js e = absurd cc
-others j (is_shown links last signature) (all later) js e = (later, refl, cc)
-others j has_no_set (all later) js e = (later, refl, cc)
-others j (is_insecure cause signed) (all later) js e = (later, refl, cc)
-others j is_indeterminate (all later) js e = (later, refl, cc)
-others j (is_shown links last signature) (one_bogus cause other) js e = absurd cc
-others j has_no_set (one_bogus cause other) js e = absurd cc
-others j (is_insecure cause signed) (one_bogus cause2 other) js e = absurd cc
-others j is_indeterminate (one_bogus cause other) js e = absurd cc
-
--- groups that are all judged are those that were given, in order
-pub groups_same : (w : World) (replies : Replies) (groups : List Group) (js : List Judged) → judged_all w replies groups ≡ all js
-    → map (λ (j : Judged). j.group) js ≡ groups
-unfolding judged_all
-groups_same w replies [] js e = let none : [] ≡ js = cc in ap (map (λ (j : Judged). j.group)) (sym none)
-groups_same w replies (g ∷ gs) js e =
-    let o = others (judged_of w replies g) (judged_of w replies g).finding (judged_all w replies gs) js e in
-    ap (map (λ (j : Judged). j.group)) (sym o.2)
-    ∙ (ap (λ (x : Group). x ∷ map (λ (j : Judged). j.group) o.0) (judged_group w replies g) ∙ ap (λ (xs : List Group). g ∷ xs) (groups_same w replies gs o.0 o.1))
-
--- and each at its place
-pub judged_at : (w : World) (replies : Replies) (groups : List Group) (js : List Judged) (k : ℕ) (j : Judged)
-    → judged_all w replies groups ≡ all js
-    → slice_get js k ≡ Some j → (g : Group) × (slice_get groups k ≡ Some g) × (judged_of w replies g ≡ j)
-unfolding judged_all
-judged_at w replies [] js k j e f = let none : [] ≡ js = cc in absurd (let g : slice_get [] k ≡ Some j = ap (λ (xs : List Judged). slice_get xs k) none ∙ f in cc)
-judged_at w replies (g ∷ gs) js zero j e f =
-    let o = others (judged_of w replies g) (judged_of w replies g).finding (judged_all w replies gs) js e in
-    (g, refl, same_Some _ _ (ap (λ (xs : List Judged). slice_get xs 0) o.2 ∙ f))
-judged_at w replies (g ∷ gs) js (suc k) j e f =
-    let o = others (judged_of w replies g) (judged_of w replies g).finding (judged_all w replies gs) js e in
-    judged_at w replies gs o.0 k j o.1 (ap (λ (xs : List Judged). slice_get xs (suc k)) o.2 ∙ f)
 
 -- a bogus outcome with a cause
 abbrev pub IsBogusWithCause : Outcome → Type 0
