@@ -1,0 +1,3 @@
+pub mod KeyData
+pub mod NodeSteps
+pub mod CountingLaws

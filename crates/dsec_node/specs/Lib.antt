@@ -1,2 +1,6 @@
 pub mod Configs
 pub mod KeptBounds
+pub mod Views
+pub mod KeyTags
+pub mod Counting
+pub mod Good

@@ -3,7 +3,20 @@
 
 mod bounds;
 mod config;
+mod copies;
+mod counting;
 mod ends;
+mod keys;
+mod links;
+mod making;
+mod node;
+mod pending;
+mod standing;
 
 pub use bounds::Bounds;
 pub use config::Config;
+pub use keys::Keys;
+pub use links::{kept_for, link_by_keys};
+pub use node::Node;
+pub use pending::Pending;
+pub use standing::{Ground, SignedCause, Standing};

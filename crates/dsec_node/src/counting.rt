@@ -1,0 +1,105 @@
+//! For how long a node counts, and for whom (RFC 4035 4.5, 5.3.3).
+
+ghost use Rattle.std.specs.Prelude.{◌≡◌, ◌↔◌, IsTrue};
+ghost use Rattle.std.specs.List.{list_any};
+ghost use Rattle.dsec_spec.specs.Names.{place};
+ghost use Rattle.dsec_nodes.specs.Nodes.{IsBogus};
+ghost use Rattle.dsec_node.specs.Counting.{CountsFor, HasAnchorAmong, IsExpired, same_anchor, seconds_kept};
+ghost use Rattle.dsec_node.specs.Views.{bounds_view, world_of};
+
+use crate::bounds::Bounds;
+use crate::node::Node;
+use crate::standing::Standing;
+use dsec_crypto::Verifier;
+use dsec_name::Name;
+use dsec_wire::Record;
+
+impl<V: Verifier> Node<V> {
+    /// Whether it counts no more, or not yet, at a moment in seconds since 1970.
+    pub fn expired(&self, now: u64) -> bool
+        ensures { IsTrue result ↔ IsExpired self.now now }
+    {
+        match now.checked_sub(self.made()) {
+            Some(elapsed) => self.valid_for() < elapsed,
+            None => true,
+        }
+    }
+
+    /// For how many seconds more it counts at a moment; 0 where it is expired.
+    pub fn ttl(&self, now: u64) -> u64
+        ensures { result ≡ seconds_kept self.now now }
+    {
+        match now.checked_sub(self.made()) {
+            Some(elapsed) => self.valid_for().saturating_sub(elapsed),
+            None => 0,
+        }
+    }
+
+    /// Whether it counts for whoever looks up a name below an island with these anchors, within these bounds, at a moment in
+    /// seconds since 1970.
+    pub fn counts(&self, name: &Name, anchors: &[Record], bounds: &Bounds, now: u64) -> bool
+        ensures { IsTrue result ↔ CountsFor (world_of V.accepts anchors.now (bounds_view bounds.now) now) (place name.now) self.now }
+    {
+        if self.is_bogus() {
+            return false;
+        }
+        if !self.is_of(name) {
+            return false;
+        }
+        if !self.has_anchor_among(anchors) {
+            return false;
+        }
+        if !self.is_within(bounds) {
+            return false;
+        }
+        !self.expired(now)
+    }
+
+    /// Whether it is bogus.
+    fn is_bogus(&self) -> bool
+        ensures { result ≡ IsBogus self.now.standing }
+    {
+        matches!(self.standing(), Standing::Bogus(_))
+    }
+
+    /// Whether it is known of a name.
+    fn is_of(&self, name: &Name) -> bool
+        ensures { IsTrue result ↔ (self.now.name ≡ place name.now) }
+    {
+        *self.name() == *name
+    }
+
+    /// Whether its anchor is one of these.
+    fn has_anchor_among(&self, anchors: &[Record]) -> bool
+        ensures { IsTrue result ↔ HasAnchorAmong anchors.now self.now.anchor }
+    {
+        match self.anchor() {
+            Some(anchor) => is_among(anchor, anchors),
+            None => false,
+        }
+    }
+
+    /// Whether it was made within bounds.
+    fn is_within(&self, bounds: &Bounds) -> bool
+        ensures { IsTrue result ↔ (self.now.bounds ≡ bounds_view bounds.now) }
+    {
+        self.bounds() == *bounds
+    }
+}
+
+/// Whether an anchor is one of these.
+fn is_among(anchor: &Record, anchors: &[Record]) -> bool
+    ensures { result ≡ list_any (same_anchor anchor.now) anchors.now }
+{
+    anchors.iter().any(|one| is_same(anchor, one))
+}
+
+/// Whether two records are one anchor.
+fn is_same(one: &Record, other: &Record) -> bool
+    ensures { result ≡ same_anchor one.now other.now }
+{
+    *one.owner() == *other.owner()
+        && one.class() == other.class()
+        && one.rtype() == other.rtype()
+        && *one.rdata().octets() == *other.rdata().octets()
+}

@@ -1,0 +1,185 @@
+//! The keys of a zone, as the data of its DNSKEY set, with their tags, which are summed once (RFC 4034 2.1, B).
+
+ghost use Rattle.std.specs.Prelude.{◌≡◌, IfOk, find, map};
+ghost use Rattle.std.specs.Option.{option_map};
+ghost use Rattle.dsec_spec.specs.Groups.{set_in};
+ghost use Rattle.dsec_spec.specs.Numbers.{DNSKEY};
+ghost use Rattle.dsec_wire.specs.Views.{dnskey_in, key_view};
+ghost use Rattle.dsec_link.specs.Sets.{AreOf, octets_of};
+ghost use Rattle.dsec_link.specs.TaggedKeys.{tagged_view};
+ghost use Rattle.dsec_nodes.specs.Signing.{data_of, keys_of, says_key};
+ghost use Rattle.dsec_node.specs.KeyTags.{tags_of};
+
+use dsec_group::{Group, set_of};
+use dsec_link::TaggedKey;
+use dsec_name::{NoMemory, Octets};
+use dsec_wire::{Data, Dnskey};
+use std::alloc::{AllocError, Global};
+use std::marker::Model;
+
+/// The data of a DNSKEY set, in order, with the tags of the keys that they say.
+#[derive(Drop)]
+pub struct Keys {
+    datas: Vec<Data>,
+    tags: Vec<u16>,
+}
+
+impl Model for Keys {
+    ghost use Rattle.std.specs.Prelude.{◌≡◌, List, ℕ};
+    ghost use Rattle.dsec_spec.specs.Numbers.{DNSKEY};
+    ghost use Rattle.dsec_link.specs.Sets.{AreOf, octets_of};
+    ghost use Rattle.dsec_node.specs.KeyTags.{tags_of};
+
+    ghost Value = { List (List ℕ) };
+
+    ghost view = { λ it. octets_of it.datas.items };
+
+    ghost invariant = { λ it. AreOf DNSKEY it.datas.items × (it.tags.items ≡ tags_of (octets_of it.datas.items)) };
+}
+
+impl Clone for Keys {
+    ghost use Rattle.std.specs.Prelude.{◌≡◌};
+
+    ghost is_clone = { λ old new. new ≡ old };
+
+    fn clone(&self) -> Result<Keys, AllocError> {
+        let datas = self.datas.clone()?;
+        let tags = self.tags.clone()?;
+        Ok(Keys { datas, tags })
+    }
+}
+
+impl Keys {
+    /// The keys of these data.
+    pub fn new(alloc: Global, datas: Vec<Data>) -> Result<Keys, NoMemory>
+        requires { AreOf DNSKEY datas.items }
+        ensures { IfOk result (λ keys. keys ≡ octets_of datas.items) }
+    {
+        let tags = summed(alloc, &datas)?;
+        Ok(Keys { datas, tags })
+    }
+
+    /// The keys of a DNSKEY set.
+    pub fn of(alloc: Global, group: &Group) -> Result<Keys, NoMemory>
+        requires { group.now.rtype ≡ DNSKEY }
+        ensures { IfOk result (λ keys. keys ≡ (set_in group.now).datas) }
+    {
+        let set = set_of(alloc, group)?;
+        let datas = copied(alloc, set.datas())?;
+        Keys::new(alloc, datas)
+    }
+
+    /// The data.
+    pub fn datas(&self) -> &[Data]
+        ensures values { octets_of result.now ≡ self.now }
+        ensures typed { AreOf DNSKEY result.now }
+    {
+        &self.datas
+    }
+
+    /// The keys that the data say with their tags, in order.
+    pub fn tagged(&self, alloc: Global) -> Result<Vec<TaggedKey<'_>>, NoMemory>
+        ensures { IfOk result (λ keys. map tagged_view keys.items ≡ keys_of self.now) }
+    {
+        tagged(alloc, &self.datas, &self.tags)
+    }
+
+    /// A copy of the first of the data that say a key; no octets where none does.
+    pub fn data_saying(&self, alloc: Global, key: &Dnskey<'_>) -> Result<Octets, NoMemory>
+        ensures { IfOk result (λ octets. octets ≡ data_of self.now (key_view key.now)) }
+    {
+        data_in(alloc, &self.datas, key)
+    }
+}
+
+/// A copy of the first of DNSKEY data that say a key; no octets where none does.
+fn data_in(alloc: Global, datas: &[Data], key: &Dnskey<'_>) -> Result<Octets, NoMemory>
+    requires { AreOf DNSKEY datas.now }
+    ensures { IfOk result (λ octets. octets ≡ data_of (octets_of datas.now) (key_view key.now)) }
+{
+    match first_saying(datas, key) {
+        Some(one) => octets_in(one),
+        None => Ok(Octets::new(Vec::new(alloc))),
+    }
+}
+
+/// The first of these data that say a key.
+fn first_saying<'a>(datas: &'a [Data], key: &Dnskey<'_>) -> Option<&'a Data>
+    ensures { option_map (λ one. one.now) result ≡ find (λ one. says_key (key_view key.now) (dnskey_in one)) datas.now }
+{
+    datas.iter().find(|one| says(one, key))
+}
+
+/// A copy of the octets of data.
+fn octets_in(one: &Data) -> Result<Octets, NoMemory>
+    ensures { IfOk result (λ octets. octets ≡ one.now.octets) }
+{
+    Ok(one.octets().clone()?)
+}
+
+/// Copies of data.
+fn copied(alloc: Global, datas: &[Data]) -> Result<Vec<Data>, NoMemory>
+    ensures { IfOk result (λ copies. copies.items ≡ datas.now) }
+{
+    let mut copies = Vec::with_capacity(alloc, datas.len())?;
+    for one in datas {
+        copies.push(copy_of(one)?)?;
+    }
+    Ok(copies)
+}
+
+/// A copy of data.
+fn copy_of(one: &Data) -> Result<Data, NoMemory>
+    ensures { IfOk result (λ copy. copy ≡ one.now) }
+{
+    Ok(one.clone()?)
+}
+
+/// Whether data say a key.
+fn says(one: &Data, key: &Dnskey<'_>) -> bool
+    ensures { result ≡ says_key (key_view key.now) (dnskey_in one.now) }
+{
+    match one.dnskey() {
+        Some(other) => {
+            other.flags == key.flags
+                && other.protocol == key.protocol
+                && other.algorithm == key.algorithm
+                && other.public_key == key.public_key
+        }
+        None => false,
+    }
+}
+
+/// The tags of the keys that DNSKEY data say, in order.
+fn summed(alloc: Global, datas: &[Data]) -> Result<Vec<u16>, NoMemory>
+    requires { AreOf DNSKEY datas.now }
+    ensures { IfOk result (λ tags. tags.items ≡ tags_of (octets_of datas.now)) }
+{
+    let mut tags = Vec::with_capacity(alloc, datas.len())?;
+    for index in 0..datas.len() {
+        if let Some(key) = datas[index].dnskey() {
+            tags.push(key.key_tag())?;
+        }
+    }
+    Ok(tags)
+}
+
+/// The keys that DNSKEY data say, in order, each with its tag of these.
+fn tagged<'a>(
+    alloc: Global,
+    datas: &'a [Data],
+    tags: &[u16],
+) -> Result<Vec<TaggedKey<'a>>, NoMemory>
+    requires typed { AreOf DNSKEY datas.now }
+    requires tags { tags.now ≡ tags_of (octets_of datas.now) }
+    ensures { IfOk result (λ keys. map tagged_view keys.items ≡ keys_of (octets_of datas.now)) }
+{
+    let mut keys = Vec::with_capacity(alloc, datas.len())?;
+    for index in 0..datas.len() {
+        if let Some(key) = datas[index].dnskey() {
+            let tag = tags[keys.len()];
+            keys.extend_from_slice(&[TaggedKey { key, tag }])?;
+        }
+    }
+    Ok(keys)
+}
