@@ -1,3 +1,4 @@
 pub mod KeyData
+pub mod CacheLaws
 pub mod NodeSteps
 pub mod CountingLaws

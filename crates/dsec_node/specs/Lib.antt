@@ -3,4 +3,5 @@ pub mod KeptBounds
 pub mod Views
 pub mod KeyTags
 pub mod Counting
+pub mod Caches
 pub mod Good

@@ -2,6 +2,7 @@
 #![tactic(auto)]
 
 mod bounds;
+mod caches;
 mod config;
 mod copies;
 mod counting;
@@ -14,6 +15,7 @@ mod pending;
 mod standing;
 
 pub use bounds::Bounds;
+pub use caches::{Caches, OwnedCaches};
 pub use config::Config;
 pub use keys::Keys;
 pub use links::{kept_for, link_by_keys};
