@@ -1,15 +1,18 @@
 -- Nodes by their parts.
-use Rattle.std.proofs.Common.{◌≡◌, ℕ, List, [], ◌∷◌, ◌++◌, Option, Some, sym, ap, ◌∙◌}
-use Rattle.std.specs.Prelude.{min, slice_get}
-use Rattle.std.proofs.lemmas.Option.{same_Some}
+use Rattle.std.proofs.Common.{◌≡◌, ℕ, ◌<◌, List, [], ◌∷◌, ◌++◌, Option, Some, length, sym, ap, ◌∙◌, inl, inr, arith}
+use Rattle.std.specs.Prelude.{min, slice_get, get_or}
+use Rattle.std.proofs.lemmas.Option.{same_Some, slice_get_cases, slice_get_read}
 use Rattle.dsec_spec.specs.Names.{Place, place}
-use Rattle.dsec_spec.specs.Records.{Record}
+use Rattle.dsec_spec.specs.Records.{Record, Key}
 use Rattle.dsec_spec.specs.Groups.{Group, set_in}
 use Rattle.dsec_spec.specs.Lasting.{least_ttl, ttl_for_sig}
 use Rattle.dsec_spec.specs.Chain as chain
 use Rattle.dsec_nodes.specs.World.{World, Bounds, moment}
-use Rattle.dsec_nodes.specs.Nodes.{Node, Standing, apex}
+use Rattle.dsec_nodes.specs.Nodes.{Node, Standing, Ground, apex, within, insecure}
 use Rattle.dsec_nodes.specs.Admission.{Admitted, admitted_link}
+use Rattle.dsec_nodes.specs.Causes.{Cause}
+use Rattle.dsec_nodes.specs.Signing.{kept_for, link_under}
+use Rattle.dsec_nodes.specs.MissingDs.{within_by, insecure_by}
 use Rattle.dsec_nodes.specs.ByDs.{Pending, apex_by}
 use Rattle.dsec_nodes.specs.Walk.{anchor_kind, anchored}
 use Rattle.dsec_node.specs.Good.{IsPair}
@@ -77,3 +80,32 @@ anchored_is w group anchor key signature p sig key_record link links keys kind v
     same_parts w name (place group.owner) valid_for (min w.bounds.max_validity (min (least_ttl group.records) (ttl_for_sig p.0 (moment w)))) (Some its_anchor) (Some p.1.way) signer (place group.owner) links (admitted_link (anchor_kind p.1.way) p.1.way.rdata group p ∷ []) (apex keys) (apex (set_in group).datas)
     name_is (valid_is ∙ ap (λ (r : Record). min w.bounds.max_validity (min (least_ttl group.records) (ttl_for_sig r (moment w)))) sig_same) (ap (λ (a : Record). Some a) (anchor_is ∙ sym is.by_way)) signer_is
     (links_are ∙ ap (λ (l : chain.Link). l ∷ []) its) (ap (λ (ks : List (List ℕ)). apex ks) keys_are)
+
+-- a key, for what asks for one and doesn't look at it
+abbrev pub no_key : Key
+no_key = record { flags = 0; protocol = 0; algorithm = 0; public_key = [] }
+
+-- a name within a zone
+pub within_is : (w : World) (zone : Node) (place_of : Place) (group : Group) (p : Record × Key) (name signer : Place) (valid_for : ℕ) (anchor : Option Record) (links : List chain.Link)
+    → name ≡ place_of → valid_for ≡ kept_for w zone group p.0 → anchor ≡ zone.anchor → signer ≡ zone.signer → links ≡ zone.links
+    → node_by w name valid_for anchor signer links within ≡ within_by w zone place_of group p
+within_is w zone place_of group p name signer valid_for anchor links a b c d e = λ i. node_by w (a i) (b i) (c i) (d i) (e i) within
+
+-- a name to which no chain leads
+pub insecure_is : (w : World) (zone : Node) (keys : List (List ℕ)) (name : Place) (cause : Option Cause) (basis : Ground) (group : Group) (p : Record × Key) (valid_for : ℕ) (link : chain.Link) (to_zone links : List chain.Link)
+    → valid_for ≡ kept_for w zone group p.0 → link ≡ link_under chain.set keys group p → to_zone ≡ zone.links → links ≡ to_zone ++ link ∷ []
+    → node_by w name valid_for zone.anchor name zone.links (insecure cause (record { basis = basis; links = links })) ≡ insecure_by w zone keys name cause basis group p
+insecure_is w zone keys name cause basis group p valid_for link to_zone links a b c d =
+    let its : links ≡ zone.links ++ link_under chain.set keys group p ∷ [] = d ∙ (λ i. c i ++ b i ∷ []) in
+    λ i. node_by w name (a i) zone.anchor name zone.links (insecure cause (record { basis = basis; links = its i }))
+
+-- what stands at an index within a list
+pub stands : {A : Type 0} (xs : List A) (k : ℕ) → k < length xs → (x : A) × (slice_get xs k ≡ Some x)
+stands xs k below = elim (slice_get_cases xs k).1 [
+  | inl found ↦ (found.0, found.2)
+  | inr past ↦ absurd (let e = past.0 in omega arith)
+]
+
+-- what the standing's index reads stands there
+pub read : {A : Type 0} (xs ys : List A) (k : ℕ) (x : A) → xs ≡ ys → k < length ys → x ≡ get_or xs k x → slice_get ys k ≡ Some x
+read xs ys k x same below is = ap (λ zs. slice_get zs k) (sym same) ∙ slice_get_read xs (length ys) k x (sym (ap length same)) below is

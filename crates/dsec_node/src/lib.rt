@@ -1,6 +1,9 @@
 //! Nodes: what is known of names below trust anchors, and for how long (RFC 4033 5, RFC 4035 4.3, 5.2).
 #![tactic(auto)]
 
+mod anchor;
+mod apex;
+mod below;
 mod bounds;
 mod caches;
 mod config;
@@ -14,6 +17,9 @@ mod node;
 mod pending;
 mod standing;
 
+pub use anchor::anchor_node;
+pub use apex::apex_node;
+pub use below::{bogus_node, insecure_node, within_node};
 pub use bounds::Bounds;
 pub use caches::{Caches, OwnedCaches};
 pub use config::Config;
