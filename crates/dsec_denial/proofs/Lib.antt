@@ -1,0 +1,5 @@
+pub mod ExpansionLaws
+pub mod ExpansionSteps
+pub mod RangeLaws
+pub mod DelegationLaws
+pub mod SearchSteps
