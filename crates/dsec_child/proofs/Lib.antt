@@ -1,1 +1,3 @@
 pub mod SearchSteps
+pub mod TrialMaps
+pub mod WaySteps

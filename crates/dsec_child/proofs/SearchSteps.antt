@@ -1,7 +1,6 @@
 -- The search for a DS record's key: what comes of a key, and how many digests are taken from an index on.
 use Rattle.std.proofs.Common.{◌≡◌, ℕ, zero, suc, ◌+◌, ◌-◌, ◌<◌, ◌≤◌, Bool, true, false, cond, List, [], ◌∷◌, ◌++◌, map, length, take, drop, get_or, refl, sym, ap, ◌∙◌, arith}
-use Rattle.std.specs.Prelude.{Option, Some, None, ◌&&◌, ◌||◌, ◌==◌, filter, nat_eq}
-use Rattle.std.specs.Bool.{Decides}
+use Rattle.std.specs.Prelude.{Option, None, ◌&&◌, ◌||◌, ◌==◌, filter}
 use Rattle.std.specs.List.{list_any, position_or_len}
 use Rattle.std.proofs.Math.Bool.{not}
 use Rattle.std.proofs.lemmas.List.{drop_all}
@@ -11,7 +10,6 @@ use Rattle.dsec_spec.specs.DelegationSigner.{is_digest, names, speaks_of}
 use Rattle.dsec_spec.specs.Digests.{digest_by, is_supported_digest}
 use Rattle.dsec_spec.specs.KeySearch.{is_named, is_spoken_of}
 use Rattle.dsec_spec.proofs.ListLemmas.{drop_here}
-use Rattle.dsec_link.proofs.KeySearchSteps.{not_spoken_of}
 use Rattle.dsec_child.specs.Searches.{tested, digests_of, digests_for, trial_of}
 use Rattle.dsec_child.specs.declared.search.Trial.TheVariants.{Match, Mismatch, Other, Excess}
 

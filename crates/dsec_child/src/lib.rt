@@ -2,5 +2,7 @@
 #![tactic(auto)]
 
 mod search;
+mod tries;
+mod way;
 
 pub use search::find_key_for_ds;
