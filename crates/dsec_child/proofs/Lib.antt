@@ -1,3 +1,6 @@
 pub mod SearchSteps
 pub mod TrialMaps
 pub mod WaySteps
+pub mod WayMaps
+pub mod FrontSteps
+pub mod AdmitSteps

@@ -1,3 +1,4 @@
 pub mod Searches
 pub mod Ways
 pub mod Tries
+pub mod Admissions

@@ -1,8 +1,10 @@
 //! What replies say of names below an anchor: the keys that anchors and DS records admit, and the nodes that come of them (RFC 4035 5).
 #![tactic(auto)]
 
+mod admit;
 mod search;
 mod tries;
 mod way;
 
+pub use admit::{Admission, admit_by_anchor, admit_by_ds};
 pub use search::find_key_for_ds;

@@ -14,6 +14,7 @@ use dsec_cause::Cause;
 use dsec_group::Steps;
 use dsec_link::{DsExt, KeySearch, supported_digest};
 use dsec_name::Name;
+use dsec_node::Config;
 use dsec_wire::{Data, Dnskey, Ds, Record};
 use std::sync::ledger::Ledger;
 
@@ -31,21 +32,27 @@ enum Trial {
 }
 
 /// The index of the first key of the owner that the DS record speaks of, among DNSKEY records in order, or why there is
-/// none, where that has a cause of its own. Of the keys with the record's algorithm and tag `most` are tried at most: keys
-/// can be made to have one tag. Each digest that is taken is one step.
+/// none, where that has a cause of its own. Of the keys with the record's algorithm and tag `max_dnskeys_per_ds` are tried at
+/// most: keys can be made to have one tag. Each digest that is taken is one step.
 pub fn find_key_for_ds<L: Ledger>(
     ds: &Ds<'_>,
     owner: &Name,
     keys: &[Record],
-    most: u8,
+    config: &Config,
     steps: &mut Steps<L>,
 ) -> (Option<usize>, Option<Cause>)
     requires { AreRecordsOf DNSKEY keys.now }
-    ensures found { result ≡ answer_of (first_key (ds_view ds.now) owner.now most (map (λ one. one.rdata) keys.now)) }
-    ensures counted { steps.new ≡ steps.old + digests_for (ds_view ds.now) owner.now most (map (λ one. one.rdata) keys.now) }
-    ensures bound { steps.new ≤ steps.old + most }
+    ensures found { result ≡ answer_of (first_key (ds_view ds.now) owner.now config.now.max_dnskeys_per_ds (map (λ one. one.rdata) keys.now)) }
+    ensures counted { steps.new ≡ steps.old + digests_for (ds_view ds.now) owner.now config.now.max_dnskeys_per_ds (map (λ one. one.rdata) keys.now) }
+    ensures bound { steps.new ≤ steps.old + config.now.max_dnskeys_per_ds }
 {
-    match search_key(ds, owner, keys, usize::from(most), steps) {
+    match search_key(
+        ds,
+        owner,
+        keys,
+        usize::from(config.max_dnskeys_per_ds()),
+        steps,
+    ) {
         KeySearch::FoundAt(index) => (Some(index), None),
         KeySearch::NotFound => (None, None),
         KeySearch::TooMany => (None, Some(Cause::TooManyDnskeysForDs)),
