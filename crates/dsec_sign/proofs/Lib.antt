@@ -3,3 +3,4 @@ pub mod ZoneSets
 pub mod SignerSteps
 pub mod UnionLaws
 pub mod ZoneLaws
+pub mod SetClass

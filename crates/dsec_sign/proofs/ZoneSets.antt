@@ -399,7 +399,7 @@ collect_next apex records owners i o sets now inside lt at c p =
 
 -- ---- what is known of each set
 
-run_of_one_set : (run : List Record) → IsRun run → AreOfOneSet run
+pub run_of_one_set : (run : List Record) → IsRun run → AreOfOneSet run
 run_of_one_set run is r s h g =
     let p = one_set_parts is.first r (is.one r h) in
     let q = one_set_parts is.first s (is.one s g) in

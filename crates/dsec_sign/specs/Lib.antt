@@ -6,3 +6,4 @@ pub mod Refusals
 pub mod ZoneChains
 pub mod ZoneSigning
 pub mod Adding
+pub mod InOut

@@ -69,7 +69,7 @@ fn copies(alloc: Global, records: &[Record]) -> Result<Vec<Record>, NoMemory>
 }
 
 /// A copy of a record.
-fn copied(one: &Record) -> Result<Record, NoMemory>
+pub(crate) fn copied(one: &Record) -> Result<Record, NoMemory>
     ensures { IfOk result (λ copy. copy ≡ one.now) }
 {
     Ok(one.clone()?)

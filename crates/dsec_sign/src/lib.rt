@@ -5,8 +5,10 @@ mod added;
 mod allowed;
 mod chain;
 mod config;
+mod in_out;
 mod in_place;
 mod into;
+mod signable;
 mod signing;
 mod sorted_extend;
 mod zone;
@@ -18,6 +20,8 @@ pub use dsec_rrsig::{
     GenerateRrsigConfig, SignError, SignRaw, SigningError, SigningKey, StandInKey, sign_rrset,
     sign_sorted_rrset_in,
 };
+pub use in_out::{SignableZoneInOut, sign_zone};
+pub use signable::Signable;
 pub use sorted_extend::SortedExtend;
 pub use zone::{SignableZone, SignableZoneInPlace};
 pub use zone_records::sign_sorted_zone_records;
