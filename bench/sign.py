@@ -1,8 +1,9 @@
-"""Makes zones of many names, has a program read, sort and chain them, and prints what it costs.
+"""Makes zones of many names, has one program read, sort and chain them and another sign them, and prints what it costs.
 
-usage: sign.py PROGRAM
+usage: sign.py CHAINING SIGNING
 """
 
+import math
 import os
 import random
 import subprocess
@@ -11,6 +12,11 @@ import tempfile
 
 RUNS = 3
 SIZES = (25000, 50000, 100000)
+SIGNED = (10000, 100000, 200000)
+
+# The word for the chain; how many lines a signed zone has beside four for each name; and what signing 100,000 names is to take at most, by
+# the yardstick and in MiB.
+GOALS = (("nsec", 8, 4, 100), ("nsec3", 10, 6, 130))
 
 
 def write_zone(path, names):
@@ -64,17 +70,46 @@ def measure(words, extra, folder, yard):
         before = time, names
 
 
-def main(program):
+def measure_signing(program, chain, extra, folder, yard):
+    """Signs zones of some sizes. Gives the time for 100,000 names by the yardstick, and the memory in MiB."""
+    zone = os.path.join(folder, "zone")
+    words = [program, "sign", "bench.", "0102", "0", "1000", chain]
+    before = None
+    for names in SIGNED:
+        write_zone(zone, names)
+        if lines(words, zone) != 4 * names + extra:
+            sys.exit("sign: not the lines of a signed zone")
+        time, noise = cpu(words, zone)
+        used = memory(words, zone) / (1 << 20)
+        growth = ""
+        if before is not None:
+            growth = ", %.2f of n log n" % (time / before[0] / (names * math.log(names) / (before[1] * math.log(before[1]))))
+        print("%d names: %.3f s CPU (noise %.2f), %.2f of the yardstick, %.1f MiB%s" % (names, time, noise, time / yard, used, growth))
+        if names == 100000:
+            found = time / yard, used
+        before = time, names
+    return found
+
+
+def main(chaining, signing):
+    missed = False
     with tempfile.TemporaryDirectory() as folder:
         zeros = os.path.join(folder, "zeros")
         with open(zeros, "wb") as out:
             out.truncate(100 << 20)
         yard, noise = cpu(["openssl", "dgst", "-sha256", zeros])
         print("yardstick: SHA-256 of 100 MiB in %.3f s CPU (noise %.2f)" % (yard, noise))
-        print("NSEC")
-        measure([program, "bench.", "0102"], 1, folder, yard)
-        print("NSEC3, without iterations and salt")
-        measure([program, "nsec3", "0", "-", "0", "bench.", "0102"], 2, folder, yard)
+        print("chaining by NSEC")
+        measure([chaining, "bench.", "0102"], 1, folder, yard)
+        print("chaining by NSEC3, without iterations and salt")
+        measure([chaining, "nsec3", "0", "-", "0", "bench.", "0102"], 2, folder, yard)
+        for chain, extra, most_time, most_memory in GOALS:
+            print("the command sign, %s, its output to nowhere" % chain)
+            time, used = measure_signing(signing, chain, extra, folder, yard)
+            if time > most_time or used > most_memory:
+                print("more than %d of the yardstick or %d MiB" % (most_time, most_memory))
+                missed = True
+    return missed
 
 
-main(sys.argv[1])
+sys.exit(main(sys.argv[1], sys.argv[2]))
