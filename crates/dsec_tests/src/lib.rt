@@ -4,11 +4,7 @@
 #[cfg(test)]
 mod bind;
 #[cfg(test)]
-mod checks;
-#[cfg(test)]
 mod faults;
-#[cfg(test)]
-mod groups;
 #[cfg(test)]
 mod judged;
 #[cfg(test)]
@@ -16,12 +12,6 @@ mod keys;
 #[cfg(test)]
 mod lines;
 #[cfg(test)]
-mod links;
-#[cfg(test)]
-mod memos;
-#[cfg(test)]
 mod runs;
-#[cfg(test)]
-mod signatures;
 #[cfg(test)]
 mod vectors;

@@ -15,7 +15,7 @@ type Shown = (&'static str, u16, u16, usize, usize, bool);
 type Row = (&'static str, &'static [&'static str], &'static [Shown]);
 
 #[rattlefmt::skip]
-const ROWS: [Row; 5] = [
+const ROWS: [Row; 6] = [
     (
         "records and their signature make a group",
         &[
@@ -63,6 +63,44 @@ const ROWS: [Row; 5] = [
             "a. 60 IN RRSIG \\# 23 0001080100000e1000000009000000010007017a000505",
         ],
         &[("A.", 1, 46, 0, 1, true), ("a.", 1, 46, 0, 1, false)],
+    ),
+    (
+        "so many groups that they are found by a hash",
+        &[
+            "a. 60 IN A 192.0.2.1", "b. 60 IN A 192.0.2.1", "c. 60 IN A 192.0.2.1", "d. 60 IN A 192.0.2.1", "e. 60 IN A 192.0.2.1", "f. 60 IN A 192.0.2.1", "g. 60 IN A 192.0.2.1", "h. 60 IN A 192.0.2.1", "i. 60 IN A 192.0.2.1", "j. 60 IN A 192.0.2.1", "k. 60 IN A 192.0.2.1", "l. 60 IN A 192.0.2.1", "m. 60 IN A 192.0.2.1", "n. 60 IN A 192.0.2.1", "o. 60 IN A 192.0.2.1", "p. 60 IN A 192.0.2.1", "q. 60 IN A 192.0.2.1", "r. 60 IN A 192.0.2.1",
+            "A. 60 IN RRSIG \\# 23 0001080100000e1000000009000000010007017a000505",
+            "Q. 60 IN A 192.0.2.2",
+            "r. 60 CH A 192.0.2.1",
+            "r. 60 IN RRSIG \\# 23 0001080100000e1000000009000000010007017a000505",
+            "r. 60 IN AAAA 101:101:101:101:101:101:101:101",
+            "aa. 60 IN A 192.0.2.1",
+            "R. 60 IN A 192.0.2.1",
+            "AA. 60 IN A 192.0.2.1",
+            "p. 60 IN A 192.0.2.3",
+        ],
+        &[
+            ("a.", 1, 1, 1, 1, false),
+            ("b.", 1, 1, 1, 0, false),
+            ("c.", 1, 1, 1, 0, false),
+            ("d.", 1, 1, 1, 0, false),
+            ("e.", 1, 1, 1, 0, false),
+            ("f.", 1, 1, 1, 0, false),
+            ("g.", 1, 1, 1, 0, false),
+            ("h.", 1, 1, 1, 0, false),
+            ("i.", 1, 1, 1, 0, false),
+            ("j.", 1, 1, 1, 0, false),
+            ("k.", 1, 1, 1, 0, false),
+            ("l.", 1, 1, 1, 0, false),
+            ("m.", 1, 1, 1, 0, false),
+            ("n.", 1, 1, 1, 0, false),
+            ("o.", 1, 1, 1, 0, false),
+            ("p.", 1, 1, 2, 0, false),
+            ("q.", 1, 1, 2, 0, false),
+            ("r.", 1, 1, 1, 1, true),
+            ("r.", 3, 1, 1, 0, false),
+            ("r.", 1, 28, 1, 0, false),
+            ("aa.", 1, 1, 1, 0, true),
+        ],
     ),
 ];
 

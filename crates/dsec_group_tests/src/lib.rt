@@ -1,0 +1,23 @@
+//! Tests of signatures, links and groups: records from outside, and memos that keep a verifier's answers.
+#![tactic(auto)]
+
+#[cfg(test)]
+mod caches;
+#[cfg(test)]
+mod checks;
+#[cfg(test)]
+mod groups;
+#[cfg(test)]
+mod lasting;
+#[cfg(test)]
+mod lines;
+#[cfg(test)]
+mod links;
+#[cfg(test)]
+mod memos;
+#[cfg(test)]
+mod moved;
+#[cfg(test)]
+mod signatures;
+#[cfg(test)]
+mod validated;
