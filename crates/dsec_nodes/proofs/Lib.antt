@@ -14,6 +14,7 @@ pub mod WayLaws
 pub mod NextLaws
 pub mod MachineLaws
 pub mod SoundWalk
+pub mod CountLaws
 pub mod ShownLaws
 pub mod UnsignedLaws
 pub mod JudgingLaws

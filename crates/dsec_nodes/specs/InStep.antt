@@ -1,5 +1,5 @@
 -- Walks in step with the recursion, by the replies and the nodes that they were given (RFC 4035 5).
-use Rattle.std.specs.Prelude.{◌≡◌, ℕ, suc, ◌+◌, ◌-◌, ◌≤◌, List, length, take, Option, Some, None}
+use Rattle.std.specs.Prelude.{◌≡◌, ℕ, suc, ◌+◌, ◌-◌, ◌*◌, ◌≤◌, List, length, take, Option, Some, None}
 use Rattle.std.specs.List.{AllByRecursion}
 use Rattle.dsec_spec.specs.Names.{Place}
 use Rattle.dsec_spec.specs.Numbers.{DS}
@@ -54,3 +54,37 @@ StepIs w replies s (done n) = node_of w replies s.top s.target ≡ n
 pub record Goes (w : World) (p : Walking × Step) : Type 0 where
   pub in_step : InStep w p.0
   pub says : (replies : Replies) → AskedOf replies p.0.asked → GotOf w replies p.0.top p.0.got → StepIs w replies p.0 p.1
+
+-- how many questions a walk asks at most until so many names are behind it: one at the island, and two at each name below (RFC 4035 5.2)
+abbrev pub most_asked : ℕ → ℕ
+most_asked behind = 2 * behind - 1
+
+-- a walk that waits for a key set has asked one question more
+abbrev pub one_more : Phase → ℕ
+one_more (asks_keys pending) = 1
+one_more begins = 0
+one_more gets = 0
+one_more asks_first = 0
+one_more puts = 0
+one_more ends = 0
+
+-- where something is reached, the island is behind
+abbrev pub HasBegun : Walking → Option Reached → Type 0
+HasBegun s None = Unit {0}
+HasBegun s (Some r) = 1 ≤ s.behind
+
+-- a key set that a DS set is to admit is waited for below an island alone
+abbrev pub WaitsBelow : Phase → Option Reached → Type 0
+WaitsBelow (asks_keys pending) None = ⊥
+WaitsBelow (asks_keys pending) (Some r) = Unit {0}
+WaitsBelow begins o = Unit {0}
+WaitsBelow gets o = Unit {0}
+WaitsBelow asks_first o = Unit {0}
+WaitsBelow puts o = Unit {0}
+WaitsBelow ends o = Unit {0}
+
+-- a walk has asked no more questions than that
+pub record IsCounted (s : Walking) : Type 0 where
+  pub begun : HasBegun s s.reached
+  pub waits : WaitsBelow s.phase s.reached
+  pub counted : length s.asked ≤ most_asked s.behind + one_more s.phase
