@@ -20,3 +20,4 @@ pub mod UnsignedLaws
 pub mod JudgingLaws
 pub mod OutcomeLaws
 pub mod TruthLaws
+pub mod NodeExamples

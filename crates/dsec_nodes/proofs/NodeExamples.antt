@@ -1,0 +1,192 @@
+-- What replies to the question for the DS set of `sub.example.` come to below `example.`: names that are insecure, within the zone, bogus, or
+-- whose key set is asked for.
+use Rattle.std.proofs.Common.{◌≡◌, ℕ, false, List, [], ◌∷◌, ◌++◌, Option, Some, None, refl, ◌&&◌}
+use Rattle.std.specs.Prelude.{codes}
+use Rattle.std.specs.Str.{bytes_eq}
+use Rattle.dsec_spec.specs.Names.{Labels, place, wire_octets}
+use Rattle.dsec_spec.specs.RecordData.{labels_in, name_in, blocks_in}
+use Rattle.dsec_spec.specs.Records.{Key, key_octets, Record, rrsig_octets, rrsig_of}
+use Rattle.dsec_spec.specs.Accepts.{Accepts}
+use Rattle.dsec_spec.specs.Signed.{signs}
+use Rattle.dsec_spec.specs.Groups.{Group}
+use Rattle.dsec_spec.specs.Lasting.{least_ttl}
+use Rattle.dsec_spec.specs.Chain as chain
+use Rattle.dsec_nodes.specs.World.{World}
+use Rattle.dsec_nodes.specs.Causes.{Cause, NsecForDsFromWildcard, NsecProvesDs, NoSupportedDs, NoProofForMissingDs, BadSignature, NotBuilt}
+use Rattle.dsec_nodes.specs.Nodes.{Node, Standing, apex, within, insecure, bogus, Ground, nsec_without_ds, ds_not_supported}
+use Rattle.dsec_nodes.specs.Replies.{sections}
+use Rattle.dsec_nodes.specs.MissingDs.{nsec_search}
+use Rattle.dsec_nodes.specs.ByDs.{Below, made, asks, by_ds_reply}
+
+abbrev parent : Labels
+parent = codes "example" ∷ []
+
+abbrev child : Labels
+child = codes "sub" ∷ codes "example" ∷ []
+
+abbrev zone_key : Key
+zone_key = record { flags = 257; protocol = 3; algorithm = 13; public_key = 1 ∷ 2 ∷ [] }
+
+-- a verifier that accepts one signature by the key, over any message
+abbrev accepts_nine : Accepts
+accepts_nine flags protocol algorithm octets message signature = bytes_eq octets (1 ∷ 2 ∷ []) && bytes_eq signature (9 ∷ [])
+
+abbrev w : World
+w = record {
+  accepts = accepts_nine;
+  anchors = [];
+  bounds = record {
+    room = 2;
+    max_validity = 600;
+    max_bogus_validity = 30;
+    max_ds_records = 20;
+    max_keys_for_ds = 4;
+    iterations_insecure = 100;
+    iterations_bogus = 500;
+  };
+  now = 500;
+}
+
+abbrev zone : Node
+zone = record {
+  name = place parent;
+  made = 400;
+  valid_for = 600;
+  anchor = None;
+  signer = place parent;
+  links = [];
+  standing = apex (key_octets zone_key ∷ []);
+  bounds = w.bounds;
+}
+
+-- a signature from 0 to 1000 by the key of `example.`, over so many labels
+abbrev signed : ℕ → ℕ → Record
+signed covered labels = record {
+  owner = child;
+  class = 1;
+  rtype = 46;
+  ttl = 300;
+  rdata = rrsig_octets (record {
+    covered = covered;
+    algorithm = 13;
+    labels = labels;
+    original_ttl = 3600;
+    expiration = 1000;
+    inception = 0;
+    tag = 1296;
+    signer = parent;
+    signature = 9 ∷ [];
+  });
+}
+
+-- one record of `sub.example.` with its signature
+abbrev set_of_one : ℕ → List ℕ → Record → Group
+set_of_one rtype rdata signature = record {
+  owner = child;
+  class = 1;
+  rtype = rtype;
+  records = record { owner = child; class = 1; rtype = rtype; ttl = 200; rdata = rdata } ∷ [];
+  signatures = signature ∷ [];
+  extra = [];
+  had_duplicate = false;
+}
+
+-- an NSEC record's data: the next name `example.`, and the types of one octet of bits
+abbrev nsec_data : ℕ → List ℕ
+nsec_data bits = wire_octets parent ++ 0 ∷ 1 ∷ bits ∷ []
+
+-- what a reply with these sections comes to
+abbrev comes_to : List Group → List Group → Below
+comes_to answers authorities = by_ds_reply w zone (key_octets zone_key ∷ []) (place child) (sections answers authorities)
+
+-- the standing of a node that was made
+abbrev standing_of : Below → Option Standing
+standing_of (made n) = Some n.standing
+standing_of (asks pending) = None
+
+-- which signed cause makes it insecure, and the cause that is told
+abbrev pub basis_in : Option Standing → Option (Option Cause × Ground)
+basis_in (Some (insecure cause signed)) = Some (cause, signed.basis)
+basis_in (Some (apex keys)) = None
+basis_in (Some within) = None
+basis_in (Some (bogus cause)) = None
+basis_in None = None
+
+-- for how many seconds it is kept
+abbrev kept_of : Below → ℕ
+kept_of (made n) = n.valid_for
+kept_of (asks pending) = pending.valid_for
+
+-- an NSEC record with NS makes the name insecure, for as long as its TTL says
+insecure_for : kept_of (comes_to [] (set_of_one 47 (nsec_data 32) (signed 47 2) ∷ [])) ≡ 200
+unfolding nsec_search rrsig_of name_in labels_in blocks_in signs least_ttl
+insecure_for = refl
+
+insecure_by_nsec : basis_in (standing_of (comes_to [] (set_of_one 47 (nsec_data 32) (signed 47 2) ∷ []))) ≡ Some (None, nsec_without_ds)
+unfolding nsec_search rrsig_of name_in labels_in blocks_in signs least_ttl
+insecure_by_nsec = refl
+
+-- an expansion of a wildcard doesn't
+expanded_nsec : standing_of (comes_to [] (set_of_one 47 (nsec_data 32) (signed 47 1) ∷ [])) ≡ Some (bogus NsecForDsFromWildcard)
+unfolding nsec_search rrsig_of name_in labels_in blocks_in signs least_ttl
+expanded_nsec = refl
+
+-- an NSEC record without NS makes it a name within the zone
+within_zone : standing_of (comes_to [] (set_of_one 47 (nsec_data 64) (signed 47 2) ∷ [])) ≡ Some within
+unfolding nsec_search rrsig_of name_in labels_in blocks_in signs least_ttl
+within_zone = refl
+
+-- so does a CNAME record
+alias_within : standing_of (comes_to (set_of_one 5 (wire_octets parent) (signed 5 2) ∷ []) []) ≡ Some within
+unfolding nsec_search rrsig_of name_in labels_in blocks_in signs least_ttl
+alias_within = refl
+
+-- but not an expansion of a wildcard
+expanded_alias : standing_of (comes_to (set_of_one 5 (wire_octets parent) (signed 5 1) ∷ []) []) ≡ Some (bogus NoProofForMissingDs)
+unfolding nsec_search rrsig_of name_in labels_in blocks_in signs least_ttl
+expanded_alias = refl
+
+-- a DS set with a record of a known algorithm and digest asks for the key set, and may be kept for as long as its TTL says
+asks_for_keys : comes_to (set_of_one 43 (5 ∷ 16 ∷ 13 ∷ 2 ∷ 7 ∷ []) (signed 43 2) ∷ []) [] ≡ asks (record {
+  name = place child;
+  link = record {
+    kind = chain.ds;
+    records = record { owner = child; class = 1; rtype = 43; datas = (5 ∷ 16 ∷ 13 ∷ 2 ∷ 7 ∷ []) ∷ [] };
+    via = None;
+    signing_key = key_octets zone_key;
+    rrsig = (signed 43 2).rdata;
+  };
+  valid_for = 200;
+})
+unfolding nsec_search rrsig_of name_in labels_in blocks_in signs least_ttl
+asks_for_keys = refl
+
+-- one of an unknown algorithm makes the name insecure
+unsupported : kept_of (comes_to (set_of_one 43 (5 ∷ 16 ∷ 99 ∷ 2 ∷ 7 ∷ []) (signed 43 2) ∷ []) []) ≡ 200
+unfolding nsec_search rrsig_of name_in labels_in blocks_in signs least_ttl
+unsupported = refl
+
+insecure_by_ds : basis_in (standing_of (comes_to (set_of_one 43 (5 ∷ 16 ∷ 99 ∷ 2 ∷ 7 ∷ []) (signed 43 2) ∷ []) [])) ≡ Some (Some NoSupportedDs, ds_not_supported)
+unfolding nsec_search rrsig_of name_in labels_in blocks_in signs least_ttl
+insecure_by_ds = refl
+
+-- but not as an expansion of a wildcard
+expanded_unsupported : standing_of (comes_to (set_of_one 43 (5 ∷ 16 ∷ 99 ∷ 2 ∷ 7 ∷ []) (signed 43 1) ∷ []) []) ≡ Some (bogus NoProofForMissingDs)
+unfolding nsec_search rrsig_of name_in labels_in blocks_in signs least_ttl
+expanded_unsupported = refl
+
+-- an NSEC record with DS proves that there is a DS set
+nsec_with_ds : standing_of (comes_to [] (set_of_one 47 (wire_octets parent ++ 0 ∷ 6 ∷ 32 ∷ 0 ∷ 0 ∷ 0 ∷ 0 ∷ 16 ∷ []) (signed 47 2) ∷ [])) ≡ Some (bogus NsecProvesDs)
+unfolding nsec_search rrsig_of name_in labels_in blocks_in signs least_ttl
+nsec_with_ds = refl
+
+-- judging by NSEC3 records is left out
+nsec3_left_out : standing_of (comes_to [] (set_of_one 50 [] (signed 50 2) ∷ [])) ≡ Some (bogus NotBuilt)
+unfolding nsec_search rrsig_of name_in labels_in blocks_in signs least_ttl
+nsec3_left_out = refl
+
+-- a DS set without a good signature is bogus
+bad_signature : standing_of (by_ds_reply (record { accepts = λ _ _ _ _ _ _. false; anchors = []; bounds = w.bounds; now = 500 }) zone (key_octets zone_key ∷ [])
+    (place child) (sections (set_of_one 43 (5 ∷ 16 ∷ 13 ∷ 2 ∷ 7 ∷ []) (signed 43 2) ∷ []) [])) ≡ Some (bogus BadSignature)
+unfolding nsec_search rrsig_of name_in labels_in blocks_in signs least_ttl
+bad_signature = refl
