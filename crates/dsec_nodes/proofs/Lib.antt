@@ -15,6 +15,7 @@ pub mod NextLaws
 pub mod MachineLaws
 pub mod SoundWalk
 pub mod CountLaws
+pub mod RunLaws
 pub mod ShownLaws
 pub mod UnsignedLaws
 pub mod JudgingLaws

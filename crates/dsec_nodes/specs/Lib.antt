@@ -19,3 +19,4 @@ pub mod Judging
 pub mod Outcomes
 pub mod Alone
 pub mod SoundOutcomes
+pub mod Runs
