@@ -1,5 +1,5 @@
 -- Each outcome is justified: a Secure one by links, an Insecure one by a signed cause.
-use Rattle.std.proofs.Common.{◌≡◌, ℕ, ◌==◌, ◌&&◌, Bool, true, false, cond, List, [], ◌∷◌, length, Option, Some, None, Ok, refl, sym, ap, ◌∙◌, subst, inl, inr, ◌⊎◌}
+use Rattle.std.proofs.Common.{◌≡◌, ℕ, ◌==◌, ◌&&◌, Bool, true, false, cond, List, [], ◌∷◌, length, Option, Some, None, Ok, if◌then◌else◌, refl, sym, ap, ◌∙◌, subst, inl, inr, ◌⊎◌}
 use Rattle.std.specs.Prelude.{Contains, position, slice_get, nat_lt, IsSome}
 use Rattle.std.specs.List.{list_any, position_or_len}
 use Rattle.std.proofs.Math.Bool.{not}
@@ -12,7 +12,7 @@ use Rattle.dsec_spec.specs.Messages.{Question, questions_of, answers_of, authori
 use Rattle.dsec_spec.specs.SignedBytes.{IsExpansion}
 use Rattle.dsec_spec.specs.Groups.{Group, groups_of}
 use Rattle.dsec_spec.specs.Islands.{island}
-use Rattle.dsec_spec.specs.Redirection.{moved}
+use Rattle.dsec_spec.specs.Redirection.{is_bare, moved}
 use Rattle.dsec_spec.specs.Chain.{Link}
 use Rattle.dsec_spec.specs.Trying.{of_signature}
 use Rattle.dsec_spec.specs.Answering.{leads_on, is_expansion}
@@ -250,11 +250,17 @@ alone_justified w most replies message o e = by_sections (sections_of message) r
     by_moved s r None m g = bogus_is TooManyUnsignedCnames by_nothing cc
     by_moved s r (Some groups) m g = by_judged s r groups m (judged_all w replies groups) (judged_all w replies (groups_of s.2)) refl g
 
+    by_bare : (s : List Question × List Record × List Record) → sections_of message ≡ Some s → (bare : Bool)
+        → (if bare then Ok not_built else on_groups w replies message s.0 (moved most (groups_of s.1)) (groups_of s.2)) ≡ Ok o
+        → Means w most message o
+    by_bare s f true g = bogus_is NotBuilt by_nothing cc
+    by_bare s f false g = by_moved s f (moved most (groups_of s.1)) refl g
+
     by_sections : (x : Option (List Question × List Record × List Record)) → sections_of message ≡ x
         → on_sections w most replies message x ≡ Ok o
         → Means w most message o
     by_sections None f g = absurd cc
-    by_sections (Some s) f g = by_moved s f (moved most (groups_of s.1)) refl g
+    by_sections (Some s) f g = by_bare s f (list_any is_bare (groups_of s.1)) g
 
 -- a Secure outcome is sound (RFC 4033 5, RFC 4035 5)
 pub alone_sound : (w : World) (most : ℕ) (replies : Replies) (message : List ℕ) (o : Outcome) → alone w most replies message ≡ Ok o

@@ -1,5 +1,6 @@
 -- What a message is judged to be by a table of replies: a plain recursion (RFC 4033 5, RFC 4035 4.3, 5).
 use Rattle.std.specs.Prelude.{ℕ, ◌==◌, ◌&&◌, List, [], ◌∷◌, ◌++◌, position, slice_get, Bool, false, Option, Some, None, Result, Ok, Err, if◌then◌else◌}
+use Rattle.std.specs.List.{list_any}
 use Rattle.std.proofs.Math.Bool.{not}
 use Rattle.dsec_spec.specs.Reading.{◌>>=◌}
 use Rattle.dsec_spec.specs.Names.{Place, place, same_place}
@@ -7,7 +8,7 @@ use Rattle.dsec_spec.specs.Numbers.{ANY}
 use Rattle.dsec_spec.specs.Records.{Record}
 use Rattle.dsec_spec.specs.Messages.{Question, questions_of, answers_of, authorities_of, rcode_of}
 use Rattle.dsec_spec.specs.Groups.{Group, groups_of}
-use Rattle.dsec_spec.specs.Redirection.{moved}
+use Rattle.dsec_spec.specs.Redirection.{is_bare, moved}
 use Rattle.dsec_nodes.specs.World.{World, Replies}
 use Rattle.dsec_nodes.specs.Causes.{RrsigWithoutRrset, NoTrustAnchor, TooManyUnsignedCnames}
 use Rattle.dsec_nodes.specs.Signing.{is_expanded}
@@ -54,10 +55,11 @@ at_name w message question name answers authorities =
     then by_answers w message question name answers authorities (position (is_answer name question) answers)
     else by_denial w message question name authorities
 
--- the state after aliases: of Secure ones what is found after them, of others theirs (RFC 4035 5)
+-- the state after aliases: theirs where what is found after them is Secure, and else what is found (RFC 4035 5)
 abbrev pub map_maybe_secure : State → State → State
 map_maybe_secure found secure = found
-map_maybe_secure found maybe = maybe
+map_maybe_secure secure maybe = maybe
+map_maybe_secure found maybe = found
 
 -- why, with the groups of the aliases before it
 abbrev pub why_after : List Judged → Why → Why
@@ -102,10 +104,13 @@ sections_of message = do
   questions ← questions_of message
   Some (questions.0, answers.0, authorities.0)
 
--- the outcome by the sections, where they can be read; of bare CNAME records so many are followed
+-- the outcome by the sections, where they can be read; of bare CNAME records so many are followed. Following them is left out, so that an
+-- answer with one ends with a cause of its own (RFC 6672 3.1).
 abbrev pub on_sections : World → ℕ → Replies → List ℕ → Option (List Question × List Record × List Record) → Result Outcome Refusal
 on_sections w most replies message None = Err unreadable
-on_sections w most replies message (Some s) = on_groups w replies message s.0 (moved most (groups_of s.1)) (groups_of s.2)
+on_sections w most replies message (Some s) =
+    if list_any is_bare (groups_of s.1) then Ok not_built
+    else on_groups w replies message s.0 (moved most (groups_of s.1)) (groups_of s.2)
 
 -- the outcome of a message by a table of replies, where so many bare CNAME records are followed: what each way of asking comes to
 -- (RFC 4033 5, RFC 4035 5)
