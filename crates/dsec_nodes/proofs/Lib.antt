@@ -22,3 +22,4 @@ pub mod JudgingLaws
 pub mod OutcomeLaws
 pub mod TruthLaws
 pub mod NodeExamples
+pub mod ApexExample

@@ -21,17 +21,17 @@ use Rattle.dsec_nodes.specs.ByDs.{Below, made, asks, by_ds_reply}
 abbrev parent : Labels
 parent = codes "example" ∷ []
 
-abbrev child : Labels
+abbrev pub child : Labels
 child = codes "sub" ∷ codes "example" ∷ []
 
-abbrev zone_key : Key
+abbrev pub zone_key : Key
 zone_key = record { flags = 257; protocol = 3; algorithm = 13; public_key = 1 ∷ 2 ∷ [] }
 
 -- a verifier that accepts one signature by the key, over any message
 abbrev accepts_nine : Accepts
 accepts_nine flags protocol algorithm octets message signature = bytes_eq octets (1 ∷ 2 ∷ []) && bytes_eq signature (9 ∷ [])
 
-abbrev w : World
+abbrev pub w : World
 w = record {
   accepts = accepts_nine;
   anchors = [];
@@ -47,7 +47,7 @@ w = record {
   now = 500;
 }
 
-abbrev zone : Node
+abbrev pub zone : Node
 zone = record {
   name = place parent;
   made = 400;
