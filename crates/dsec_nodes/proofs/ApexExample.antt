@@ -1,4 +1,4 @@
--- What a reply with the DNSKEY set of `sub.example.` comes to, where its DS set speaks of the key: a zone begins there.
+-- What replies with DNSKEY sets come to: a zone begins where a DS set speaks of one of the keys, or an anchor is one of them.
 use Rattle.std.proofs.Common.{◌≡◌, ℕ, ◌+◌, Bool, true, false, cond, List, [], ◌∷◌, ◌++◌, length, take, None, refl, ap, ◌||◌}
 use Rattle.std.specs.Prelude.{nat_lt, unwrap_or}
 use Rattle.std.specs.List.{list_any, position_or_len}
@@ -16,12 +16,14 @@ use Rattle.dsec_spec.specs.Lasting.{least_ttl}
 use Rattle.dsec_spec.specs.Trying.{tried}
 use Rattle.dsec_spec.specs.Chain as chain
 use Rattle.dsec_spec.proofs.DelegationLaws.{speaks_decides}
-use Rattle.dsec_nodes.specs.World.{moment}
-use Rattle.dsec_nodes.specs.Nodes.{Node, apex}
+use Rattle.dsec_nodes.specs.World.{World, moment}
+use Rattle.dsec_nodes.specs.Nodes.{Node, apex, bogus}
 use Rattle.dsec_nodes.specs.Admission.{matching, admitted_at, admitted_signs, ds_search}
+use Rattle.dsec_nodes.specs.Causes.{NoSignature}
+use Rattle.dsec_nodes.specs.Walk.{by_anchor_reply}
 use Rattle.dsec_nodes.specs.Replies.{sections}
 use Rattle.dsec_nodes.specs.ByDs.{Pending, by_tried, by_key_reply}
-use Rattle.dsec_nodes.proofs.NodeExamples.{child, zone_key, w, zone}
+use Rattle.dsec_nodes.proofs.NodeExamples.{parent, child, zone_key, w, zone}
 
 -- the digest of the child's key by SHA-256
 abbrev digest : List ℕ
@@ -116,3 +118,52 @@ zone_begins = ap (λ (search : KeySearch). (made_with search).standing) found
 zone_kept_for : (by_key_reply w zone pending (sections (keys ∷ []) [])).valid_for ≡ 150
 unfolding rrsig_of name_in labels_in signs least_ttl
 zone_kept_for = ap (λ (search : KeySearch). (made_with search).valid_for) found
+
+-- an anchor: the DNSKEY record of `example.`
+abbrev anchor : Record
+anchor = record { owner = parent; class = 1; rtype = 48; ttl = 0; rdata = key_octets zone_key }
+
+abbrev anchored_world : World
+anchored_world = record { accepts = w.accepts; anchors = anchor ∷ []; bounds = w.bounds; now = 500 }
+
+-- the DNSKEY set of `example.`, signed by its key
+abbrev island_keys : Group
+island_keys = record {
+  owner = parent;
+  class = 1;
+  rtype = 48;
+  records = record { owner = parent; class = 1; rtype = 48; ttl = 900; rdata = key_octets zone_key } ∷ [];
+  signatures = record {
+    owner = parent;
+    class = 1;
+    rtype = 46;
+    ttl = 900;
+    rdata = rrsig_octets (record {
+      covered = 48;
+      algorithm = 13;
+      labels = 1;
+      original_ttl = 3600;
+      expiration = 1100;
+      inception = 0;
+      tag = 1296;
+      signer = parent;
+      signature = 9 ∷ [];
+    });
+  } ∷ [];
+  extra = [];
+  had_duplicate = false;
+}
+
+-- at an island the anchor's own key makes a zone, kept for no longer than what is left of the signature's period, or than the most
+island : (by_anchor_reply anchored_world (place parent) (sections (island_keys ∷ []) [])).standing ≡ apex (key_octets zone_key ∷ [])
+unfolding rrsig_of name_in labels_in signs least_ttl
+island = refl
+
+island_kept_for : (by_anchor_reply anchored_world (place parent) (sections (island_keys ∷ []) [])).valid_for ≡ 600
+unfolding rrsig_of name_in labels_in signs least_ttl
+island_kept_for = refl
+
+-- and by another anchor none
+elsewhere : (by_anchor_reply w (place parent) (sections (island_keys ∷ []) [])).standing ≡ bogus NoSignature
+unfolding rrsig_of name_in labels_in signs least_ttl
+elsewhere = refl

@@ -18,7 +18,7 @@ use Rattle.dsec_nodes.specs.Replies.{sections}
 use Rattle.dsec_nodes.specs.MissingDs.{nsec_search}
 use Rattle.dsec_nodes.specs.ByDs.{Below, made, asks, by_ds_reply}
 
-abbrev parent : Labels
+abbrev pub parent : Labels
 parent = codes "example" ∷ []
 
 abbrev pub child : Labels
