@@ -46,17 +46,17 @@ admitted_signs accepts group t p = pair_signs accepts (set_in group) (place grou
 abbrev pub tried_by : {A : Type 0} → World → Group → (A → KeySearch) → List A → Tried (Record × Admitted A)
 tried_by w group search ways = tried (admitted_signs w.accepts group (moment w)) w.bounds.room (flat_map (matching_by group search) ways)
 
--- why a way shows no key set, where none of the pairs tried is good
+-- why a way shows no key set, where none of the pairs tried is good (RFC 8914 4)
 abbrev pub cause_by : {P : Type 0} → Cause → KeySearch → List P → Option Cause
 cause_by bad too_many tried = Some TooManyDnskeysForDs
 cause_by bad _ tried = if length tried == 0 then None else Some bad
 
--- the first cause, if there is one
+-- the first cause, if there is one (RFC 8914 4)
 abbrev pub first_or : Cause → List Cause → Cause
 first_or otherwise [] = otherwise
 first_or otherwise (cause ∷ causes) = cause
 
--- why no way shows the key set: the first cause of theirs
+-- why no way shows the key set: the first cause of theirs (RFC 8914 4)
 abbrev pub cause_among : {A : Type 0} → Cause → Group → (A → KeySearch) → List A → Cause
 cause_among bad group search ways =
     first_or NoSignature (filter_map (λ way. cause_by bad (search way) (matching_by group search way)) ways)
@@ -74,7 +74,7 @@ search_for most group (Some ds) = first_key ds group.owner most (set_in group).d
 abbrev pub ds_search : ℕ → Group → List ℕ → KeySearch
 ds_search most group ds_data = search_for most group (ds_of ds_data)
 
--- the key at an index, if one was found
+-- the key at an index, if one was found (RFC 4035 5)
 abbrev pub own_key : Option ℕ → KeySearch
 own_key (Some index) = found_at index
 own_key None = not_found

@@ -33,7 +33,7 @@ by_answer w name authorities j is_indeterminate = record { state = indeterminate
 abbrev pub is_answer : Place → Question → Judged → Bool
 is_answer name question j = same_place (place j.group.owner) name && (j.group.class == question.class) && (j.group.rtype == question.rtype)
 
--- the outcome by the group at an index
+-- the outcome by the group at an index (RFC 4033 5)
 abbrev pub at_answer : World → Place → List Judged → Option Judged → Outcome
 at_answer w name authorities None = not_built
 at_answer w name authorities (Some j) = by_answer w name authorities j j.finding
@@ -61,18 +61,18 @@ map_maybe_secure found secure = found
 map_maybe_secure secure maybe = maybe
 map_maybe_secure found maybe = found
 
--- why, with the groups of the aliases before it
+-- why, with the groups of the aliases before it (RFC 1034 3.6.2)
 abbrev pub why_after : List Judged → Why → Why
 why_after steps (by_groups js) = by_groups (steps ++ js)
 why_after steps (by_cause signed) = by_cause signed
 why_after steps (by_links links) = by_links links
 why_after steps by_nothing = by_nothing
 
--- an outcome, after aliases of this state
+-- an outcome, after aliases of this state (RFC 1034 3.6.2)
 abbrev pub after_path : State → List Judged → Outcome → Outcome
 after_path maybe steps o = record { state = map_maybe_secure o.state maybe; cause = o.cause; why = why_after steps o.why }
 
--- the outcome where the path of names ends
+-- the outcome where the path of names ends (RFC 1034 3.6.2)
 abbrev pub at_end : World → List ℕ → Question → List Judged → List Judged → AliasEnd → Outcome
 at_end w message question answers authorities (ends_bogus cause) = bogus_by cause by_nothing
 at_end w message question answers authorities (ends_at name maybe steps) =
@@ -83,7 +83,7 @@ abbrev pub on_questions : World → List ℕ → List Question → List Judged �
 on_questions w message (question ∷ []) answers authorities = Ok (at_end w message question answers authorities (alias_path w question answers))
 on_questions w message _ answers authorities = Err not_one_question
 
--- the outcome by what judging the answer section's groups came to, and then the authority section's
+-- the outcome by what judging the answer section's groups came to, and then the authority section's (RFC 4033 5)
 abbrev pub on_judged : World → List ℕ → List Question → AllJudged → AllJudged → Result Outcome Refusal
 on_judged w message questions (one_bogus cause links) authorities = Ok (bogus_by cause (by_links links))
 on_judged w message questions (all answers) (one_bogus cause links) = Ok (bogus_by cause (by_links links))

@@ -58,7 +58,7 @@ by_alias w zone keys name authorities (Some group) =
     if is_expanded group p.0 then made (missing_ds w zone keys name authorities) else made (within_by w zone name group p))
     else made (missing_ds w zone keys name authorities)
 
--- a reply whose answer section has no DS set that counts
+-- a reply whose answer section has no DS set that counts (RFC 4035 5.2)
 abbrev pub without_ds : World → Node → List (List ℕ) → Place → List Group → List Group → Below
 without_ds w zone keys name answers authorities = by_alias w zone keys name authorities (find (is_set_at name CNAME) answers)
 
@@ -85,7 +85,7 @@ by_ds_reply w zone keys name failed = made (bogus_at w name RequestFailed)
 by_ds_reply w zone keys name unreadable = made (bogus_at w name RequestUnreadable)
 by_ds_reply w zone keys name (sections answers authorities) = by_ds_set w zone keys name answers authorities (find (is_set_at name DS) answers)
 
--- the DS data that are tried: of those that can be used the first so many
+-- the DS data that are tried: of those that can be used the first so many (RFC 4035 5.2)
 abbrev pub ways : World → Pending → List (List ℕ)
 ways w pending = take w.bounds.max_ds_records (usable pending.link.records.datas)
 
@@ -102,11 +102,11 @@ apex_by w zone pending group p = record {
   bounds = w.bounds;
 }
 
--- why none is good: there are more than are tried, or else the first cause
+-- why none is good: there are more than are tried, or else the first cause (RFC 8914 4)
 abbrev pub none_by : World → Pending → Cause → Cause
 none_by w pending cause = if nat_lt w.bounds.max_ds_records (length (usable pending.link.records.datas)) then TooManyDsRecords else cause
 
--- a bogus node, where none is good
+-- a bogus node, where none is good (RFC 4035 5.2)
 abbrev pub not_admitted : World → Pending → Group → Node
 not_admitted w pending group =
     bogus_at w pending.name (none_by w pending (cause_among BadSignatureForDnskey group (ds_search w.bounds.max_keys_for_ds group) (ways w pending)))

@@ -25,7 +25,7 @@ pub data Finding : Type 0 where
   -- no anchor stands at or above where it is looked for
   is_indeterminate : Finding
 
--- a group with the zone that is to have signed it, and what was found of it
+-- a group with the zone that is to have signed it, and what was found of it (RFC 4035 4.3)
 pub record Judged : Type 0 where
   pub group : Group
   pub signer : Place
@@ -45,7 +45,7 @@ found_at w group n within = is_bogus NoSignature n.links
 found_at w group n (insecure cause signed) = is_insecure cause signed
 found_at w group n (bogus cause) = is_bogus cause n.links
 
--- a group, judged by a node
+-- a group, judged by a node (RFC 4035 4.3)
 abbrev pub by_node : World → Group → Node → Judged
 by_node w group n = record { group = group; signer = n.signer; finding = found_at w group n n.standing }
 
@@ -64,12 +64,12 @@ judged_of w replies group =
     if length group.records == 0 then record { group = group; signer = []; finding = has_no_set }
     else by_island w replies group (island w.anchors (place group.owner) group.rtype)
 
--- what judging groups comes to: all are judged, or one is bogus
+-- what judging groups comes to: all are judged, or one is bogus (RFC 4033 5)
 pub data AllJudged : Type 0 where
   all : List Judged → AllJudged
   one_bogus : Cause → List chain.Link → AllJudged
 
--- a judged group and those after it
+-- a judged group and those after it (RFC 4033 5)
 abbrev pub and_others : Judged → Finding → AllJudged → AllJudged
 and_others j (is_bogus cause links) others = one_bogus cause links
 and_others j _ (all js) = all (j ∷ js)

@@ -34,7 +34,7 @@ with_got s n = record {
 abbrev pub asking : Walking → Walking × Step
 asking s = (in_phase s asks_first, ask (name_at s) (type_at s.reached))
 
--- a node that was kept counts or is passed over, as if there were none
+-- a node that was kept counts or is passed over, as if there were none (RFC 4035 4.5)
 abbrev pub given : World → Walking → Option Node → Walking × Step
 given w s None = asking s
 given w s (Some n) = if counts w s.top (name_at s) n && may_stand s.reached n.standing then ahead (with_got s n) else asking s
@@ -55,7 +55,7 @@ with_node s asked n phase = record {
   got = s.got;
 }
 
--- a node was made: it is put, but with a bogus one the walk ends
+-- a node was made: it is put, but with a bogus one the walk ends (RFC 4035 4.5)
 abbrev pub made_by : Walking → List Question → Node → Standing → Walking × Step
 made_by s asked n (bogus cause) = (with_node s asked n ends, done n)
 made_by s asked n _ = (with_node s asked n puts, node_put (name_at s) n)
@@ -64,7 +64,7 @@ made_by s asked n _ = (with_node s asked n puts, node_put (name_at s) n)
 abbrev pub making : Walking → List Question → Node → Walking × Step
 making s asked n = made_by s asked n n.standing
 
--- the walk with a DS set whose key set is asked for
+-- the walk with a DS set whose key set is asked for (RFC 4035 5.2)
 abbrev pub with_pending : Walking → List Question → Pending → Walking
 with_pending s asked pending = record {
   top = s.top;
@@ -81,7 +81,7 @@ abbrev pub below_by : Walking → List Question → Below → Walking × Step
 below_by s asked (made n) = making s asked n
 below_by s asked (asks pending) = (with_pending s asked pending, ask (name_at s) DNSKEY)
 
--- the step after the first reply at a name: the island's key set, or a DS set
+-- the step after the first reply at a name: the island's key set, or a DS set (RFC 4035 5.2)
 abbrev pub first_reply : World → Walking → Option Reached → Option (List ℕ) → Walking × Step
 first_reply w s None octets =
     making s (heard s (type_at None) octets) (by_anchor_reply w s.top (read_reply octets))
@@ -99,7 +99,7 @@ abbrev pub replied : World → Walking → Phase → Option (List ℕ) → Walki
 replied w s (asks_keys pending) octets = key_reply w s s.reached pending octets
 replied w s _ octets = first_reply w s s.reached octets
 
--- the step after what answers the last one
+-- the step after what answers the last one (RFC 4035 5)
 abbrev pub advanced : World → Walking → Input → Walking × Step
 advanced w s begin = ahead s
 advanced w s (node o) = given w s o

@@ -55,7 +55,7 @@ insecure_by w zone keys name cause basis group p = record {
   bounds = w.bounds;
 }
 
--- what groups show: a node, or nothing, and then perhaps a cause
+-- what groups show: a node, or nothing, and then perhaps a cause (RFC 4035 5.2)
 pub data Looked : Type 0 where
   decided : Node → Looked
   passed : Option Cause → Looked
@@ -102,7 +102,7 @@ by_prefix w zone keys name group nsec p =
     if has_type nsec.types DNAME then decided (bogus_at w name PrefixNsecIsDname) else
     if delegates nsec then decided (bogus_at w name PrefixNsecIsDelegation) else by_range w zone keys name group nsec
 
--- an NSEC record by where its owner stands: at the name, above it, or elsewhere
+-- an NSEC record by where its owner stands: at the name, above it, or elsewhere (RFC 4034 4)
 abbrev pub by_nsec : World → Node → List (List ℕ) → Place → Group → Option Nsec → Looked
 by_nsec w zone keys name group None = passed (Some NsecNotUsable)
 by_nsec w zone keys name group (Some nsec) =
@@ -120,7 +120,7 @@ abbrev pub by_group : World → Node → List (List ℕ) → Place → Group →
 by_group w zone keys name group =
     if (group.rtype == NSEC) && (group.class == IN) then by_records w zone keys name group group.records else passed None
 
--- the first that decides, and otherwise the last cause
+-- the first that decides, and otherwise the last cause (RFC 8914 4)
 abbrev pub then_looked : Looked → Looked → Looked
 then_looked (decided n) later = decided n
 then_looked (passed cause) (decided n) = decided n
@@ -137,7 +137,7 @@ nsec_search w zone keys name (g ∷ gs) =
 abbrev pub nsec3_search : World → Node → List (List ℕ) → Place → List Group → Looked
 nsec3_search w zone keys name groups = if list_any (λ g. g.rtype == NSEC3) groups then decided (bogus_at w name NotBuilt) else passed None
 
--- the node that was decided, or else a bogus one with the cause that was left
+-- the node that was decided, or else a bogus one with the cause that was left (RFC 4035 5.2)
 abbrev pub by_looked : World → Place → Looked → Node
 by_looked w name (decided n) = n
 by_looked w name (passed None) = bogus_at w name NoProofForMissingDs

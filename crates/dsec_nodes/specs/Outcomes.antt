@@ -18,27 +18,29 @@ pub data State : Type 0 where
   indeterminate : State
 
 -- why a state was found: by judged groups and denials, in order; by a signed cause; by the links to a zone; or by none of these
+-- (RFC 4033 5)
 pub data Why : Type 0 where
   by_groups : List Judged → Why
   by_cause : SignedCause → Why
   by_links : List chain.Link → Why
   by_nothing : Why
 
--- a state with its cause, if one is told, and why it was found
+-- a state with its cause, if one is told, and why it was found (RFC 4033 5)
 pub record Outcome : Type 0 where
   pub state : State
   pub cause : Option Cause
   pub why : Why
 
--- a bogus outcome
+-- a bogus outcome (RFC 4033 5)
 abbrev pub bogus_by : Cause → Why → Outcome
 bogus_by cause why = record { state = bogus; cause = Some cause; why = why }
 
--- an outcome where judging came to a part that is left out
+-- an outcome where judging came to a part that is left out (RFC 4033 5)
 abbrev pub not_built : Outcome
 not_built = bogus_by NotBuilt by_nothing
 
 -- where the path of names from a question's ends: at a name, with the state of the aliases and the groups used, or not at all
+-- (RFC 1034 3.6.2)
 pub data AliasEnd : Type 0 where
   ends_at : Place → State → List Judged → AliasEnd
   ends_bogus : Cause → AliasEnd

@@ -23,7 +23,7 @@ both_of octets = do
   answers ← answers_of octets
   Some (answers.0, authorities.0)
 
--- what the octets of a reply, if there are any, come to
+-- what the octets of a reply, if there are any, come to (RFC 1035 4.1)
 abbrev pub read_reply : Option (List ℕ) → Reply
 read_reply None = failed
 read_reply (Some octets) = sections_by (both_of octets)

@@ -12,7 +12,7 @@ use Rattle.dsec_spec.specs.DelegationSigner.{IsSupported}
 use Rattle.dsec_spec.specs.Chain.{Link, Holds}
 use Rattle.dsec_nodes.specs.World.{Bounds}
 
--- which of five records shows that no chain leads to a name
+-- which of five records shows that no chain leads to a name (RFC 4035 5.2, RFC 5155 8.9, RFC 9276 3.2)
 pub data Ground : Type 0 where
   -- an NSEC record at a delegation without DS (RFC 4035 5.2)
   nsec_without_ds : Ground
@@ -25,7 +25,7 @@ pub data Ground : Type 0 where
   -- a DS set without a record of a known algorithm and digest (RFC 4035 5.2)
   ds_not_supported : Ground
 
--- a signed cause: which record it is, and its links, of which the last is its own
+-- a signed cause: which record it is, and its links, of which the last is its own (RFC 4035 5.2)
 pub record SignedCause : Type 0 where
   pub basis : Ground
   pub links : List Link

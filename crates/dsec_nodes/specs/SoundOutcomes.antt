@@ -27,7 +27,7 @@ pub record IsRead (message : List ℕ) (most : ℕ) (question : Question) (answe
   pub read : answers_of message ≡ Some (section, section_end)
   pub groups : moved most (groups_of section) ≡ Some answers
 
--- links begin with the set at this place
+-- links begin with the set at this place (RFC 4033 2)
 pub record BeginsAt (links : List Link) (p : Place) : Type 0 where
   pub first : Link
   pub others : List Link
@@ -65,7 +65,7 @@ pub record EndsAt (w : World) (message : List ℕ) (question : Question) (answer
   pub no_alias : (other : Group) → Contains answers other → LeadsOn w.anchors question other → ⊥
   pub at_question : IsAtQuestion question group
 
--- the message's one question is answered by this group, which stands at an index of its answer section
+-- the message's one question is answered by this group, which stands at an index of its answer section (RFC 1034 3.7.1)
 pub record IsAnswered (w : World) (most : ℕ) (message : List ℕ) (group : Group) : Type 0 where
   pub question : Question
   pub answers : List Group

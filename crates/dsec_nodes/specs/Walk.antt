@@ -69,12 +69,12 @@ pub record Reached : Type 0 where
   pub zone : Node
   pub node : Node
 
--- the keys that a node holds: those of a zone
+-- the keys that a node holds: those of a zone (RFC 4034 2)
 abbrev pub held_keys : Standing → List (List ℕ)
 held_keys (apex keys) = keys
 held_keys _ = []
 
--- what is reached with a node that was made below a zone: a zone of its own takes the place of the one above
+-- what is reached with a node that was made below a zone: a zone of its own takes the place of the one above (RFC 4035 5.2)
 abbrev pub after : Node → Node → Standing → Reached
 after zone n (apex keys) = record { zone = n; node = n }
 after zone n _ = record { zone = zone; node = n }
@@ -86,11 +86,11 @@ goes_on within = true
 goes_on (insecure cause signed) = false
 goes_on (bogus cause) = false
 
--- the node of the next name, made below the last zone and with its keys
+-- the node of the next name, made below the last zone and with its keys (RFC 4035 5.2)
 abbrev pub next : World → Replies → Reached → Place → Node
 next w replies r name = child w replies r.zone (held_keys r.zone.standing) name
 
--- one name further, where the walk goes on
+-- one name further, where the walk goes on (RFC 4033 2)
 abbrev pub onward : World → Replies → Reached → Place → Reached
 onward w replies r name = if goes_on r.node.standing then after r.zone (next w replies r name) (next w replies r name).standing else r
 
@@ -104,6 +104,7 @@ abbrev pub node_of : World → Replies → Place → Place → Node
 node_of w replies top name = (way w replies top name (length name - length top)).node
 
 -- whether a walk that has reached this can stand on a node: it doesn't begin at one that is within a zone, whose zone it doesn't know
+-- (RFC 4033 2)
 abbrev pub may_stand : Option Reached → Standing → Bool
 may_stand None within = false
 may_stand None _ = true

@@ -6,7 +6,7 @@ use Rattle.dsec_nodes.specs.Nodes.{Node}
 use Rattle.dsec_nodes.specs.ByDs.{Pending}
 use Rattle.dsec_nodes.specs.Walk.{Reached, goes_on, after}
 
--- a question that was asked, and the octets of its reply, or none where it failed
+-- a question that was asked, and the octets of its reply, or none where it failed (RFC 1035 4.1)
 pub record Question : Type 0 where
   pub name : Place
   pub rtype : ℕ
@@ -23,7 +23,7 @@ pub data Phase : Type 0 where
   ends : Phase
 
 -- A walk under an island to a name: how many names are behind it, the island's the first; what it has reached; what it waits for; and the
--- replies and the nodes that it was given
+-- replies and the nodes that it was given (RFC 4033 2)
 pub record Walking : Type 0 where
   pub top : Place
   pub target : Place
@@ -47,7 +47,7 @@ pub data Input : Type 0 where
   stored : Input
   reply : Option (List ℕ) → Input
 
--- the name that is next, of as many labels as are behind the walk below its island
+-- the name that is next, of as many labels as are behind the walk below its island (RFC 4033 2)
 abbrev pub name_at : Walking → Place
 name_at s = take (length s.top + s.behind) s.target
 
@@ -56,7 +56,7 @@ abbrev pub type_at : Option Reached → ℕ
 type_at None = DNSKEY
 type_at (Some r) = DS
 
--- the type that is asked for at it, by what is waited for
+-- the type that is asked for at it, by what is waited for (RFC 4035 5.2)
 abbrev pub asked_type : Phase → Option Reached → ℕ
 asked_type (asks_keys pending) o = DNSKEY
 asked_type begins o = type_at o
@@ -65,7 +65,7 @@ asked_type asks_first o = type_at o
 asked_type puts o = type_at o
 asked_type ends o = type_at o
 
--- what is reached with a node that was made or got at the next name
+-- what is reached with a node that was made or got at the next name (RFC 4035 5.2)
 abbrev pub arrived : Option Reached → Node → Reached
 arrived None n = record { zone = n; node = n }
 arrived (Some r) n = after r.zone n n.standing
@@ -82,7 +82,7 @@ in_phase s phase = record {
   got = s.got;
 }
 
--- whether a walk that has reached this goes on to another name
+-- whether a walk that has reached this goes on to another name (RFC 4033 2)
 abbrev pub is_further : Walking → Reached → Bool
 is_further s r = goes_on r.node.standing && nat_le (length s.top + s.behind) (length s.target)
 

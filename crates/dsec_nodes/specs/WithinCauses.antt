@@ -19,7 +19,7 @@ pub record HasAlias (c : Place) (set : RecordSet) : Type 0 where
   pub rdata : List ℕ
   pub alone : set.datas ≡ rdata ∷ []
 
--- one NSEC record of a set
+-- one NSEC record of a set (RFC 4034 4)
 pub record IsOneNsec (set : RecordSet) (r : NsecAt) : Type 0 where
   pub of_type : set.rtype ≡ NSEC
   pub rdata : List ℕ
@@ -43,7 +43,7 @@ pub record HasNamesBelow (c : Place) (r : NsecAt) : Type 0 where
   pub no_dname : IsStrictlyBelow c (owner_of r) → has r DNAME ≡ false
   pub no_delegation : IsStrictlyBelow c (owner_of r) → (has r NS && not (has r SOA)) ≡ false
 
--- what a set shows: that no zone begins at the name
+-- what a set shows: that no zone begins at the name (RFC 1034 4.2)
 abbrev pub ShowsNoZone : Place → RecordSet → Type 0
 ShowsNoZone c set = HasAlias c set ⊎ ((r : NsecAt) × IsOneNsec set r × (HasNoCut c r ⊎ HasNamesBelow c r))
 

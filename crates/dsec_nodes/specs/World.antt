@@ -4,7 +4,7 @@ use Rattle.dsec_spec.specs.Names.{Place}
 use Rattle.dsec_spec.specs.Records.{Record}
 use Rattle.dsec_spec.specs.Accepts.{Accepts}
 
--- how much is tried, and for how many seconds something is kept at most
+-- how much is tried, and for how many seconds something is kept at most (RFC 4035 4.5, 4.7)
 pub record Bounds : Type 0 where
   -- how many matching pairs of a signature and a key are tried of a set
   pub room : ℕ
@@ -21,14 +21,14 @@ pub record Bounds : Type 0 where
   -- above how many iterations an NSEC3 record makes a name bogus (RFC 9276 3.2)
   pub iterations_bogus : ℕ
 
--- what judging goes by: the signatures that are accepted, the anchors, the bounds, and the moment in seconds since 1970
+-- what judging goes by: the signatures that are accepted, the anchors, the bounds, and the moment in seconds since 1970 (RFC 4033 2)
 pub record World : Type 0 where
   pub accepts : Accepts
   pub anchors : List Record
   pub bounds : Bounds
   pub now : ℕ
 
--- the reply to the question for a type at a place, if there is one
+-- the reply to the question for a type at a place, if there is one (RFC 1035 4.1)
 abbrev pub Replies : Type 0
 Replies = Place → ℕ → Option (List ℕ)
 
