@@ -2,3 +2,4 @@ pub mod KeyData
 pub mod CacheLaws
 pub mod NodeSteps
 pub mod CountingLaws
+pub mod CountedLaws
