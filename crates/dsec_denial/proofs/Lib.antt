@@ -1,3 +1,4 @@
+pub mod CallerLemmas
 pub mod ExpansionLaws
 pub mod ExpansionSteps
 pub mod RangeLaws
