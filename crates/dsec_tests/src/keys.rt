@@ -1,11 +1,10 @@
 //! Digests and sizes of keys from outside: the root's key of 2017 with the digests that IANA and Python's hashlib give, the
-//! key of RFC 4034 5.4 and RFC 4509 2.3, and one of Ed25519; and which keys the stand-in takes.
+//! key of RFC 4034 5.4 and RFC 4509 2.3, and one of Ed25519.
 
 use crate::lines::record;
-use dsec_crypto::{AlgorithmError, FromDnskeyError};
+use dsec_crypto::AlgorithmError;
 use dsec_link::{DnskeyExt, DsExt};
 use dsec_name::Name;
-use dsec_sign::{SignRaw, StandInKey};
 use dsec_wire::{Dnskey, Ds};
 use std::alloc::Global;
 use std::process::Abort;
@@ -102,48 +101,4 @@ fn assert_sizes(rt: &impl Abort, alloc: Global, rows: &[(&str, Option<usize>)]) 
 #[test]
 fn sizes(rt: HostRuntime) {
     assert_sizes(&rt, rt.alloc(), &SIZES);
-}
-
-/// Keys, and why the stand-in doesn't take them, if it doesn't: it takes those of 1 to 64 octets.
-#[rattlefmt::skip]
-const TAKEN: [(&str, Option<FromDnskeyError>); 8] = [
-    (". 60 IN DNSKEY 257 3 13 AQI=", None),
-    (". 60 IN DNSKEY 0 3 5 AQ==", None),
-    (". 60 IN DNSKEY \\# 68 0101030d00112233445566778899aabbccddeeff00112233445566778899aabbccddeeff00112233445566778899aabbccddeeff00112233445566778899aabbccddeeff", None),
-    (". 60 IN DNSKEY \\# 69 0101030d00112233445566778899aabbccddeeff00112233445566778899aabbccddeeff00112233445566778899aabbccddeeff00112233445566778899aabbccddeeff00", Some(FromDnskeyError::InvalidKey)),
-    (". 60 IN DNSKEY \\# 4 0101030d", Some(FromDnskeyError::InvalidKey)),
-    (". 60 IN DNSKEY 257 2 13 AQI=", Some(FromDnskeyError::UnsupportedProtocol)),
-    (". 60 IN DNSKEY \\# 4 0101030f", Some(FromDnskeyError::UnsupportedAlgorithm)),
-    (". 60 IN DNSKEY \\# 4 0101020f", Some(FromDnskeyError::UnsupportedProtocol)),
-];
-
-fn is_taken(alloc: Global, key: &str, want: Option<FromDnskeyError>) -> bool {
-    let Some(made) = record(alloc, key) else {
-        return false;
-    };
-    let Some(key) = made.rdata().dnskey() else {
-        return false;
-    };
-    match StandInKey::from_dnskey(&key) {
-        Ok(taken) => want.is_none() && has_key(&taken, key.public_key),
-        Err(error) => want == Some(error),
-    }
-}
-
-fn has_key(taken: &StandInKey, public_key: &[u8]) -> bool {
-    match taken.dnskey() {
-        Ok(dnskey) => dnskey.public_key == public_key,
-        Err(_) => false,
-    }
-}
-
-fn assert_taken(rt: &impl Abort, alloc: Global, rows: &[(&str, Option<FromDnskeyError>)]) {
-    for (key, want) in rows {
-        assert!(rt; is_taken(alloc, key, *want), "{key}");
-    }
-}
-
-#[test]
-fn keys_of_the_stand_in(rt: HostRuntime) {
-    assert_taken(&rt, rt.alloc(), &TAKEN);
 }

@@ -2,8 +2,6 @@
 #![tactic(auto)]
 
 #[cfg(test)]
-mod bind;
-#[cfg(test)]
 mod faults;
 #[cfg(test)]
 mod judged;

@@ -1,0 +1,49 @@
+//! A signer that fails at given calls.
+
+ghost use Rattle.std.specs.Prelude.{◌≡◌};
+ghost use Rattle.dsec_rrsig.specs.Keys.{stand_in_signs};
+
+use dsec_name::NoMemory;
+use dsec_number::SecurityAlgorithm;
+use dsec_sign::{SignError, SignRaw, StandInKey};
+use dsec_wire::Dnskey;
+use std::alloc::Global;
+
+/// A key of the stand-in that fails at one call.
+#[derive(Drop)]
+pub(crate) struct FailingKey {
+    /// What signs at the other calls.
+    pub(crate) key: StandInKey,
+    /// The number of the call that fails; the first call has the number 0.
+    pub(crate) failing: u64,
+    /// How many calls were made.
+    pub(crate) calls: u64,
+    /// How many of them failed: a count that stays at 2^64 - 1.
+    pub(crate) faults: u64,
+}
+
+impl SignRaw for FailingKey {
+    ghost signs = { stand_in_signs };
+
+    ghost key = { λ it. it.key };
+
+    ghost faults = { λ it. it.faults };
+
+    fn algorithm(&self) -> SecurityAlgorithm {
+        self.key.algorithm()
+    }
+
+    fn dnskey(&self) -> Result<Dnskey<'_>, NoMemory> {
+        self.key.dnskey()
+    }
+
+    fn sign_raw(&mut self, alloc: Global, message: &[u8]) -> Result<Vec<u8>, SignError> {
+        let fails = self.calls == self.failing;
+        self.calls = self.calls.saturating_add(1);
+        if fails {
+            self.faults = self.faults.saturating_add(1);
+            return Err(SignError::Failed);
+        }
+        self.key.sign_raw(alloc, message)
+    }
+}
