@@ -10,8 +10,7 @@ use Rattle.std.proofs.lemmas.List.Quantifiers.{position-Some}
 use Rattle.dsec_spec.specs.Records.{Record}
 use Rattle.dsec_spec.specs.Groups.{Group}
 use Rattle.dsec_group.specs.Adding.{belongs_to, new_group, placed, put_in}
-use Rattle.dsec_group.specs.Keys.{AreKeys, group_key, has_key, is_key, key_of, same_key}
-use Rattle.dsec_group.specs.declared.key.GroupKey.{GroupKey}
+use Rattle.dsec_group.specs.Keys.{GroupKey, AreKeys, group_key, has_key, is_key, key_of, same_key}
 use Rattle.dsec_group.proofs.KeyLaws.{belongs_is_key, group_key_stays}
 
 module _ {X : Type 0} (p : X → Bool) where

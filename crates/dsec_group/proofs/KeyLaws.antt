@@ -10,8 +10,7 @@ use Rattle.dsec_spec.specs.Records.{Record}
 use Rattle.dsec_spec.specs.Groups.{Group, is_signature, of_one_group, grouped_type}
 use Rattle.dsec_spec.proofs.CanonicalNames.{canonical_octets_equal, same_place_decides}
 use Rattle.dsec_group.specs.Adding.{belongs_to, canonical_of, group_from, group_with, has_data, led, new_group, put_in, with_record}
-use Rattle.dsec_group.specs.Keys.{group_key, is_key, key_among, key_of, same_key}
-use Rattle.dsec_group.specs.declared.key.GroupKey.{GroupKey}
+use Rattle.dsec_group.specs.Keys.{GroupKey, group_key, is_key, key_among, key_of, same_key}
 use Rattle.dsec_group.proofs.MemberLaws.{one_group}
 
 pub key_decides : (a b : GroupKey) → Decides (same_key a b) (a ≡ b)

@@ -11,4 +11,5 @@ pub mod CheckLaws
 pub mod CheckedLaws
 pub mod SpanLaws
 pub mod SetLaws
+pub mod PlaceLaws
 pub mod RedirectLaws

@@ -18,9 +18,8 @@ use Rattle.dsec_spec.specs.Names.{Labels, place, same_place, wire_length}
 use Rattle.dsec_spec.specs.Records.{Record}
 use Rattle.dsec_spec.specs.Redirection.{Mapping, silent, agrees, too_long, bare_alias, first_said, fitting, followed, followed_from, followers, group_says, index_by, is_bare, is_index, map_dname, mapping, moved, mapping_to, said_by, staying_from, stays, with_followers}
 use Rattle.dsec_group.specs.Followers.{follower_view, followers_at, followers_in}
-use Rattle.dsec_group.specs.Keys.{group_key, has_key, is_key}
+use Rattle.dsec_group.specs.Keys.{GroupKey, group_key, has_key, is_key}
 use Rattle.dsec_group.specs.Mappings.{is_dname_of_class, or_push_error}
-use Rattle.dsec_group.specs.declared.key.GroupKey.{GroupKey}
 use Rattle.dsec_group.specs.declared.settle.Follower.{Follower}
 
 -- the name that a DNAME maps a name to, put together of its first labels and the target

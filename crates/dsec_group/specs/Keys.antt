@@ -7,7 +7,12 @@ use Rattle.dsec_spec.specs.Names.{canonical_octets}
 use Rattle.dsec_spec.specs.Records.{Record}
 use Rattle.dsec_spec.specs.Groups.{Group, grouped_type}
 use Rattle.dsec_group.specs.Adding.{leader_in}
-use Rattle.dsec_group.specs.declared.key.GroupKey.{GroupKey}
+
+-- what the records of one group share: the owner's canonical octets (RFC 4034 6.2), the class, and the type that they are grouped by
+pub record GroupKey : Type 0 where
+  pub owner : List ℕ
+  pub class : ℕ
+  pub rtype : ℕ
 
 -- whether two keys are of one owner, class and type
 abbrev pub same_key : GroupKey → GroupKey → Bool

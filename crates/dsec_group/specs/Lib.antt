@@ -1,5 +1,6 @@
 pub mod Adding
 pub mod Keys
+pub mod Places
 pub mod Trials
 pub mod Checks
 pub mod Spans

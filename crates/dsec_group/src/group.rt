@@ -179,6 +179,14 @@ impl Group {
         self.sig_set().iter()
     }
 
+    /// Lets go of what is kept for records that are added.
+    pub(crate) fn settle(&mut self)
+        ensures { self.new ≡ self.old }
+    {
+        self.records.settle();
+        self.signatures.settle();
+    }
+
     /// Adds a record of the group, and notes and drops a duplicate.
     pub(crate) fn put(&mut self, next: Record) -> Result<(), NoMemory>
         requires { belongs_to next self.old ≡ true }

@@ -1,34 +1,34 @@
-//! What the records of one group share, as a key that groups are found by.
+//! What the records of one group share, as a test and as a hash that groups are looked up by.
 
-ghost use Rattle.std.specs.Prelude.{◌≡◌, IfOk};
+ghost use Rattle.std.specs.Prelude.{◌≡◌};
+ghost use Rattle.dsec_group.specs.Adding.{belongs_to};
 ghost use Rattle.dsec_group.specs.Keys.{key_of};
+ghost use Rattle.dsec_group.specs.Places.{key_hash};
 
-use crate::group::grouped_type;
-use dsec_name::{NoMemory, Octets};
-use dsec_number::{Class, Rtype};
+use crate::group::{Group, grouped_type};
+use crate::seed::Seed;
 use dsec_wire::Record;
-use std::alloc::Global;
-use std::hash::{Hash, Hasher};
+use std::hash::{BuildHasher, Hasher};
 
-/// The owner's canonical octets (RFC 4034 6.2), the class, and the type that a record is grouped by.
-#[derive(Clone, PartialEq, Eq, Hash, Drop)]
-pub(crate) struct GroupKey {
-    owner: Octets,
-    class: Class,
-    rtype: Rtype,
+/// Whether a record belongs to a group: whether it is of one owner, class and grouped type with the group's first. Names are
+/// compared last.
+pub(crate) fn belongs(next: &Record, group: &Group) -> bool
+    ensures { result ≡ belongs_to next.now group.now }
+{
+    let first = group.leader();
+    grouped_type(first) == grouped_type(next)
+        && first.class() == next.class()
+        && *first.owner() == *next.owner()
 }
 
-impl GroupKey {
-    /// The key of a record's group.
-    pub(crate) fn of(alloc: Global, next: &Record) -> Result<GroupKey, NoMemory>
-        ensures { IfOk result (λ key. key ≡ key_of next.now) }
-    {
-        let mut owner = Vec::with_capacity(alloc, next.owner().wire_len())?;
-        next.owner().compose_canonical(&mut owner)?;
-        Ok(GroupKey {
-            owner: Octets::new(owner),
-            class: next.class(),
-            rtype: grouped_type(next),
-        })
-    }
+/// The hash of a record's owner, in canonical octets (RFC 4034 6.2), its class, and the type that it is grouped by.
+pub(crate) fn hash_of(next: &Record, seed: Seed) -> u64
+    ensures { result ≡ key_hash seed (key_of next.now) }
+{
+    let owner = next.owner().canonical_octets();
+    let mut hasher = seed.build_hasher();
+    hasher.write(owner.as_slice());
+    hasher.write(&next.class().to_int().to_be_bytes());
+    hasher.write(&grouped_type(next).to_int().to_be_bytes());
+    hasher.finish()
 }

@@ -10,6 +10,7 @@ mod lasting;
 mod limits;
 mod members;
 mod memo;
+mod places;
 mod seed;
 mod set;
 mod settle;

@@ -63,7 +63,8 @@ impl Members {
     {
         let alloc = *self.records.allocator();
         if !self.is_indexed && self.records.is_empty() {
-            self.records.push(next)?;
+            self.records.reserve_exact(1)?;
+            self.records.push_reserved(next);
             return Ok(false);
         }
         index(alloc, &mut self.canonical, &self.records, self.is_indexed)?;
@@ -75,6 +76,15 @@ impl Members {
             self.records.push_reserved(next);
         }
         Ok(!is_new)
+    }
+
+    /// Lets go of the canonical data, which are taken again where a record is added after all.
+    pub(crate) fn settle(&mut self)
+        ensures { self.new ≡ self.old }
+    {
+        let alloc = *self.records.allocator();
+        self.canonical = BTreeSet::new(alloc);
+        self.is_indexed = false;
     }
 
     /// A copy of the records, whose canonical data aren't known yet.

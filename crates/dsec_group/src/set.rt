@@ -5,37 +5,36 @@ ghost use Rattle.std.specs.Slice.Iter.{iter_rest};
 ghost use Rattle.dsec_spec.specs.Groups as grouping;
 ghost use Rattle.dsec_spec.specs.Groups.{groups_of};
 ghost use Rattle.dsec_spec.specs.Records as entries;
-ghost use Rattle.indexmap.specs.IndexMap.{keys, values};
 ghost use Rattle.dsec_group.specs.Adding.{belongs_to, new_group, placed as placed_in, put_in};
-ghost use Rattle.dsec_group.specs.Keys.{AreDistinct, AreKeys, HasFreshKey, group_key, has_key, key_of};
+ghost use Rattle.dsec_group.specs.Keys.{AreDistinct, HasFreshKey, group_key, has_key, key_of};
+ghost use Rattle.dsec_group.specs.Places.{AreKept};
 
 use crate::group::Group;
-use crate::key::GroupKey;
+use crate::places::Places;
 use crate::seed::Seed;
 use dsec_name::NoMemory;
 use dsec_wire::{Record, Records};
-use indexmap::IndexMap;
 use std::alloc::Global;
 use std::marker::Model;
 use std::slice::Iter;
 
-/// The groups of a section, in order of first arrival, each found by what its records share.
+/// The groups of a section, in order of first arrival, and where each is found by what its records share.
 #[derive(Drop)]
 pub struct GroupSet {
-    groups: IndexMap<GroupKey, Group, Seed>,
+    groups: Vec<Group>,
+    places: Places,
 }
 
 impl Model for GroupSet {
     ghost use Rattle.std.specs.Prelude.{List};
     ghost use Rattle.dsec_spec.specs.Groups as grouping;
-    ghost use Rattle.indexmap.specs.IndexMap.{keys, values};
-    ghost use Rattle.dsec_group.specs.Keys.{AreKeys};
+    ghost use Rattle.dsec_group.specs.Places.{AreKept};
 
     ghost Value = { List grouping.Group };
 
-    ghost view = { λ it. values it.groups };
+    ghost view = { λ it. it.groups.items };
 
-    ghost invariant = { λ it. AreKeys (keys it.groups) (values it.groups) };
+    ghost invariant = { λ it. AreKept it.places it.groups.items };
 }
 
 impl GroupSet {
@@ -53,7 +52,8 @@ impl GroupSet {
         ensures groups { result ≡ groups_of [] }
     {
         GroupSet {
-            groups: IndexMap::with_hasher(alloc, seed),
+            groups: Vec::new(alloc),
+            places: Places::new(alloc, seed),
         }
     }
 
@@ -62,9 +62,7 @@ impl GroupSet {
         ensures value { result.now ≡ self.now }
         ensures distinct { AreDistinct self.now }
     {
-        let entries = self.groups.as_slice();
-        let groups = entries.values();
-        groups.as_slice()
+        &self.groups
     }
 
     /// The groups one by one, in order of first arrival.
@@ -95,24 +93,11 @@ impl GroupSet {
         ensures ok { OnOk result (self.new ≡ placed_in next self.old) }
         ensures err { OnErr result (self.new ≡ self.old) }
     {
-        let alloc = *self.groups.allocator();
-        let key = GroupKey::of(alloc, &next)?;
-        if let Some(index) = index_of(&self.groups, &key, &next) {
+        if let Some(index) = index_of(&self.places, &self.groups, &next) {
             return self.groups[index].put(next);
         }
-        let group = Group::of(alloc, next)?;
-        self.insert(key, group)
-    }
-
-    /// Adds a group at the end, by its key, which no group has yet.
-    fn insert(&mut self, key: GroupKey, group: Group) -> Result<(), NoMemory>
-        requires its { group_key group ≡ Some key }
-        requires fresh { has_key key self.old ≡ false }
-        ensures ok { OnOk result (self.new ≡ self.old ++ group ∷ []) }
-        ensures err { OnErr result (self.new ≡ self.old) }
-    {
-        self.groups.insert(key, group)?;
-        Ok(())
+        let group = Group::of(self.allocator(), next)?;
+        self.push(group)
     }
 
     /// Adds a group at the end, whose key no group has yet.
@@ -121,16 +106,23 @@ impl GroupSet {
         ensures ok { OnOk result (self.new ≡ self.old ++ group ∷ []) }
         ensures err { OnErr result (self.new ≡ self.old) }
     {
-        let alloc = self.allocator();
-        let key = GroupKey::of(alloc, group.leader())?;
-        self.insert(key, group)
+        self.places.note(&self.groups, group.leader())?;
+        self.groups.push(group)?;
+        Ok(())
+    }
+
+    /// Lets go of what is kept for records that are added, which is made again where one is added after all.
+    pub(crate) fn settle(&mut self)
+        ensures { self.new ≡ self.old }
+    {
+        settle_all(&mut self.groups);
     }
 
     /// The groups of no section, where these take their memory, and hashed by the same seed.
     pub(crate) fn blank(&self) -> GroupSet
         ensures { result ≡ [] }
     {
-        GroupSet::with_seed(self.allocator(), *self.groups.hasher())
+        GroupSet::with_seed(self.allocator(), self.places.seed())
     }
 
     /// Where the groups take their memory.
@@ -152,21 +144,16 @@ impl GroupSet {
 }
 
 /// The index of the group that a record belongs to.
-fn index_of(
-    groups: &IndexMap<GroupKey, Group, Seed>,
-    key: &GroupKey,
-    next: &Record,
-) -> Option<usize>
-    requires kept { AreKeys (keys groups.now) (values groups.now) }
-    requires keyed { key.now ≡ key_of next.now }
-    ensures within { IfSome result (λ index. index < length (values groups.now)) }
-    ensures belongs { IfSome result (λ index. (group : grouping.Group) → slice_get (values groups.now) index ≡ Some group → belongs_to next.now group ≡ true) }
-    ensures found { IfSome result (λ index. (group : grouping.Group) → slice_get (values groups.now) index ≡ Some group → placed_in next.now (values groups.now) ≡ slice_set (values groups.now) index (put_in next.now group)) }
-    ensures stays { IfSome result (λ index. (group : grouping.Group) → slice_get (values groups.now) index ≡ Some group → map group_key (slice_set (values groups.now) index (put_in next.now group)) ≡ map group_key (values groups.now)) }
-    ensures none { IfNone result (placed_in next.now (values groups.now) ≡ values groups.now ++ new_group next.now ∷ []) }
-    ensures absent { IfNone result (has_key key.now (values groups.now) ≡ false) }
+fn index_of(places: &Places, groups: &[Group], next: &Record) -> Option<usize>
+    requires { AreKept places.now groups.now }
+    ensures within { IfSome result (λ index. index < length groups.now) }
+    ensures belongs { IfSome result (λ index. (group : grouping.Group) → slice_get groups.now index ≡ Some group → belongs_to next.now group ≡ true) }
+    ensures found { IfSome result (λ index. (group : grouping.Group) → slice_get groups.now index ≡ Some group → placed_in next.now groups.now ≡ slice_set groups.now index (put_in next.now group)) }
+    ensures stays { IfSome result (λ index. (group : grouping.Group) → slice_get groups.now index ≡ Some group → map group_key (slice_set groups.now index (put_in next.now group)) ≡ map group_key groups.now) }
+    ensures none { IfNone result (placed_in next.now groups.now ≡ groups.now ++ new_group next.now ∷ []) }
+    ensures absent { IfNone result (has_key (key_of next.now) groups.now ≡ false) }
 {
-    groups.get_index_of(key)
+    places.find(groups, next)
 }
 
 /// The groups of a section's records, hashed by a seed.
@@ -177,5 +164,15 @@ pub fn groups(alloc: Global, section: Records, seed: Seed) -> Result<GroupSet, N
     for next in section.into_vec() {
         groups.add(next)?;
     }
+    groups.settle();
     Ok(groups)
+}
+
+/// Lets go of what groups keep for records that are added.
+fn settle_all(groups: &mut [Group])
+    ensures { groups.new ≡ groups.old }
+{
+    for index in 0..groups.len() {
+        groups[index].settle();
+    }
 }

@@ -1,14 +1,16 @@
 //! Judging one message.
 
-ghost use Rattle.std.specs.Prelude.{◌≡◌, ◌≤◌, ◌+◌, ◌==◌, ◌&&◌, List, Option, Some, ℕ, IfOk, position};
+ghost use Rattle.std.specs.Prelude.{◌≡◌, ◌≤◌, ◌+◌, ◌==◌, ◌&&◌, List, Option, Some, ℕ, IfOk, false, position};
 ghost use Rattle.std.proofs.Math.Bool.{not};
 ghost use Rattle.std.specs.List.{list_any};
 ghost use Rattle.std.specs.Option.{option_map};
 ghost use Rattle.dsec_spec.specs.Answering.{is_at_question as is_at, leads_on};
+ghost use Rattle.dsec_spec.specs.Groups.{groups_of};
 ghost use Rattle.dsec_spec.specs.Messages.{rcode_of};
 ghost use Rattle.dsec_spec.specs.Names.{Place};
 ghost use Rattle.dsec_spec.specs.Numbers.{ANY};
 ghost use Rattle.dsec_wire.specs.MessageSections.{sections_of};
+ghost use Rattle.dsec_wire.specs.declared.sections.Sections.{Sections};
 ghost use Rattle.dsec_judge.specs.Asking.{with_replies};
 ghost use Rattle.dsec_judge.specs.Found.{answer_index, kept_at};
 ghost use Rattle.dsec_judge.specs.Judged.{JudgedAs, SoundIfSecure, reason, risen_by, told_by, world_of};
@@ -97,29 +99,62 @@ fn on_sections<V: Verifier, U: Upstream>(
         return Ok(bogus(Cause::NotBuilt, 0));
     }
     let authorities = groups(alloc, authority, seed)?;
-    let wanted = wanted_in(question.as_slice(), answers.as_slice());
+    on_groups::<V, U>(
+        alloc,
+        anchors,
+        limits,
+        t,
+        message,
+        rcode,
+        question.as_slice(),
+        answers.as_slice(),
+        authorities.as_slice(),
+        upstream,
+    )
+}
+
+/// The same by the groups of its sections, where none of the answer's is a bare alias.
+fn on_groups<V: Verifier, U: Upstream>(
+    alloc: Global,
+    anchors: &[Record],
+    limits: &Limits,
+    t: Timestamp,
+    message: &Message,
+    rcode: Rcode,
+    questions: &[Question],
+    answers: &[Group],
+    authorities: &[Group],
+    upstream: &mut U,
+) -> Result<Verdict<V>, Error>
+    requires { rcode_of message.now ≡ Some rcode }
+    ensures judged { (sections : Sections) → sections_of message.now ≡ Some sections → questions.now ≡ sections.question → answers.now ≡ groups_of sections.answer
+        → authorities.now ≡ groups_of sections.authority → list_any bare_alias answers.now ≡ false
+        → JudgedAs (U.table upstream.old) (with_replies V.accepts anchors.now (limits.now.max_bad_signatures + 1) t) message.now
+        (λ verdict. told_by verdict.state verdict.ede (option_map (λ why. reason why.group why.shown) verdict.why) verdict.questions) result }
+    ensures counted { IfOk result (λ verdict. U.asked upstream.new ≡ risen_by (U.asked upstream.old) verdict.questions) }
+    ensures later { U.faults upstream.old ≤ U.faults upstream.new }
+    ensures same_table { U.table upstream.new ≡ U.table upstream.old }
+{
+    let wanted = wanted_in(questions, answers);
     let both = find_both::<V, U>(
         alloc,
         anchors,
         limits,
         t,
-        answers.as_slice(),
+        answers,
         wanted,
-        authorities.as_slice(),
+        authorities,
         upstream,
     )?;
-    let BothFound { found, questions } = both;
+    let BothFound {
+        found,
+        questions: asked,
+    } = both;
     match found {
-        Found::OneBogus(cause) => Ok(bogus(cause, questions)),
-        Found::All(found) => on_questions::<V>(
-            anchors,
-            t,
-            rcode,
-            question.as_slice(),
-            answers.as_slice(),
-            found,
-            questions,
-        ),
+        Found::OneBogus(cause) => Ok(bogus(cause, asked)),
+        Found::All(found) => {
+            on_questions::<V>(anchors, t, rcode, questions, answers, found, asked)
+        }
     }
 }
 

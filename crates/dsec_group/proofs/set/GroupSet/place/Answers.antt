@@ -1,25 +1,27 @@
-use Rattle.std.proofs.Common.{◌≡◌, sym, subst}
-use Rattle.std.specs.Prelude.{OnOk, OnErr}
-use Rattle.indexmap.specs.IndexMap.{set_value_at, values}
-use Rattle.std.specs.Map.{values_of}
-use Rattle.dsec_group.specs.Adding.{placed}
-use Rattle.dsec_group.proofs.IndexLaws.{set_keys, set_placed, set_back}
-use Rattle.dsec_group.proofs.SetLaws.{values_set, written_keys}
+use Rattle.std.proofs.Common.{◌≡◌, ◌<◌, Some, length, map, subst}
+use Rattle.std.specs.Prelude.{OnOk, slice_get, slice_set}
+use Rattle.dsec_spec.specs.Groups.{Group}
+use Rattle.dsec_group.specs.Adding.{placed, put_in}
+use Rattle.dsec_group.specs.Keys.{group_key}
+use Rattle.dsec_group.proofs.IndexLaws.{set_keys, set_placed, there_is}
+use Rattle.dsec_group.proofs.PlaceLaws.{kept_same}
 use Rattle.dsec_group.proofs.set.GroupSet.place.Goals as goal
 
 pub invariant_of-self : goal.invariant_of-self
 invariant_of-self c =
-    written_keys c.self.inside.groups.entries c.in-Some.index c.put.new.self c.self.invariant
-    (set_keys c.args.next (values c.self.inside.groups) c.in-Some.index c.index_mut.result.now c.put.new.self c.index_mut.ensures.value c.put.result c.put.ensures.ok c.put.ensures.err c.in-Some.ensures.stays)
+    let gs = c.self.inside.groups.items in
+    let i = c.in-Some.index in
+    let stays = subst (λ gs. (g : Group) → slice_get gs i ≡ Some g → map group_key (slice_set gs i (put_in c.args.next g)) ≡ map group_key gs) c.deref.ensures.value c.in-Some.ensures.stays in
+    let within = subst (λ gs. i < length gs) c.deref.ensures.value c.in-Some.ensures.within in
+    let there = there_is gs i c.index_mut.result.now c.index_mut.result.now within c.index_mut.ensures.value in
+    kept_same c.self.inside.places gs (slice_set gs i c.put.new.self) c.self.invariant (set_keys c.args.next gs i c.index_mut.result.now c.put.new.self there c.put.result c.put.ensures.ok c.put.ensures.err stays)
 
 pub returns-in-Some-clause-ok : goal.returns-in-Some-clause-ok
 returns-in-Some-clause-ok c =
-    subst (λ gs. OnOk c.put.result (values_of (set_value_at c.self.inside.groups.entries c.in-Some.index c.put.new.self) ≡ placed c.args.next gs)) c.self.view_is
-    (subst (λ gs. OnOk c.put.result (gs ≡ placed c.args.next (values c.self.inside.groups))) (sym (values_set c.self.inside.groups.entries c.in-Some.index c.put.new.self))
-    (set_placed c.args.next (values c.self.inside.groups) c.in-Some.index c.index_mut.result.now c.put.new.self c.index_mut.ensures.value c.put.result c.put.ensures.ok c.in-Some.ensures.found))
-
-pub returns-in-Some-clause-err : goal.returns-in-Some-clause-err
-returns-in-Some-clause-err c =
-    subst (λ gs. OnErr c.put.result (values_of (set_value_at c.self.inside.groups.entries c.in-Some.index c.put.new.self) ≡ gs)) c.self.view_is
-    (subst (λ gs. OnErr c.put.result (gs ≡ values c.self.inside.groups)) (sym (values_set c.self.inside.groups.entries c.in-Some.index c.put.new.self))
-    (set_back c.args.next (values c.self.inside.groups) c.in-Some.index c.index_mut.result.now c.put.new.self c.index_mut.ensures.value c.put.result c.put.ensures.err))
+    let gs = c.self.inside.groups.items in
+    let i = c.in-Some.index in
+    let found = subst (λ gs. (g : Group) → slice_get gs i ≡ Some g → placed c.args.next gs ≡ slice_set gs i (put_in c.args.next g)) c.deref.ensures.value c.in-Some.ensures.found in
+    let within = subst (λ gs. i < length gs) c.deref.ensures.value c.in-Some.ensures.within in
+    let there = there_is gs i c.index_mut.result.now c.index_mut.result.now within c.index_mut.ensures.value in
+    subst (λ all. OnOk c.put.result (slice_set gs i c.put.new.self ≡ placed c.args.next all)) c.self.view_is
+    (set_placed c.args.next gs i c.index_mut.result.now c.put.new.self there c.put.result c.put.ensures.ok found)
