@@ -24,11 +24,16 @@ def step(state, octet, factor):
     return (product & MASK) ^ (product >> 64)
 
 
-def place(label, seed):
-    """Where a table of 5,000 keys begins to look for the key of an address set at this label below the root."""
+def hashed(octets, seed):
     state, factor = seed
-    for octet in bytes([len(label)]) + label + b"\0" + b"\1\0\1\0":
+    for octet in octets:
         state = step(state, octet, factor)
+    return state
+
+
+def place(label, seed):
+    """Where a table of 5,000 hashes begins to look for that of an address set at this label below the root: it hashes them once more."""
+    state = hashed(hashed(bytes([len(label)]) + label + b"\0\0\1\0\1", seed).to_bytes(8, "little"), seed)
     return (state ^ (state >> 32)) & 0xFFFFFFFF
 
 
