@@ -4,3 +4,5 @@ pub mod WaySteps
 pub mod WayMaps
 pub mod FrontSteps
 pub mod AdmitSteps
+pub mod ReplySteps
+pub mod AnchoredSteps

@@ -2,3 +2,5 @@ pub mod Searches
 pub mod Ways
 pub mod Tries
 pub mod Admissions
+pub mod Replied
+pub mod Anchored

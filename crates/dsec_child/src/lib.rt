@@ -2,9 +2,12 @@
 #![tactic(auto)]
 
 mod admit;
+mod island;
+mod reply;
 mod search;
 mod tries;
 mod way;
 
 pub use admit::{Admission, admit_by_anchor, admit_by_ds};
+pub use island::anchored;
 pub use search::find_key_for_ds;

@@ -62,7 +62,7 @@ impl<'a> Way for Ds<'a> {
 }
 
 /// Whether two names are one, ASCII case aside (RFC 4343 3).
-fn is_same(a: &Name, b: &Name) -> bool
+pub(crate) fn is_same(a: &Name, b: &Name) -> bool
     ensures { result ≡ same_place (place a.now) (place b.now) }
 {
     *a == *b
