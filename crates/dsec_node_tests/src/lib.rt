@@ -1,0 +1,9 @@
+//! Tests of key sets that are admitted, of NSEC records for a missing DS, and of nodes: records from outside.
+#![tactic(auto)]
+
+#[cfg(test)]
+mod admission;
+#[cfg(test)]
+mod lines;
+#[cfg(test)]
+mod missing_ds;
