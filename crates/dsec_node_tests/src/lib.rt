@@ -7,3 +7,5 @@ mod admission;
 mod lines;
 #[cfg(test)]
 mod missing_ds;
+#[cfg(test)]
+mod nodes;
