@@ -4,6 +4,10 @@
 #[cfg(test)]
 mod admission;
 #[cfg(test)]
+mod islands;
+#[cfg(test)]
+mod key_lines;
+#[cfg(test)]
 mod lines;
 #[cfg(test)]
 mod missing_ds;
