@@ -6,3 +6,4 @@ pub mod FrontSteps
 pub mod AdmitSteps
 pub mod ReplySteps
 pub mod AnchoredSteps
+pub mod ChildKeysSteps

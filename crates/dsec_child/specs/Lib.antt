@@ -4,3 +4,4 @@ pub mod Tries
 pub mod Admissions
 pub mod Replied
 pub mod Anchored
+pub mod ChildKeys

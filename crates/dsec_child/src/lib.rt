@@ -2,6 +2,7 @@
 #![tactic(auto)]
 
 mod admit;
+mod child_keys;
 mod island;
 mod reply;
 mod search;
@@ -9,5 +10,6 @@ mod tries;
 mod way;
 
 pub use admit::{Admission, admit_by_anchor, admit_by_ds};
+pub use child_keys::by_keys;
 pub use island::anchored;
 pub use search::find_key_for_ds;

@@ -1,0 +1,37 @@
+use Rattle.std.proofs.Common.{[], Vec, Global, Bor, ℕ, sym, ap, ◌∙◌}
+use Rattle.std.specs.Prelude.{find}
+use Rattle.std.specs.Option.{option_map}
+use Rattle.dsec_spec.specs.Groups.{Group}
+use Rattle.dsec_spec.specs.Names.{Place}
+use Rattle.dsec_spec.specs.Numbers.{DNSKEY}
+use Rattle.dsec_nodes.specs.ByDs.{by_key_reply}
+use Rattle.dsec_nodes.specs.Causes.{NoDnskey, RequestFailed, RequestUnreadable}
+use Rattle.dsec_nodes.specs.MissingDs.{bogus_at}
+use Rattle.dsec_nodes.specs.Replies.{read_reply as reply_of}
+use Rattle.dsec_nodes.specs.Signing.{is_set_at}
+use Rattle.dsec_node.specs.Views.{bounds_of, world_of}
+use Rattle.dsec_node.proofs.KeyData.{if_ok}
+use Rattle.dsec_child.specs.Replied.{reply_view}
+use Rattle.dsec_child.proofs.ChildKeysSteps.{by_no_set}
+use Rattle.dsec_child.proofs.child_keys.by_keys.Goals as goal
+
+pub returns-in-Sections-clause-node : goal.returns-in-Sections-clause-node
+returns-in-Sections-clause-node g c =
+    let w = world_of g.V.Verifier.accepts [] (bounds_of c.args.config.now) c.args.now in
+    let pending = c.args.pending.now in
+    let reply = reply_of (option_map (λ (v : Vec ℕ Global). v.items) c.args.reply) in
+    let e = sym (ap reply_view c.in-Sections.is) ∙ c.in_ok-answers.ensures in
+    let f = sym (ap (option_map (λ (b : Bor Group). b.now)) c.in-None.is) ∙ (c.set_at.ensures.first ∙ (ap (λ (p : Place). find (is_set_at p DNSKEY) c.as_slice.result.now) c.name-name.ensures ∙ ap (find (is_set_at pending.name DNSKEY)) c.as_slice.ensures.value)) in
+    if_ok c.bogus.result (λ n h. h [] ∙ (ap (λ (p : Place). bogus_at w p NoDnskey) c.name-name.ensures ∙ by_no_set w c.args.zone.now pending reply c.in-Sections.answers c.in-Sections.field-1 e f)) c.bogus.ensures
+
+pub returns-in-Failed-clause-node : goal.returns-in-Failed-clause-node
+returns-in-Failed-clause-node g c =
+    let w = world_of g.V.Verifier.accepts [] (bounds_of c.args.config.now) c.args.now in
+    let e = sym (ap reply_view c.in-Failed.is) ∙ c.in_ok-answers.ensures in
+    if_ok c.bogus-in-Failed.result (λ n h. h [] ∙ (ap (λ (p : Place). bogus_at w p RequestFailed) c.name-name.ensures ∙ ap (by_key_reply w c.args.zone.now c.args.pending.now) e)) c.bogus-in-Failed.ensures
+
+pub returns-clause-node : goal.returns-clause-node
+returns-clause-node g c =
+    let w = world_of g.V.Verifier.accepts [] (bounds_of c.args.config.now) c.args.now in
+    let e = sym (ap reply_view c.in-Unreadable.is) ∙ c.in_ok-answers.ensures in
+    if_ok c.bogus-in-Unreadable.result (λ n h. h [] ∙ (ap (λ (p : Place). bogus_at w p RequestUnreadable) c.name-name.ensures ∙ ap (by_key_reply w c.args.zone.now c.args.pending.now) e)) c.bogus-in-Unreadable.ensures
