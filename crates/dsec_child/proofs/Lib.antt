@@ -7,3 +7,4 @@ pub mod AdmitSteps
 pub mod ReplySteps
 pub mod AnchoredSteps
 pub mod ChildKeysSteps
+pub mod BelowSteps

@@ -5,3 +5,5 @@ pub mod Admissions
 pub mod Replied
 pub mod Anchored
 pub mod ChildKeys
+pub mod SignedSets
+pub mod Belows

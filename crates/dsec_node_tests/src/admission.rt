@@ -117,7 +117,9 @@ fn grouped(alloc: Global, section: &[&str]) -> Option<GroupSet> {
 fn views_of<'a>(alloc: Global, all: &'a [Record]) -> Option<Vec<Ds<'a>>> {
     let mut views = Vec::new(alloc);
     for one in all {
-        let ds = one.rdata().ds()?;
+        let Some(ds) = one.rdata().ds() else {
+            return None;
+        };
         if views.extend_from_slice(&[ds]).is_err() {
             return None;
         }

@@ -1,0 +1,74 @@
+use Rattle.std.proofs.Common.{◌≡◌, [], None, map, ap, ◌∙◌, subst}
+use Rattle.dsec_spec.specs.Names.{place}
+use Rattle.dsec_link.specs.TaggedKeys.{tagged_view}
+use Rattle.dsec_nodes.specs.MissingDs.{bogus_at, insecure_by, nsec_search, within_by}
+use Rattle.dsec_nodes.specs.Nodes.{nsec_without_ds}
+use Rattle.dsec_node.specs.Views.{bounds_of, world_of}
+use Rattle.dsec_node.proofs.KeyData.{if_ok}
+use Rattle.dsec_denial.specs.Findings.{AreThere, Finds}
+use Rattle.dsec_child.proofs.BelowSteps.{decided_kept, missing_decided, missing_passed, stands_read}
+use Rattle.dsec_child.proofs.missing.by_finding.Goals as goal
+
+pub insecure-requires-clause-kept : goal.insecure-requires-clause-kept
+insecure-requires-clause-kept g c =
+    let a = c.args in
+    let w = world_of g.V.Verifier.accepts [] (bounds_of a.config.now) a.now in
+    let said = map tagged_view a.said.now in
+    let name = place a.name.now in
+    let group = c.index-groups-at-in-Insecure.result in
+    let there = subst (AreThere a.groups.now said) c.in-Insecure.is c.requires.there in
+    let finds = subst (λ f. Finds w a.zone.now a.keys.now name a.groups.now said f (nsec_search w a.zone.now a.keys.now name a.groups.now)) c.in-Insecure.is c.requires.finds in
+    let stands = stands_read a.groups.now said c.in-Insecure.at there.0 group there.1 there.2 c.index-groups-at-in-Insecure.is in (
+      there.1,
+      record { signature_there = stands.signature_there; key_there = stands.key_there },
+      decided_kept w a.zone.now a.keys.now name a.groups.now said c.requires.above (insecure_by w a.zone.now a.keys.now name None nsec_without_ds group there.1) (finds group there.1 stands),
+    )
+
+pub returns-in-Within : goal.returns-in-Within
+returns-in-Within g c =
+    let accepts = g.V.Verifier.accepts in
+    let a = c.args in
+    let w = world_of accepts [] (bounds_of a.config.now) a.now in
+    let said = map tagged_view a.said.now in
+    let name = place a.name.now in
+    let group = c.index-groups-at.result in
+    let there = subst (AreThere a.groups.now said) c.in-Within.is c.requires.there in
+    let finds = subst (λ f. Finds w a.zone.now a.keys.now name a.groups.now said f (nsec_search w a.zone.now a.keys.now name a.groups.now)) c.in-Within.is c.requires.finds in
+    let stands = stands_read a.groups.now said c.in-Within.at there.0 group there.1 there.2 c.index-groups-at.is in
+    if_ok c.within_node.result (λ n h.
+    subst (λ b. n ≡ within_by (world_of accepts [] b a.now) a.zone.now name group there.1) c.bounds-bounds.ensures (h there.1 stands.signature_there)
+    ∙ missing_decided w a.zone.now a.keys.now name a.groups.now (within_by w a.zone.now name group there.1) (finds group there.1 stands))
+    c.within_node.ensures
+
+pub returns-in-Insecure : goal.returns-in-Insecure
+returns-in-Insecure g c =
+    let a = c.args in
+    let w = world_of g.V.Verifier.accepts [] (bounds_of a.config.now) a.now in
+    let said = map tagged_view a.said.now in
+    let name = place a.name.now in
+    let group = c.index-groups-at-in-Insecure.result in
+    let there = subst (AreThere a.groups.now said) c.in-Insecure.is c.requires.there in
+    let finds = subst (λ f. Finds w a.zone.now a.keys.now name a.groups.now said f (nsec_search w a.zone.now a.keys.now name a.groups.now)) c.in-Insecure.is c.requires.finds in
+    let stands = stands_read a.groups.now said c.in-Insecure.at there.0 group there.1 there.2 c.index-groups-at-in-Insecure.is in
+    if_ok c.insecure.result (λ n h.
+    h there.1 (record { signature_there = stands.signature_there; key_there = stands.key_there })
+    ∙ missing_decided w a.zone.now a.keys.now name a.groups.now (insecure_by w a.zone.now a.keys.now name None nsec_without_ds group there.1) (finds group there.1 stands))
+    c.insecure.ensures
+
+pub returns-in-Bogus : goal.returns-in-Bogus
+returns-in-Bogus g c =
+    let a = c.args in
+    let w = world_of g.V.Verifier.accepts [] (bounds_of a.config.now) a.now in
+    let said = map tagged_view a.said.now in
+    let name = place a.name.now in
+    let finds = subst (λ f. Finds w a.zone.now a.keys.now name a.groups.now said f (nsec_search w a.zone.now a.keys.now name a.groups.now)) c.in-Bogus.is c.requires.finds in
+    if_ok c.bogus.result (λ n h. h [] ∙ missing_decided w a.zone.now a.keys.now name a.groups.now (bogus_at w name c.in-Bogus.cause) finds) c.bogus.ensures
+
+pub returns-in-Passed : goal.returns-in-Passed
+returns-in-Passed g c =
+    let a = c.args in
+    let w = world_of g.V.Verifier.accepts [] (bounds_of a.config.now) a.now in
+    let said = map tagged_view a.said.now in
+    let name = place a.name.now in
+    let finds = subst (λ f. Finds w a.zone.now a.keys.now name a.groups.now said f (nsec_search w a.zone.now a.keys.now name a.groups.now)) c.in-Passed.is c.requires.finds in
+    if_ok c.bogus-in-Passed.result (λ n h. h [] ∙ (ap (bogus_at w name) c.cause_among.ensures ∙ missing_passed w a.zone.now a.keys.now name a.groups.now c.in-Passed.cause finds)) c.bogus-in-Passed.ensures

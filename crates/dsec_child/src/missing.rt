@@ -1,0 +1,151 @@
+//! A name without a DS set that counts, by the NSEC records of a reply (RFC 4035 5.2).
+
+ghost use Rattle.std.specs.Prelude.{◌≡◌, ◌==◌, [], IfOk, map};
+ghost use Rattle.std.specs.List.{list_any};
+ghost use Rattle.dsec_spec.specs.Names.{place};
+ghost use Rattle.dsec_spec.specs.Numbers.{NSEC3};
+ghost use Rattle.dsec_spec.specs.Records as records;
+ghost use Rattle.dsec_link.specs.TaggedKeys.{tagged_view};
+ghost use Rattle.dsec_nodes.specs.MissingDs.{insecure_by, missing_ds, nsec_search};
+ghost use Rattle.dsec_nodes.specs.Nodes.{Kept};
+ghost use Rattle.dsec_node.specs.Views.{bounds_of, ground_view, world_of};
+ghost use Rattle.dsec_denial.specs.Findings.{AreThere, Finds};
+ghost use Rattle.dsec_child.specs.Belows.{IsZoneAbove, missing_cause};
+ghost use Rattle.dsec_child.specs.SignedSets.{IsPairAt};
+
+use crate::island::bogus;
+use crate::signed_set::SignedBy;
+use dsec_cause::Cause;
+use dsec_crypto::Verifier;
+use dsec_denial::{NsecFinding, nsec_for_missing_ds};
+use dsec_group::{Group, Memo, Steps};
+use dsec_link::TaggedKey;
+use dsec_name::{Name, NoMemory};
+use dsec_node::{Config, Ground, Keys, Node, insecure_node, within_node};
+use dsec_number::{Rtype, Timestamp};
+use std::alloc::Global;
+use std::sync::ledger::Ledger;
+
+/// The node of a name, by the groups of a reply's authority section. Judging by NSEC3 records is left out: where they are, and no NSEC
+/// record decides, the name is bogus with a cause of its own.
+pub(crate) fn missing<V: Verifier, L: Ledger>(
+    alloc: Global,
+    config: &Config,
+    now: u64,
+    zone: &Node<V>,
+    keys: &Keys,
+    said: &[TaggedKey<'_>],
+    name: &Name,
+    groups: &[Group],
+    memo: &mut impl Memo<V>,
+    steps: &mut Steps<L>,
+) -> Result<Node<V>, NoMemory>
+    requires { IsZoneAbove (world_of V.accepts [] (bounds_of config.now) now) zone.now keys.now (map tagged_view said.now) (place name.now) }
+    ensures { IfOk result (λ n. n ≡ missing_ds (world_of V.accepts [] (bounds_of config.now) now) zone.now keys.now (place name.now) groups.now) }
+{
+    let t = Timestamp::from_seconds(now);
+    let limits = config.limits();
+    let apex = zone.signer_name();
+    let found = nsec_for_missing_ds::<V, L>(
+        alloc, groups, name, apex, said, &limits, t, memo, steps,
+    )?;
+    by_finding(alloc, config, now, zone, keys, said, name, groups, found)
+}
+
+/// The same, by what the NSEC records show.
+fn by_finding<V: Verifier>(
+    alloc: Global,
+    config: &Config,
+    now: u64,
+    zone: &Node<V>,
+    keys: &Keys,
+    said: &[TaggedKey<'_>],
+    name: &Name,
+    groups: &[Group],
+    found: NsecFinding,
+) -> Result<Node<V>, NoMemory>
+    requires above { IsZoneAbove (world_of V.accepts [] (bounds_of config.now) now) zone.now keys.now (map tagged_view said.now) (place name.now) }
+    requires there { AreThere groups.now (map tagged_view said.now) found }
+    requires finds { Finds (world_of V.accepts [] (bounds_of config.now) now) zone.now keys.now (place name.now) groups.now (map tagged_view said.now) found
+        (nsec_search (world_of V.accepts [] (bounds_of config.now) now) zone.now keys.now (place name.now) groups.now) }
+    ensures { IfOk result (λ n. n ≡ missing_ds (world_of V.accepts [] (bounds_of config.now) now) zone.now keys.now (place name.now) groups.now) }
+{
+    match found {
+        NsecFinding::Within(at) => {
+            let bounds = config.bounds();
+            within_node(&bounds, now, zone, name, &groups[at.group], at.signature)
+        }
+        NsecFinding::Insecure(at) => {
+            let by = SignedBy {
+                signature: at.signature,
+                key: at.key,
+            };
+            let basis = Ground::NsecWithoutDs;
+            let group = &groups[at.group];
+            insecure(
+                alloc, config, now, zone, keys, said, name, None, basis, group, by,
+            )
+        }
+        NsecFinding::Bogus(cause) => bogus(alloc, config, now, name, cause),
+        NsecFinding::Passed(cause) => {
+            bogus(alloc, config, now, name, cause_among(cause, groups))
+        }
+    }
+}
+
+/// Why nothing is shown of a name, by the cause that NSEC records leave.
+fn cause_among(cause: Option<Cause>, groups: &[Group]) -> Cause
+    ensures { result ≡ missing_cause cause groups.now }
+{
+    if has_nsec3(groups) {
+        return Cause::NotBuilt;
+    }
+    match cause {
+        Some(cause) => cause,
+        None => Cause::NoProofForMissingDs,
+    }
+}
+
+/// Whether one of the groups is of type NSEC3, whatever its class.
+fn has_nsec3(groups: &[Group]) -> bool
+    ensures { result ≡ list_any (λ g. g.rtype == NSEC3) groups.now }
+{
+    groups.iter().any(|group| group.rtype() == Rtype::NSEC3)
+}
+
+/// The node of a name to which no chain leads: by a group of the zone that shows it, and the pair at these indexes.
+pub(crate) fn insecure<V: Verifier>(
+    alloc: Global,
+    config: &Config,
+    now: u64,
+    zone: &Node<V>,
+    keys: &Keys,
+    said: &[TaggedKey<'_>],
+    name: &Name,
+    cause: Option<Cause>,
+    basis: Ground,
+    group: &Group,
+    by: SignedBy,
+) -> Result<Node<V>, NoMemory>
+    requires above { IsZoneAbove (world_of V.accepts [] (bounds_of config.now) now) zone.now keys.now (map tagged_view said.now) (place name.now) }
+    requires kept { (p : records.Record × records.Key) × IsPairAt group.now (map tagged_view said.now) by p
+        × Kept V.accepts (insecure_by (world_of V.accepts [] (bounds_of config.now) now) zone.now keys.now (place name.now) cause (ground_view basis) group.now p) }
+    ensures { IfOk result (λ n. (p : records.Record × records.Key) → IsPairAt group.now (map tagged_view said.now) by p
+        → n ≡ insecure_by (world_of V.accepts [] (bounds_of config.now) now) zone.now keys.now (place name.now) cause (ground_view basis) group.now p) }
+{
+    let bounds = config.bounds();
+    let key = &said[by.key].key;
+    insecure_node(
+        alloc,
+        &bounds,
+        now,
+        zone,
+        keys,
+        name,
+        cause,
+        basis,
+        group,
+        by.signature,
+        key,
+    )
+}
