@@ -2,9 +2,9 @@
 #![tactic(auto)]
 
 mod admit;
-mod child_keys;
 mod alias;
 mod below;
+mod child_keys;
 mod ds_set;
 mod island;
 mod missing;
@@ -15,8 +15,8 @@ mod tries;
 mod way;
 
 pub use admit::{Admission, admit_by_anchor, admit_by_ds};
-pub use child_keys::by_keys;
 pub use below::by_ds_reply;
+pub use child_keys::by_keys;
 pub use ds_set::Below;
 pub use island::anchored;
 pub use search::find_key_for_ds;
