@@ -1,10 +1,11 @@
 //! For how long a node counts, and for whom (RFC 4035 4.5, 5.3.3).
 
-ghost use Rattle.std.specs.Prelude.{◌≡◌, ◌↔◌, IsTrue};
+ghost use Rattle.std.specs.Prelude.{◌≡◌, ◌↔◌, ◌≤◌, ◌+◌, IsTrue, Some};
 ghost use Rattle.std.specs.List.{list_any};
 ghost use Rattle.dsec_spec.specs.Names.{place};
 ghost use Rattle.dsec_nodes.specs.Nodes.{IsBogus};
-ghost use Rattle.dsec_node.specs.Counting.{CountsFor, HasAnchorAmong, IsExpired, same_anchor, seconds_kept};
+ghost use Rattle.dsec_nodes.specs.Taking.{RestsAt, Taken, rests_at as anchor_rests, same_anchor};
+ghost use Rattle.dsec_node.specs.Counting.{IsExpired, seconds_kept};
 ghost use Rattle.dsec_node.specs.Views.{bounds_view, world_of};
 
 use crate::bounds::Bounds;
@@ -35,10 +36,17 @@ impl<V: Verifier> Node<V> {
         }
     }
 
-    /// Whether it counts for whoever looks up a name below an island with these anchors, within these bounds, at a moment in
-    /// seconds since 1970.
-    pub fn counts(&self, name: &Name, anchors: &[Record], bounds: &Bounds, now: u64) -> bool
-        ensures { IsTrue result ↔ CountsFor (world_of V.accepts anchors.now (bounds_view bounds.now) now) (place name.now) self.now }
+    /// Whether it counts for whoever looks up a name below the island `top`, where these anchors stand, within these bounds, at a
+    /// moment in seconds since 1970.
+    pub fn counts(
+        &self,
+        top: &Name,
+        name: &Name,
+        anchors: &[Record],
+        bounds: &Bounds,
+        now: u64,
+    ) -> bool
+        ensures { IsTrue result ↔ Taken (world_of V.accepts anchors.now (bounds_view bounds.now) now) (place top.now) (place name.now) self.now }
     {
         if self.is_bogus() {
             return false;
@@ -46,13 +54,13 @@ impl<V: Verifier> Node<V> {
         if !self.is_of(name) {
             return false;
         }
-        if !self.has_anchor_among(anchors) {
+        if !self.rests_at(top, anchors) {
             return false;
         }
         if !self.is_within(bounds) {
             return false;
         }
-        !self.expired(now)
+        self.is_in_time(now)
     }
 
     /// Whether it is bogus.
@@ -69,14 +77,21 @@ impl<V: Verifier> Node<V> {
         *self.name() == *name
     }
 
-    /// Whether its anchor is one of these.
-    fn has_anchor_among(&self, anchors: &[Record]) -> bool
-        ensures { IsTrue result ↔ HasAnchorAmong anchors.now self.now.anchor }
+    /// Whether its anchor stands at the island and is one of these.
+    fn rests_at(&self, top: &Name, anchors: &[Record]) -> bool
+        ensures { IsTrue result ↔ RestsAt anchors.now (place top.now) self.now }
     {
         match self.anchor() {
-            Some(anchor) => is_among(anchor, anchors),
+            Some(anchor) => is_at(anchor, top, anchors),
             None => false,
         }
+    }
+
+    /// Whether it is kept at a moment.
+    fn is_in_time(&self, now: u64) -> bool
+        ensures { IsTrue result ↔ ((self.now.made ≤ now) × (now ≤ self.now.made + self.now.valid_for)) }
+    {
+        !self.expired(now)
     }
 
     /// Whether it was made within bounds.
@@ -85,6 +100,13 @@ impl<V: Verifier> Node<V> {
     {
         self.bounds() == *bounds
     }
+}
+
+/// Whether an anchor stands at a name and is one of these.
+fn is_at(anchor: &Record, top: &Name, anchors: &[Record]) -> bool
+    ensures { result ≡ anchor_rests anchors.now (place top.now) (Some anchor.now) }
+{
+    *anchor.owner() == *top && is_among(anchor, anchors)
 }
 
 /// Whether an anchor is one of these.

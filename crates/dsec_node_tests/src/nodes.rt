@@ -167,7 +167,7 @@ fn a_bogus_node_tells_its_cause_and_counts_for_nobody(rt: HostRuntime) {
     };
     assert!(rt; tells_its_cause(&node));
     assert!(rt; lasts(&node));
-    assert!(rt; !node.counts(node.name(), &[], &node.bounds(), 1000));
+    assert!(rt; !node.counts(node.name(), node.name(), &[], &node.bounds(), 1000));
     match node.clone() {
         Ok(copy) => {
             assert!(rt; tells_its_cause(&copy));

@@ -1,31 +1,22 @@
--- A node that passes the tests of a taker counts.
-use Rattle.std.proofs.Common.{◌≡◌, ℕ, ◌+◌, ◌||◌, Bool, true, false, List, [], ◌∷◌, Option, Some, None, refl, ap, ◌∙◌}
-use Rattle.std.specs.Prelude.{Contains}
+-- A node counts for a taker exactly where it passes the taker's tests.
+use Rattle.std.proofs.Common.{◌≡◌, ℕ, ◌+◌, Bool, true, false, List, Option, Some, None, refl, sym, ap, ◌∙◌, subst}
 use Rattle.std.specs.List.{list_any}
-use Rattle.std.proofs.lemmas.Bool.{false≢true, and_parts, eqb-true, leb-true, not-true}
+use Rattle.std.proofs.Math.Bool.{not}
+use Rattle.std.specs.Bool.{Decides}
+use Rattle.std.proofs.lemmas.Bool.{false≢true, and_parts, and_from, eqb-true, eq-eqb, leb-true, le-leb, not-true}
 use Rattle.std.proofs.lemmas.Slice.Eq.{bytes_eq-Decides}
 use Rattle.dsec_spec.specs.Names.{Place, place}
 use Rattle.dsec_spec.specs.Records.{Record}
 use Rattle.dsec_spec.proofs.CanonicalNames.{same_place_decides}
-use Rattle.dsec_spec.proofs.Members.{first_in, later_in}
+use Rattle.dsec_spec.proofs.Members.{none_passes, some_passes}
 use Rattle.dsec_nodes.specs.World.{World, Bounds}
 use Rattle.dsec_nodes.specs.Nodes.{Node, IsBogus}
 use Rattle.dsec_nodes.specs.Taking.{same_anchor, rests_at, same_bounds, counts, IsListed, RestsAt, Taken}
 
--- where one passes a test, there is one that does
-from_any : {A : Type 0} (test : A → Bool) (xs : List A) → list_any test xs ≡ true → (x : A) × Contains xs x × (test x ≡ true)
-from_any test [] e = absurd (false≢true e)
-from_any {A} test (x ∷ xs) e = by (from_any test xs) (test x) refl e
-  where
-    by : (list_any test xs ≡ true → (y : A) × Contains xs y × (test y ≡ true)) → (b : Bool) → test x ≡ b → (b || list_any test xs) ≡ true
-        → (y : A) × Contains (x ∷ xs) y × (test y ≡ true)
-    by others true t f = (x, first_in x xs, t)
-    by others false t f = let rest = others f in (rest.0, later_in x rest.0 xs rest.1, rest.2)
-
 -- an anchor that is found among these is one of them
 listed_by : (anchors : List Record) (anchor : Record) → list_any (same_anchor anchor) anchors ≡ true → IsListed anchors anchor
 listed_by anchors anchor e =
-    let one = from_any (same_anchor anchor) anchors e in
+    let one = some_passes (same_anchor anchor) anchors e in
     let all = and_parts _ _ one.2 in
     let three = and_parts _ _ all.0 in
     let two = and_parts _ _ three.0 in
@@ -38,6 +29,22 @@ listed_by anchors anchor e =
       same_data = (bytes_eq-Decides anchor.rdata one.0.rdata).0 all.1;
     }
 
+-- and one of them is found
+listed_told : (anchors : List Record) (anchor : Record) → IsListed anchors anchor → list_any (same_anchor anchor) anchors ≡ true
+listed_told anchors anchor l = by (list_any (same_anchor anchor) anchors) refl
+  where
+    same : same_anchor anchor l.listed ≡ true
+    same = and_from _ _ (and_from _ _ (and_from _ _ ((same_place_decides (place anchor.owner) (place l.listed.owner)).1 l.same_owner)
+        (eq-eqb anchor.class l.listed.class l.same_class)) (eq-eqb anchor.rtype l.listed.rtype l.same_type)) ((bytes_eq-Decides anchor.rdata l.listed.rdata).1 l.same_data)
+
+    by : (b : Bool) → list_any (same_anchor anchor) anchors ≡ b → list_any (same_anchor anchor) anchors ≡ true
+    by true e = e
+    by false e = absurd (false≢true (sym (none_passes (same_anchor anchor) anchors e l.listed l.there) ∙ same))
+
+-- whether an anchor is one of these is told by the test
+pub listed_decides : (anchors : List Record) (anchor : Record) → Decides (list_any (same_anchor anchor) anchors) (IsListed anchors anchor)
+listed_decides anchors anchor = (listed_by anchors anchor, listed_told anchors anchor)
+
 -- a node's anchor that passes the test is one of these, at the place
 pub rests_by : (anchors : List Record) (top : Place) (n : Node) → rests_at anchors top n.anchor ≡ true → RestsAt anchors top n
 rests_by anchors top n e = by n.anchor refl e
@@ -47,6 +54,13 @@ rests_by anchors top n e = by n.anchor refl e
     by (Some anchor) its f =
         let both = and_parts _ _ f in
         record { anchor = anchor; its = its; at = (same_place_decides (place anchor.owner) top).0 both.0; is_listed = listed_by anchors anchor both.1 }
+
+-- whether a node's anchor is one of these, at the place, is told by the test
+pub rests_decides : (anchors : List Record) (top : Place) (n : Node) → Decides (rests_at anchors top n.anchor) (RestsAt anchors top n)
+rests_decides anchors top n = (
+  rests_by anchors top n,
+  λ r. ap (rests_at anchors top) r.its ∙ and_from _ _ ((same_place_decides (place r.anchor.owner) top).1 r.at) (listed_told anchors r.anchor r.is_listed),
+)
 
 abbrev bounds_of : ℕ → ℕ → ℕ → ℕ → ℕ → ℕ → ℕ → Bounds
 bounds_of room validity bogus ds_records keys insecure bogus_at = record {
@@ -76,6 +90,15 @@ bounds_same a b e =
     ∙ (ap (λ (x : ℕ). bounds_of b.room b.max_validity b.max_bogus_validity b.max_ds_records b.max_keys_for_ds x a.iterations_bogus) (eqb-true a.iterations_insecure b.iterations_insecure s6.1)
     ∙ ap (λ (x : ℕ). bounds_of b.room b.max_validity b.max_bogus_validity b.max_ds_records b.max_keys_for_ds b.iterations_insecure x) (eqb-true a.iterations_bogus b.iterations_bogus s7.1))))))
 
+same_itself : (a : Bounds) → same_bounds a a ≡ true
+same_itself a = and_from _ _ (and_from _ _ (and_from _ _ (and_from _ _ (and_from _ _ (and_from _ _ (eq-eqb a.room a.room refl) (eq-eqb a.max_validity a.max_validity refl))
+    (eq-eqb a.max_bogus_validity a.max_bogus_validity refl)) (eq-eqb a.max_ds_records a.max_ds_records refl)) (eq-eqb a.max_keys_for_ds a.max_keys_for_ds refl))
+    (eq-eqb a.iterations_insecure a.iterations_insecure refl)) (eq-eqb a.iterations_bogus a.iterations_bogus refl)
+
+-- whether bounds are the same is told by the test
+pub same_bounds_decides : (a b : Bounds) → Decides (same_bounds a b) (a ≡ b)
+same_bounds_decides a b = (bounds_same a b, λ e. subst (λ (x : Bounds). same_bounds a x ≡ true) e (same_itself a))
+
 -- a node that passes the tests counts
 pub taken : (w : World) (top name : Place) (n : Node) → counts w top name n ≡ true → Taken w top name n
 taken w top name n e =
@@ -92,3 +115,12 @@ taken w top name n e =
       from = leb-true n.made w.now time.0;
       to = leb-true w.now (n.made + n.valid_for) time.1;
     }
+
+-- and one that counts passes them
+pub taken_told : (w : World) (top name : Place) (n : Node) → Taken w top name n → counts w top name n ≡ true
+taken_told w top name n t = and_from _ _ (and_from _ _ (and_from _ _ (and_from _ _ (ap not t.not_bogus) ((same_place_decides n.name name).1 t.named))
+    ((rests_decides w.anchors top n).1 t.rests)) ((same_bounds_decides n.bounds w.bounds).1 t.within)) (and_from _ _ (le-leb n.made w.now t.from) (le-leb w.now (n.made + n.valid_for) t.to))
+
+-- whether a node counts is told by the tests
+pub counts_decides : (w : World) (top name : Place) (n : Node) → Decides (counts w top name n) (Taken w top name n)
+counts_decides w top name n = (taken w top name n, taken_told w top name n)
