@@ -2,22 +2,20 @@
 
 ghost use Rattle.std.specs.Prelude.{◌≡◌, ◌≤◌, ◌<◌, ◌+◌, IfOk, List, Some, length, map, slice_get};
 ghost use Rattle.dsec_spec.specs.Names.{place};
-ghost use Rattle.dsec_spec.specs.Numbers.{RRSIG};
 ghost use Rattle.dsec_spec.specs.Records as records;
 ghost use Rattle.dsec_spec.specs.Trying.{checked, good};
 ghost use Rattle.dsec_link.specs.TaggedKeys.{tagged_view};
-ghost use Rattle.dsec_nodes.specs.Signing.{is_expanded as expanded};
 ghost use Rattle.dsec_nodes.specs.World.{on_circle};
 ghost use Rattle.dsec_child.specs.SignedSets.{ComesTo, IsPairAt};
 
 use dsec_cause::Cause;
 use dsec_crypto::Verifier;
+use dsec_denial::is_expanded;
 use dsec_group::{Group, Memo, Steps, check_with_tagged_keys};
 use dsec_link::TaggedKey;
 use dsec_name::{Name, NoMemory};
 use dsec_node::Config;
 use dsec_number::Timestamp;
-use dsec_wire::Record;
 use std::alloc::Global;
 use std::sync::ledger::Ledger;
 
@@ -76,16 +74,5 @@ fn signed_by(group: &Group, by: SignedBy) -> SignedSet
         SignedSet::Expanded
     } else {
         SignedSet::Signed(by)
-    }
-}
-
-/// Whether a group's set was made from a wildcard, by its good signature. A set at the wildcard's own name wasn't.
-fn is_expanded(group: &Group, signature: &Record) -> bool
-    requires { signature.now.rtype ≡ RRSIG }
-    ensures { result ≡ expanded group.now signature.now }
-{
-    match signature.rdata().rrsig() {
-        Some(rrsig) => rrsig.labels < group.owner().rrsig_label_count(),
-        None => false,
     }
 }

@@ -8,7 +8,7 @@ use dsec_group::Group;
 use dsec_wire::Record;
 
 /// Whether a group's set was made from a wildcard, by its good signature. A set at the wildcard's own name wasn't.
-pub(crate) fn is_expanded(group: &Group, signature: &Record) -> bool
+pub fn is_expanded(group: &Group, signature: &Record) -> bool
     requires { signature.now.rtype ≡ RRSIG }
     ensures { result ≡ expanded group.now signature.now }
 {

@@ -9,6 +9,7 @@ mod range;
 mod reading;
 mod search;
 
+pub use expansion::is_expanded;
 pub use finding::{NsecFinding, SignedAt};
 pub use laws::{law_of_covering, law_of_delegation};
 pub use range::nsec_in_range;
