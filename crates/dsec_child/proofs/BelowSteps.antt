@@ -9,7 +9,7 @@ use Rattle.std.proofs.lemmas.Option.{same_Some}
 use Rattle.dsec_spec.specs.Chain as chain
 use Rattle.dsec_spec.specs.Groups.{Group, set_in}
 use Rattle.dsec_spec.specs.Names.{Place, IsStrictlyBelow}
-use Rattle.dsec_spec.specs.Numbers.{DS, NSEC3}
+use Rattle.dsec_spec.specs.Numbers.{CNAME, DS, NSEC3}
 use Rattle.dsec_spec.specs.Records.{Record, Key, ds_of}
 use Rattle.dsec_spec.specs.Trying.{Tried, good, nothing, all_bad, too_many_bad, checked}
 use Rattle.dsec_group.specs.Checks.{cause_of}
@@ -21,10 +21,11 @@ use Rattle.dsec_nodes.specs.Nodes.{Node, Kept, apex, ds_not_supported}
 use Rattle.dsec_nodes.specs.Replies.{Reply, sections}
 use Rattle.dsec_nodes.specs.Signing.{is_expanded, is_set_at, kept_for, keys_of, link_under, under_keys}
 use Rattle.dsec_nodes.specs.World.{World, moment}
-use Rattle.dsec_nodes.proofs.ChildLaws.{ds_reply_kept}
+use Rattle.dsec_nodes.proofs.ChildLaws.{alias_within, ds_reply_kept}
 use Rattle.dsec_nodes.proofs.KeptLaws.{held}
 use Rattle.dsec_nodes.proofs.Lasting.{set_at}
 use Rattle.dsec_nodes.proofs.MissingLaws.{missing_kept}
+use Rattle.dsec_nodes.proofs.Signs.{from_under}
 use Rattle.dsec_denial.specs.Findings.{StandsAt}
 use Rattle.dsec_denial.specs.declared.finding.SignedAt.{SignedAt}
 use Rattle.dsec_denial.proofs.SearchSteps.{read_there}
@@ -73,7 +74,7 @@ module _ (w : World) (zone : Node) (keys : List (List ℕ)) (name : Place) (auth
   no_alias = made (missing_ds w zone keys name authorities)
 
   abbrev by_one : Record × Key → Below
-  by_one p = cond (is_expanded group p.0) no_alias (made (within_by w zone name group p))
+  by_one p = cond (is_expanded group p.0) no_alias (made (within_by w zone keys name group p))
 
   alone : (length group.records == 1) ≡ true → if_one w name (under_keys w zone.signer keys group) by_one ≡ by_alias w zone keys name authorities (Some group)
   alone e = sym (cond-true (length group.records == 1) (if_one w name (under_keys w zone.signer keys group) by_one) no_alias e)
@@ -85,11 +86,15 @@ module _ (w : World) (zone : Node) (keys : List (List ℕ)) (name : Place) (auth
     by_good : (p : Record × Key) → t ≡ good p → by_one p ≡ by_alias w zone keys name authorities (Some group)
     by_good p g = ap (λ (x : Tried (Record × Key)). if_one w name x by_one) (sym (under ∙ g)) ∙ alone one
 
-    pub alias_signed : (p : Record × Key) → t ≡ good p → is_expanded group p.0 ≡ false → made (within_by w zone name group p) ≡ by_alias w zone keys name authorities (Some group)
-    alias_signed p g x = sym (cond-false (is_expanded group p.0) no_alias (made (within_by w zone name group p)) x) ∙ by_good p g
+    pub alias_signed : (p : Record × Key) → t ≡ good p → is_expanded group p.0 ≡ false → made (within_by w zone keys name group p) ≡ by_alias w zone keys name authorities (Some group)
+    alias_signed p g x = sym (cond-false (is_expanded group p.0) no_alias (made (within_by w zone keys name group p)) x) ∙ by_good p g
+
+    pub alias_stays : (said : List Key) → IsZoneAbove w zone keys said name → is_set_at name CNAME group ≡ true → (p : Record × Key) → t ≡ good p → is_expanded group p.0 ≡ false
+        → Kept w.accepts (within_by w zone keys name group p)
+    alias_stays said above at p g x = (alias_within w zone keys name group p above.is_held above.below at one (from_under w zone.signer keys group p (under ∙ g)) x).0
 
     pub alias_expanded : (p : Record × Key) → t ≡ good p → is_expanded group p.0 ≡ true → no_alias ≡ by_alias w zone keys name authorities (Some group)
-    alias_expanded p g x = sym (cond-true (is_expanded group p.0) no_alias (made (within_by w zone name group p)) x) ∙ by_good p g
+    alias_expanded p g x = sym (cond-true (is_expanded group p.0) no_alias (made (within_by w zone keys name group p)) x) ∙ by_good p g
 
     pub alias_refused : (cause : Cause) → cause_of t ≡ Some cause → made (bogus_at w name cause) ≡ by_alias w zone keys name authorities (Some group)
     alias_refused cause e = refused w name cause t (under_keys w zone.signer keys group) by_one under e ∙ alone one

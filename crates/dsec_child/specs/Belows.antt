@@ -1,5 +1,5 @@
 -- What the code finds of a name below a zone, in the words of nodes (RFC 4035 5.2).
-use Rattle.std.specs.Prelude.{◌≡◌, ℕ, ◌+◌, ◌≤◌, ◌==◌, List, Bool, Option, Some, None, unwrap_or, if◌then◌else◌}
+use Rattle.std.specs.Prelude.{◌≡◌, ℕ, ◌+◌, ◌≤◌, ◌==◌, List, length, Bool, Option, Some, None, unwrap_or, if◌then◌else◌}
 use Rattle.std.specs.List.{list_any}
 use Rattle.dsec_spec.specs.Groups.{Group}
 use Rattle.dsec_spec.specs.Names.{Place, IsStrictlyBelow}
@@ -12,6 +12,7 @@ use Rattle.dsec_nodes.specs.ByDs.{is_supported}
 use Rattle.dsec_nodes.specs.Causes.{Cause, NoProofForMissingDs, NotBuilt}
 use Rattle.dsec_nodes.specs.Held.{HeldZone}
 use Rattle.dsec_nodes.specs.Nodes.{Node, apex}
+use Rattle.dsec_nodes.specs.Replies.{Reply, failed, unreadable, sections}
 use Rattle.dsec_nodes.specs.Signing.{keys_of}
 use Rattle.dsec_nodes.specs.World.{World}
 use Rattle.dsec_child.specs.declared.ds_set.Below.{Below}
@@ -48,3 +49,9 @@ is_usable_ds one = is_supported (ds_in (data_of one))
 -- why nothing is shown by NSEC records, where groups of NSEC3 are there or not
 abbrev pub missing_cause : Option Cause → List Group → Cause
 missing_cause cause groups = if list_any (λ g. g.rtype == NSEC3) groups then NotBuilt else unwrap_or cause NoProofForMissingDs
+
+-- how many sets of a reply are checked at most: a DS set, a CNAME set, and each set of its authority section (RFC 4035 5.2)
+abbrev pub most_checked : Reply → ℕ
+most_checked failed = 0
+most_checked unreadable = 0
+most_checked (sections answers authorities) = 2 + length authorities

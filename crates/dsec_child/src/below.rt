@@ -1,6 +1,6 @@
 //! What the reply to the question for a name's DS set comes to (RFC 4035 5.2).
 
-ghost use Rattle.std.specs.Prelude.{◌≡◌, ◌≤◌, ◌+◌, [], List, ℕ, IfOk, find, map};
+ghost use Rattle.std.specs.Prelude.{◌≡◌, ◌≤◌, ◌+◌, ◌*◌, [], List, ℕ, IfOk, find, length, map};
 ghost use Rattle.std.specs.Option.{option_map};
 ghost use Rattle.dsec_spec.specs.Names.{IsStrictlyBelow, place};
 ghost use Rattle.dsec_spec.specs.Numbers.{DS};
@@ -12,7 +12,7 @@ ghost use Rattle.dsec_nodes.specs.Nodes.{apex};
 ghost use Rattle.dsec_nodes.specs.Replies.{read_reply as reply_of};
 ghost use Rattle.dsec_nodes.specs.Signing.{is_set_at};
 ghost use Rattle.dsec_node.specs.Views.{bounds_of, world_of};
-ghost use Rattle.dsec_child.specs.Belows.{IsZoneAbove, below_view};
+ghost use Rattle.dsec_child.specs.Belows.{IsZoneAbove, below_view, most_checked};
 
 use crate::alias::by_alias;
 use crate::ds_set::{Below, by_ds_set};
@@ -30,7 +30,7 @@ use std::alloc::Global;
 use std::sync::ledger::Ledger;
 
 /// What the octets of the reply to the question for a name's DS set, if there are any, come to below a zone, at a moment in
-/// seconds since 1970.
+/// seconds since 1970. A DS set, a CNAME set and each group of the authority section are checked once at most.
 pub fn by_ds_reply<V: Verifier, L: Ledger>(
     alloc: Global,
     config: &Config,
@@ -49,6 +49,8 @@ pub fn by_ds_reply<V: Verifier, L: Ledger>(
         → below_view it ≡ ds_reply_below (world_of V.accepts [] (bounds_of config.now) now) zone.now keys (place name.now) (reply_of (option_map (λ octets. octets.items) reply))) }
     ensures pending { IfOk result (λ it. (keys : List (List ℕ)) (pending : nodes.Pending) → zone.now.standing ≡ apex keys → below_view it ≡ nodes.asks pending
         → IsPending (world_of V.accepts [] (bounds_of config.now) now) zone.now keys pending) }
+    ensures later { steps.old ≤ steps.new }
+    ensures bound { steps.new ≤ steps.old + most_checked (reply_of (option_map (λ octets. octets.items) reply)) * (config.now.max_bad_signatures + 1) }
 {
     let Standing::Apex(keys) = zone.standing() else {
         unreachable!();
@@ -90,8 +92,10 @@ fn by_sections<V: Verifier, L: Ledger>(
     steps: &mut Steps<L>,
 ) -> Result<Below<V>, NoMemory>
     requires { IsZoneAbove (world_of V.accepts [] (bounds_of config.now) now) zone.now keys.now (map tagged_view said.now) (place name.now) }
-    ensures { IfOk result (λ it. below_view it ≡ ds_below (world_of V.accepts [] (bounds_of config.now) now) zone.now keys.now (place name.now) answers.now authorities.now
+    ensures below { IfOk result (λ it. below_view it ≡ ds_below (world_of V.accepts [] (bounds_of config.now) now) zone.now keys.now (place name.now) answers.now authorities.now
         (find (is_set_at (place name.now) DS) answers.now)) }
+    ensures later { steps.old ≤ steps.new }
+    ensures bound { steps.new ≤ steps.old + (2 + length authorities.now) * (config.now.max_bad_signatures + 1) }
 {
     if let Some(group) = set_at(answers, name, Rtype::DS) {
         let found = by_ds_set::<V, L>(
@@ -132,10 +136,14 @@ fn without_ds<V: Verifier, L: Ledger>(
     steps: &mut Steps<L>,
 ) -> Result<Node<V>, NoMemory>
     requires { IsZoneAbove (world_of V.accepts [] (bounds_of config.now) now) zone.now keys.now (map tagged_view said.now) (place name.now) }
-    ensures { IfOk result (λ n. nodes.made n ≡ no_ds_below (world_of V.accepts [] (bounds_of config.now) now) zone.now keys.now (place name.now) answers.now authorities.now) }
+    ensures node { IfOk result (λ n. nodes.made n ≡ no_ds_below (world_of V.accepts [] (bounds_of config.now) now) zone.now keys.now (place name.now) answers.now authorities.now) }
+    ensures later { steps.old ≤ steps.new }
+    ensures bound { steps.new ≤ steps.old + (1 + length authorities.now) * (config.now.max_bad_signatures + 1) }
 {
     if let Some(group) = set_at(answers, name, Rtype::CNAME) {
-        let found = by_alias::<V, L>(alloc, config, now, zone, said, name, group, memo, steps)?;
+        let found = by_alias::<V, L>(
+            alloc, config, now, zone, keys, said, name, group, memo, steps,
+        )?;
         if let Some(node) = found {
             return Ok(node);
         }

@@ -1,6 +1,6 @@
 //! A DS set at a name, under the keys of the zone above (RFC 4035 5.2).
 
-ghost use Rattle.std.specs.Prelude.{◌≡◌, [], List, IfOk, Some, map, false, true};
+ghost use Rattle.std.specs.Prelude.{◌≡◌, ◌≤◌, ◌+◌, [], List, IfOk, Some, map, false, true};
 ghost use Rattle.std.specs.List.{list_any};
 ghost use Rattle.dsec_spec.specs.Groups as groups;
 ghost use Rattle.dsec_spec.specs.Names.{place};
@@ -52,9 +52,11 @@ pub(crate) fn by_ds_set<V: Verifier, L: Ledger>(
 ) -> Result<Option<Below<V>>, NoMemory>
     requires above { IsZoneAbove (world_of V.accepts [] (bounds_of config.now) now) zone.now keys.now (map tagged_view said.now) (place name.now) }
     requires at { is_set_at (place name.now) DS group.now ≡ true }
-    ensures { IfOk result (λ found. (answers authorities : List groups.Group) →
+    ensures below { IfOk result (λ found. (answers authorities : List groups.Group) →
         or_below found (without_ds (world_of V.accepts [] (bounds_of config.now) now) zone.now keys.now (place name.now) answers authorities)
         ≡ ds_below (world_of V.accepts [] (bounds_of config.now) now) zone.now keys.now (place name.now) answers authorities (Some group.now)) }
+    ensures later { steps.old ≤ steps.new }
+    ensures bound { steps.new ≤ steps.old + (config.now.max_bad_signatures + 1) }
 {
     match under_keys::<V, L>(
         alloc,

@@ -1,12 +1,12 @@
 //! A name without a DS set that counts, by the NSEC records of a reply (RFC 4035 5.2).
 
-ghost use Rattle.std.specs.Prelude.{◌≡◌, ◌==◌, [], IfOk, map};
+ghost use Rattle.std.specs.Prelude.{◌≡◌, ◌≤◌, ◌+◌, ◌*◌, ◌==◌, [], IfOk, length, map};
 ghost use Rattle.std.specs.List.{list_any};
 ghost use Rattle.dsec_spec.specs.Names.{place};
 ghost use Rattle.dsec_spec.specs.Numbers.{NSEC3};
 ghost use Rattle.dsec_spec.specs.Records as records;
 ghost use Rattle.dsec_link.specs.TaggedKeys.{tagged_view};
-ghost use Rattle.dsec_nodes.specs.MissingDs.{insecure_by, missing_ds, nsec_search};
+ghost use Rattle.dsec_nodes.specs.MissingDs.{insecure_by, missing_ds, nsec_search, within_by};
 ghost use Rattle.dsec_nodes.specs.Nodes.{Kept};
 ghost use Rattle.dsec_node.specs.Views.{bounds_of, ground_view, world_of};
 ghost use Rattle.dsec_denial.specs.Findings.{AreThere, Finds};
@@ -41,7 +41,9 @@ pub(crate) fn missing<V: Verifier, L: Ledger>(
     steps: &mut Steps<L>,
 ) -> Result<Node<V>, NoMemory>
     requires { IsZoneAbove (world_of V.accepts [] (bounds_of config.now) now) zone.now keys.now (map tagged_view said.now) (place name.now) }
-    ensures { IfOk result (λ n. n ≡ missing_ds (world_of V.accepts [] (bounds_of config.now) now) zone.now keys.now (place name.now) groups.now) }
+    ensures node { IfOk result (λ n. n ≡ missing_ds (world_of V.accepts [] (bounds_of config.now) now) zone.now keys.now (place name.now) groups.now) }
+    ensures later { steps.old ≤ steps.new }
+    ensures bound { steps.new ≤ steps.old + length groups.now * (config.now.max_bad_signatures + 1) }
 {
     let t = Timestamp::from_seconds(now);
     let limits = config.limits();
@@ -72,8 +74,12 @@ fn by_finding<V: Verifier>(
 {
     match found {
         NsecFinding::Within(at) => {
-            let bounds = config.bounds();
-            within_node(&bounds, now, zone, name, &groups[at.group], at.signature)
+            let by = SignedBy {
+                signature: at.signature,
+                key: at.key,
+            };
+            let group = &groups[at.group];
+            within(alloc, config, now, zone, keys, said, name, group, by)
         }
         NsecFinding::Insecure(at) => {
             let by = SignedBy {
@@ -111,6 +117,39 @@ fn has_nsec3(groups: &[Group]) -> bool
     ensures { result ≡ list_any (λ g. g.rtype == NSEC3) groups.now }
 {
     groups.iter().any(|group| group.rtype() == Rtype::NSEC3)
+}
+
+/// The node of a name within the zone: by a group of the zone that shows it, and the pair at these indexes.
+pub(crate) fn within<V: Verifier>(
+    alloc: Global,
+    config: &Config,
+    now: u64,
+    zone: &Node<V>,
+    keys: &Keys,
+    said: &[TaggedKey<'_>],
+    name: &Name,
+    group: &Group,
+    by: SignedBy,
+) -> Result<Node<V>, NoMemory>
+    requires above { IsZoneAbove (world_of V.accepts [] (bounds_of config.now) now) zone.now keys.now (map tagged_view said.now) (place name.now) }
+    requires kept { (p : records.Record × records.Key) × IsPairAt group.now (map tagged_view said.now) by p
+        × Kept V.accepts (within_by (world_of V.accepts [] (bounds_of config.now) now) zone.now keys.now (place name.now) group.now p) }
+    ensures { IfOk result (λ n. (p : records.Record × records.Key) → IsPairAt group.now (map tagged_view said.now) by p
+        → n ≡ within_by (world_of V.accepts [] (bounds_of config.now) now) zone.now keys.now (place name.now) group.now p) }
+{
+    let bounds = config.bounds();
+    let key = &said[by.key].key;
+    within_node(
+        alloc,
+        &bounds,
+        now,
+        zone,
+        keys,
+        name,
+        group,
+        by.signature,
+        key,
+    )
 }
 
 /// The node of a name to which no chain leads: by a group of the zone that shows it, and the pair at these indexes.

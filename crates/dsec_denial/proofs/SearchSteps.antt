@@ -105,7 +105,7 @@ module _ (w : World) (zone : Node) (datas : List (List ℕ)) (name : Place) (gro
   pub placed_finds : (d : Decision) (looked : Looked) → looked ≡ decided_by w zone datas name g p d → Finds w zone datas name groups keys (placed_at at d) looked
   placed_finds Within looked e = λ h q t.
       let one = one_there groups keys at g h p q s t in
-      e ∙ (ap (λ (x : Group). decided (within_by w zone name x p)) one.0 ∙ ap (λ (x : Record × Key). decided (within_by w zone name h x)) one.1)
+      e ∙ (ap (λ (x : Group). decided (within_by w zone datas name x p)) one.0 ∙ ap (λ (x : Record × Key). decided (within_by w zone datas name h x)) one.1)
   placed_finds Insecure looked e = λ h q t.
       let one = one_there groups keys at g h p q s t in
       e ∙ (ap (λ (x : Group). decided (insecure_by w zone datas name None nsec_without_ds x p)) one.0

@@ -28,7 +28,7 @@ AreThere groups keys (found.Passed cause) = Unit {0}
 -- what was found is this, as nodes have it: the node that is decided on by the group at its index, or why nothing is shown
 abbrev pub Finds : World → Node → List (List ℕ) → Place → List Group → List Key → NsecFinding → Looked → Type 0
 Finds w zone datas name groups keys (found.Within at) looked =
-    (group : Group) (p : Record × Key) → StandsAt groups keys at group p → looked ≡ decided (within_by w zone name group p)
+    (group : Group) (p : Record × Key) → StandsAt groups keys at group p → looked ≡ decided (within_by w zone datas name group p)
 Finds w zone datas name groups keys (found.Insecure at) looked =
     (group : Group) (p : Record × Key) → StandsAt groups keys at group p → looked ≡ decided (insecure_by w zone datas name None nsec_without_ds group p)
 Finds w zone datas name groups keys (found.Bogus cause) looked = looked ≡ decided (bogus_at w name cause)

@@ -31,16 +31,16 @@ abbrev pub shows_empty : Place → Nsec → Place → Bool
 shows_empty owner nsec name = is_in_range owner (place nsec.next_name) name && is_below (place nsec.next_name) name
 
 -- what a signed record strictly above the name shows, and whether its next name shows an empty non-terminal
-abbrev pub by_above : World → Node → Place → Group → Nsec → Bool → Record × Key → Looked
-by_above w zone name group nsec is_empty p =
+abbrev pub by_above : World → Node → List (List ℕ) → Place → Group → Nsec → Bool → Record × Key → Looked
+by_above w zone keys name group nsec is_empty p =
     if is_expanded group p.0 then decided (bogus_at w name PrefixNsecFromWildcard) else
     if has_type nsec.types DNAME then decided (bogus_at w name PrefixNsecIsDname) else
     if delegates nsec then decided (bogus_at w name PrefixNsecIsDelegation) else
-    if is_empty then by_covering w zone name group p else passed (Some NsecNotUsable)
+    if is_empty then by_covering w zone keys name group p else passed (Some NsecNotUsable)
 
 -- a decision on a group that the pair signs, as nodes have it
 abbrev pub decided_by : World → Node → List (List ℕ) → Place → Group → Record × Key → Decision → Looked
-decided_by w zone keys name group p decision.Within = decided (within_by w zone name group p)
+decided_by w zone keys name group p decision.Within = decided (within_by w zone keys name group p)
 decided_by w zone keys name group p decision.Insecure = decided (insecure_by w zone keys name None nsec_without_ds group p)
 decided_by w zone keys name group p (decision.Bogus cause) = decided (bogus_at w name cause)
 decided_by w zone keys name group p (decision.Passed cause) = passed cause
@@ -56,8 +56,8 @@ placed_at at (decision.Passed cause) = found.Passed cause
 abbrev pub signed_by : World → Node → List (List ℕ) → Place → Group → Reading → Record × Key → Looked
 signed_by w zone keys name group (reading.Nothing cause) p = passed cause
 signed_by w zone keys name group (reading.At nsec) p = by_matching w zone keys name group (nsec_view nsec) p
-signed_by w zone keys name group (reading.Above nsec is_empty) p = by_above w zone name group (nsec_view nsec) is_empty p
-signed_by w zone keys name group reading.Around p = by_covering w zone name group p
+signed_by w zone keys name group (reading.Above nsec is_empty) p = by_above w zone keys name group (nsec_view nsec) is_empty p
+signed_by w zone keys name group reading.Around p = by_covering w zone keys name group p
 
 -- what it shows by what trying the group's signatures came to; where it says nothing they aren't asked
 abbrev pub by_reading : World → Node → List (List ℕ) → Place → Group → Tried (Record × Key) → Reading → Looked

@@ -84,7 +84,7 @@ fn at_name(nsec: &Nsec<'_>, group: &Group, signature: &Record) -> Decision
 fn above_name(nsec: &Nsec<'_>, is_empty: bool, group: &Group, signature: &Record) -> Decision
     requires { signature.now.rtype ≡ RRSIG }
     ensures { (w : World) (zone : Node) (keys : List (List ℕ)) (name : Place) (key : records.Key) →
-        decided_by w zone keys name group.now (signature.now, key) result ≡ by_above w zone name group.now (nsec_view nsec.now) is_empty (signature.now, key) }
+        decided_by w zone keys name group.now (signature.now, key) result ≡ by_above w zone keys name group.now (nsec_view nsec.now) is_empty (signature.now, key) }
 {
     if is_expanded(group, signature) {
         Decision::Bogus(Cause::PrefixNsecFromWildcard)
@@ -103,7 +103,7 @@ fn above_name(nsec: &Nsec<'_>, is_empty: bool, group: &Group, signature: &Record
 fn around_name(group: &Group, signature: &Record) -> Decision
     requires { signature.now.rtype ≡ RRSIG }
     ensures { (w : World) (zone : Node) (keys : List (List ℕ)) (name : Place) (key : records.Key) →
-        decided_by w zone keys name group.now (signature.now, key) result ≡ by_covering w zone name group.now (signature.now, key) }
+        decided_by w zone keys name group.now (signature.now, key) result ≡ by_covering w zone keys name group.now (signature.now, key) }
 {
     if is_expanded(group, signature) {
         Decision::Bogus(Cause::EmptyNonTerminalNsecFromWildcard)

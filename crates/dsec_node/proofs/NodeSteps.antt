@@ -81,15 +81,11 @@ anchored_is w group anchor key signature p sig key_record link links keys kind v
     name_is (valid_is ∙ ap (λ (r : Record). min w.bounds.max_validity (min (least_ttl group.records) (ttl_for_sig r (moment w)))) sig_same) (ap (λ (a : Record). Some a) (anchor_is ∙ sym is.by_way)) signer_is
     (links_are ∙ ap (λ (l : chain.Link). l ∷ []) its) (ap (λ (ks : List (List ℕ)). apex ks) keys_are)
 
--- a key, for what asks for one and doesn't look at it
-abbrev pub no_key : Key
-no_key = record { flags = 0; protocol = 0; algorithm = 0; public_key = [] }
-
 -- a name within a zone
-pub within_is : (w : World) (zone : Node) (place_of : Place) (group : Group) (p : Record × Key) (name signer : Place) (valid_for : ℕ) (anchor : Option Record) (links : List chain.Link)
-    → name ≡ place_of → valid_for ≡ kept_for w zone group p.0 → anchor ≡ zone.anchor → signer ≡ zone.signer → links ≡ zone.links
-    → node_by w name valid_for anchor signer links within ≡ within_by w zone place_of group p
-within_is w zone place_of group p name signer valid_for anchor links a b c d e = λ i. node_by w (a i) (b i) (c i) (d i) (e i) within
+pub within_is : (w : World) (zone : Node) (keys : List (List ℕ)) (name : Place) (group : Group) (p : Record × Key) (valid_for : ℕ) (last : chain.Link)
+    → valid_for ≡ kept_for w zone group p.0 → last ≡ link_under chain.set keys group p
+    → node_by w name valid_for zone.anchor zone.signer zone.links (within last) ≡ within_by w zone keys name group p
+within_is w zone keys name group p valid_for last a b = λ i. node_by w name (a i) zone.anchor zone.signer zone.links (within (b i))
 
 -- a name to which no chain leads
 pub insecure_is : (w : World) (zone : Node) (keys : List (List ℕ)) (name : Place) (cause : Option Cause) (basis : Ground) (group : Group) (p : Record × Key) (valid_for : ℕ) (link : chain.Link) (to_zone links : List chain.Link)

@@ -1,6 +1,7 @@
 -- The code's standings as the definitions have them.
 use Rattle.std.specs.Prelude.{ℕ, List, Option, Some, None}
 use Rattle.dsec_spec.specs.Accepts.{Accepts}
+use Rattle.dsec_spec.specs.Chain.{Link}
 use Rattle.dsec_spec.specs.Records.{Record}
 use Rattle.dsec_group.specs.declared.state.ValidationState.{ValidationState}
 use Rattle.dsec_group.specs.declared.state.ValidationState.TheVariants as states
@@ -29,7 +30,7 @@ cause_view it = record { basis = ground_view it.basis; links = it.links }
 -- what is known of a name, case by case
 abbrev pub standing_view : Standing → nodes.Standing
 standing_view (Apex keys) = nodes.apex keys
-standing_view Within = nodes.within
+standing_view (Within last) = nodes.within last
 standing_view (Insecure cause signed) = nodes.insecure cause (cause_view signed)
 standing_view (Bogus cause) = nodes.bogus cause
 
@@ -40,14 +41,14 @@ world_of accepts anchors bounds now = record { accepts = accepts; anchors = anch
 -- the security status that a node gives (RFC 4033 5)
 abbrev pub state_of : nodes.Standing → ValidationState
 state_of (nodes.apex keys) = states.Secure
-state_of nodes.within = states.Secure
+state_of (nodes.within last) = states.Secure
 state_of (nodes.insecure cause signed) = states.Insecure
 state_of (nodes.bogus cause) = states.Bogus
 
 -- the cause that a node tells, if it tells one
 abbrev pub told_cause : nodes.Standing → Option Cause
 told_cause (nodes.apex keys) = None
-told_cause nodes.within = None
+told_cause (nodes.within last) = None
 told_cause (nodes.insecure cause signed) = cause
 told_cause (nodes.bogus cause) = Some cause
 
@@ -55,3 +56,8 @@ told_cause (nodes.bogus cause) = Some cause
 abbrev pub signed_cause : nodes.Standing → Option nodes.SignedCause
 signed_cause (nodes.insecure cause signed) = Some signed
 signed_cause _ = None
+
+-- the link of the set that shows that a name is within a zone
+abbrev pub last_link : nodes.Standing → Option Link
+last_link (nodes.within last) = Some last
+last_link _ = None

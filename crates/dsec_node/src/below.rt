@@ -1,11 +1,11 @@
 //! What is known of a name at which no zone with a chain begins (RFC 4035 5.2).
 
-ghost use Rattle.std.specs.Prelude.{◌≡◌, ◌<◌, ◌≤◌, ◌+◌, [], List, ℕ, IfOk, Some, length, slice_get};
+ghost use Rattle.std.specs.Prelude.{◌≡◌, ◌<◌, ◌≤◌, [], IfOk, Some, length, slice_get};
 ghost use Rattle.dsec_spec.specs.Names.{place};
 ghost use Rattle.dsec_spec.specs.Records as records;
 ghost use Rattle.dsec_wire.specs.Views.{key_view};
 ghost use Rattle.dsec_nodes.specs.MissingDs.{bogus_at, insecure_by, within_by};
-ghost use Rattle.dsec_nodes.specs.Nodes.{apex, Kept};
+ghost use Rattle.dsec_nodes.specs.Nodes.{within, Kept};
 ghost use Rattle.dsec_node.specs.Views.{bounds_view, ground_view, standing_view, world_of};
 
 use crate::bounds::Bounds;
@@ -17,34 +17,53 @@ use crate::standing::{Ground, SignedCause, Standing};
 use dsec_cause::Cause;
 use dsec_crypto::Verifier;
 use dsec_group::Group;
-use dsec_link::{LinkKind, Links};
+use dsec_link::{Link, LinkKind, Links};
 use dsec_name::{Name, NoMemory};
 use dsec_wire::Dnskey;
 use std::alloc::Global;
 
-/// The node of a name within a zone, at which no zone begins: by a group that the zone has signed, for as long as its signature
-/// at an index allows.
+/// The node of a name within a zone, at which no zone begins: by a group of the zone that shows it, and its signature at an index,
+/// of a key of the zone's. That the node holds is the caller's to see.
 pub fn within_node<V: Verifier>(
+    alloc: Global,
     bounds: &Bounds,
     now: u64,
     zone: &Node<V>,
+    keys: &Keys,
     name: &Name,
     group: &Group,
     signature: usize,
+    key: &Dnskey<'_>,
 ) -> Result<Node<V>, NoMemory>
     requires signature { signature < length group.now.signatures }
-    requires ready { (keys : List (List ℕ)) × (zone.now.standing ≡ apex keys) }
     requires made { zone.now.made ≤ now }
-    requires counts { now ≤ zone.now.made + zone.now.valid_for }
-    ensures { IfOk result (λ n. (p : records.Record × records.Key) → slice_get group.now.signatures signature ≡ Some p.0
-        → n ≡ within_by (world_of V.accepts [] (bounds_view bounds.now) now) zone.now (place name.now) group.now p) }
+    requires kept { (one : records.Record) → slice_get group.now.signatures signature ≡ Some one
+        → Kept V.accepts (within_by (world_of V.accepts [] (bounds_view bounds.now) now) zone.now keys.now (place name.now) group.now (one, key_view key.now)) }
+    ensures { IfOk result (λ n. (one : records.Record) → slice_get group.now.signatures signature ≡ Some one
+        → n ≡ within_by (world_of V.accepts [] (bounds_view bounds.now) now) zone.now keys.now (place name.now) group.now (one, key_view key.now)) }
 {
-    let links = zone_links(zone)?;
+    let valid_for = kept_for(zone, group, signature, bounds, now);
+    let last = link_by_keys(alloc, LinkKind::Set, group, signature, keys, key)?;
+    within_at(zone, name, last, valid_for, bounds, now)
+}
+
+/// A node of a name within a zone, with the zone's name, anchor and links.
+fn within_at<V: Verifier>(
+    zone: &Node<V>,
+    name: &Name,
+    last: Link,
+    valid_for: u64,
+    bounds: &Bounds,
+    now: u64,
+) -> Result<Node<V>, NoMemory>
+    requires { Kept V.accepts (record { name = place name.now; made = now; valid_for = valid_for; anchor = zone.now.anchor; signer = zone.now.signer; links = zone.now.links; standing = within last; bounds = bounds_view bounds.now }) }
+    ensures { IfOk result (λ n. n ≡ record { name = place name.now; made = now; valid_for = valid_for; anchor = zone.now.anchor; signer = zone.now.signer; links = zone.now.links; standing = within last; bounds = bounds_view bounds.now }) }
+{
+    let links = links_copy(zone.chain())?;
     let anchor = zone.copied_anchor()?;
     let name = copy_of(name)?;
     let signer = copy_of(zone.signer_name())?;
-    let valid_for = kept_for(zone, group, signature, bounds, now);
-    Ok(Node::new_intermediate(name, signer, anchor, links, now, valid_for, *bounds))
+    Ok(Node::new_intermediate(name, signer, anchor, links, last, now, valid_for, *bounds))
 }
 
 /// The node of a name to which no chain leads: by a group of the zone that shows it, and its signature at an index, of a key of
@@ -93,14 +112,6 @@ fn insecure_at<V: Verifier>(
     let anchor = zone.copied_anchor()?;
     let signer = copy_of(name)?;
     Node::new_delegation(signer, standing, anchor, links, now, valid_for, *bounds)
-}
-
-/// The links of a zone, which is kept.
-fn zone_links<V: Verifier>(zone: &Node<V>) -> Result<Links, NoMemory>
-    ensures links { IfOk result (λ links. links ≡ zone.now.links) }
-    ensures kept { IfOk result (λ links. Kept V.accepts zone.now) }
-{
-    links_copy(zone.chain())
 }
 
 /// A bogus node, which holds whatever was found out.

@@ -11,7 +11,7 @@ use crate::copies::{copy_of, links_copy, standing_copy};
 use crate::node::Node;
 use crate::standing::Standing;
 use dsec_crypto::Verifier;
-use dsec_link::Links;
+use dsec_link::{Link, Links};
 use dsec_name::{Name, NoMemory};
 use dsec_wire::Record;
 
@@ -42,18 +42,20 @@ impl<V: Verifier> Node<V> {
         ))
     }
 
-    /// The node of a name that is within a zone, whose name is `signer_name`, and at which no zone begins.
+    /// The node of a name that is within a zone, whose name is `signer_name` and to whose keys the links lead, and at which no zone
+    /// begins, as the set of `last` shows.
     pub fn new_intermediate(
         name: Name,
         signer_name: Name,
         anchor: Option<Record>,
         links: Links,
+        last: Link,
         made: u64,
         valid_for: u64,
         bounds: Bounds,
     ) -> Node<V>
-        requires { Kept V.accepts (record { name = place name; made = made; valid_for = valid_for; anchor = anchor; signer = place signer_name; links = links; standing = nodes.within; bounds = bounds_view bounds }) }
-        ensures { result ≡ record { name = place name; made = made; valid_for = valid_for; anchor = anchor; signer = place signer_name; links = links; standing = nodes.within; bounds = bounds_view bounds } }
+        requires { Kept V.accepts (record { name = place name; made = made; valid_for = valid_for; anchor = anchor; signer = place signer_name; links = links; standing = nodes.within last; bounds = bounds_view bounds }) }
+        ensures { result ≡ record { name = place name; made = made; valid_for = valid_for; anchor = anchor; signer = place signer_name; links = links; standing = nodes.within last; bounds = bounds_view bounds } }
     {
         Node::new(
             name,
@@ -62,7 +64,7 @@ impl<V: Verifier> Node<V> {
             anchor,
             signer_name,
             links,
-            Standing::Within,
+            Standing::Within(last),
             bounds,
         )
     }

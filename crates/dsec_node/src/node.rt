@@ -1,13 +1,13 @@
 //! What is known of a name, and for how long (RFC 4033 5, RFC 4035 4.3, 4.5).
 
-ghost use Rattle.std.specs.Prelude.{◌≡◌, ◌≢◌, ◌↔◌, List, ℕ, IfNone, IfOk, IfSome, IsTrue, Some};
+ghost use Rattle.std.specs.Prelude.{◌≡◌, ◌≢◌, List, ℕ, IfNone, IfOk, IfSome, Some};
 ghost use Rattle.std.specs.Option.{option_map};
 ghost use Rattle.dsec_spec.specs.Names.{place};
 ghost use Rattle.dsec_spec.specs.Numbers.{DNSKEY};
 ghost use Rattle.dsec_link.specs.Sets.{AreOf, octets_of};
-ghost use Rattle.dsec_nodes.specs.Nodes.{Kept, apex, within};
+ghost use Rattle.dsec_nodes.specs.Nodes.{IsWithin, Kept, apex};
 ghost use Rattle.dsec_nodes.specs.Walk.{held_keys};
-ghost use Rattle.dsec_node.specs.Views.{bounds_view, cause_view, signed_cause, standing_view, state_of, told_cause};
+ghost use Rattle.dsec_node.specs.Views.{bounds_view, cause_view, last_link, signed_cause, standing_view, state_of, told_cause};
 
 use crate::bounds::Bounds;
 use crate::keys::Keys;
@@ -15,7 +15,7 @@ use crate::standing::{SignedCause, Standing};
 use dsec_cause::Cause;
 use dsec_crypto::{By, Verifier};
 use dsec_group::ValidationState;
-use dsec_link::Links;
+use dsec_link::{Link, Links};
 use dsec_name::{Name, NoMemory};
 use dsec_wire::{Data, Record};
 use std::marker::Model;
@@ -139,7 +139,7 @@ impl<V: Verifier> Node<V> {
         ensures { result ≡ state_of self.now.standing }
     {
         match &self.standing {
-            Standing::Apex(_) | Standing::Within => ValidationState::Secure,
+            Standing::Apex(_) | Standing::Within(_) => ValidationState::Secure,
             Standing::Insecure(_, _) => ValidationState::Insecure,
             Standing::Bogus(_) => ValidationState::Bogus,
         }
@@ -150,7 +150,7 @@ impl<V: Verifier> Node<V> {
         ensures { result ≡ told_cause self.now.standing }
     {
         match &self.standing {
-            Standing::Apex(_) | Standing::Within => None,
+            Standing::Apex(_) | Standing::Within(_) => None,
             Standing::Insecure(cause, _) => *cause,
             Standing::Bogus(cause) => Some(*cause),
         }
@@ -180,9 +180,19 @@ impl<V: Verifier> Node<V> {
 
     /// Whether the name is within the zone above it, and no zone begins there.
     pub fn intermediate(&self) -> bool
-        ensures { IsTrue result ↔ (self.now.standing ≡ within) }
+        ensures { result ≡ IsWithin self.now.standing }
     {
-        matches!(self.standing, Standing::Within)
+        matches!(self.standing, Standing::Within(_))
+    }
+
+    /// The link of the set that shows that no zone begins at the name, of a node within a zone.
+    pub fn shown_by(&self) -> Option<&Link>
+        ensures { option_map (λ last. last.now) result ≡ last_link self.now.standing }
+    {
+        match &self.standing {
+            Standing::Within(last) => Some(last),
+            _ => None,
+        }
     }
 
     /// The signed record that shows that no chain leads to the name, of an insecure node.

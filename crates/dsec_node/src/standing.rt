@@ -2,7 +2,7 @@
 
 use crate::keys::Keys;
 use dsec_cause::Cause;
-use dsec_link::Links;
+use dsec_link::{Link, Links};
 use std::alloc::AllocError;
 
 /// By which record a name is known to have no chain.
@@ -48,8 +48,8 @@ impl Clone for SignedCause {
 pub enum Standing {
     /// A zone begins here, with these keys.
     Apex(Keys),
-    /// It is in the zone above, and no zone begins here.
-    Within,
+    /// It is in the zone above, and no zone begins here: the link of the set that shows it.
+    Within(Link),
     /// No chain leads here.
     Insecure(Option<Cause>, SignedCause),
     /// What was found out isn't to be relied on.
@@ -67,7 +67,10 @@ impl Clone for Standing {
                 let keys = keys.clone()?;
                 Ok(Standing::Apex(keys))
             }
-            Standing::Within => Ok(Standing::Within),
+            Standing::Within(last) => {
+                let last = last.clone()?;
+                Ok(Standing::Within(last))
+            }
             Standing::Insecure(cause, signed) => {
                 let signed = signed.clone()?;
                 Ok(Standing::Insecure(*cause, signed))

@@ -15,7 +15,7 @@ use Rattle.dsec_spec.specs.KeySearch.{KeySearch, found_at, not_found, too_many}
 use Rattle.dsec_spec.specs.Groups.{Group, set_in}
 use Rattle.dsec_spec.specs.Trying.{Tried, good, nothing, all_bad, too_many_bad, pair_signs}
 use Rattle.dsec_spec.specs.Chain as chain
-use Rattle.dsec_spec.specs.Chain.{IsKeySet, IsAnchor, IsAnchorKeyLink, IsAnchorDsLink, IsChain}
+use Rattle.dsec_spec.specs.Chain.{Link, IsKeySet, IsAnchor, IsAnchorKeyLink, IsAnchorDsLink, IsChain}
 use Rattle.dsec_spec.proofs.CanonicalNames.{same_place_decides}
 use Rattle.dsec_spec.proofs.ReadingLemmas.{from_bind}
 use Rattle.dsec_spec.proofs.Members.{first_in, from_find, in_map, at_index}
@@ -226,24 +226,24 @@ pub anchor_kept : (w : World) (replies : Replies) (top : Place) → KeptAt w top
 anchor_kept w replies top = anchor_reply_kept w top (read_reply (replies top DNSKEY))
 
 -- what the reply for an island comes to is a zone, or bogus
-pub anchor_reply_not_within : (w : World) (top : Place) (reply : Reply) → (by_anchor_reply w top reply).standing ≡ within → ⊥
-anchor_reply_not_within w top reply = by_reply reply
+pub anchor_reply_not_within : (w : World) (top : Place) (reply : Reply) (last : Link) → (by_anchor_reply w top reply).standing ≡ within last → ⊥
+anchor_reply_not_within w top reply last = by_reply reply
   where
-    by_tried : (group : Group) (t : Tried (Record × Admitted Record)) → (anchored_by w top group t).standing ≡ within → ⊥
+    by_tried : (group : Group) (t : Tried (Record × Admitted Record)) → (anchored_by w top group t).standing ≡ within last → ⊥
     by_tried group (good p) e = absurd cc
     by_tried group nothing e = absurd cc
     by_tried group all_bad e = absurd cc
     by_tried group too_many_bad e = absurd cc
 
-    by_group : (o : Option Group) → (anchored_in w top o).standing ≡ within → ⊥
+    by_group : (o : Option Group) → (anchored_in w top o).standing ≡ within last → ⊥
     by_group None e = absurd cc
     by_group (Some group) e = by_tried group (tried_by w group (anchor_search w.bounds.max_keys_for_ds group) w.anchors) e
 
-    by_reply : (reply : Reply) → (by_anchor_reply w top reply).standing ≡ within → ⊥
+    by_reply : (reply : Reply) → (by_anchor_reply w top reply).standing ≡ within last → ⊥
     by_reply failed e = absurd cc
     by_reply unreadable e = absurd cc
     by_reply (sections answers authorities) e = by_group (find (is_set_at top DNSKEY) answers) e
 
 -- an island's node isn't one that is within a zone
-pub anchor_not_within : (w : World) (replies : Replies) (top : Place) → (at_anchor w replies top).standing ≡ within → ⊥
+pub anchor_not_within : (w : World) (replies : Replies) (top : Place) (last : Link) → (at_anchor w replies top).standing ≡ within last → ⊥
 anchor_not_within w replies top = anchor_reply_not_within w top (read_reply (replies top DNSKEY))

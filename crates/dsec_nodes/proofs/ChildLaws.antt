@@ -1,5 +1,5 @@
 -- The node of a name below a held zone is kept.
-use Rattle.std.proofs.Common.{◌≡◌, ℕ, ◌==◌, true, false, List, [], ◌∷◌, length, Option, Some, None, refl, ap, ◌∙◌, subst}
+use Rattle.std.proofs.Common.{◌≡◌, ℕ, ◌==◌, true, false, List, [], ◌∷◌, length, map, Option, Some, None, refl, ap, ◌∙◌, subst, inl}
 use Rattle.std.specs.Prelude.{Contains, find}
 use Rattle.std.proofs.lemmas.Bool.{and_from, eqb-true}
 use Rattle.dsec_spec.specs.Names.{Place, IsStrictlyBelow}
@@ -15,6 +15,7 @@ use Rattle.dsec_nodes.specs.SignedCauses.{IsUnsupported}
 use Rattle.dsec_nodes.specs.Signing.{under_keys, is_expanded, is_set_at}
 use Rattle.dsec_nodes.specs.Admission.{Admitted, tried_by, cause_among, ds_search}
 use Rattle.dsec_nodes.specs.Replies.{Reply, failed, unreadable, sections, read_reply}
+use Rattle.dsec_nodes.specs.MissingDs.{within_by}
 use Rattle.dsec_nodes.specs.ByDs.{is_supported, is_usable, usable, Pending, Below, made, asks, if_one, by_alias, by_signed_ds, by_ds_set, by_ds_reply, ways, none_by, by_tried, by_key_set, by_key_reply}
 use Rattle.dsec_nodes.specs.Walk.{finished, child}
 use Rattle.dsec_nodes.proofs.Signs.{from_under, from_tried_by}
@@ -45,14 +46,34 @@ none_usable datas e x there ds says supported =
     by [] f h = not_in_none x h
     by (y ∷ ys) f h = absurd cc
 
-alias_kept : (w : World) (zone : Node) (keys : List (List ℕ)) (name : Place) (authorities : List Group) (o : Option Group)
-    → HeldZone w zone keys → IsStrictlyBelow name zone.signer
+only_one : (rs : List Record) → (length rs == 1) ≡ true → (r : Record) × (rs ≡ r ∷ [])
+only_one rs e = by rs (eqb-true (length rs) 1 e)
+  where
+    by : (xs : List Record) → length xs ≡ 1 → (r : Record) × (xs ≡ r ∷ [])
+    by [] f = absurd cc
+    by (r ∷ []) f = (r, refl)
+    by (r ∷ s ∷ xs) f = absurd cc
+
+-- a CNAME record alone in its set shows that its name is within the zone
+pub alias_within : (w : World) (zone : Node) (keys : List (List ℕ)) (name : Place) (group : Group) (p : Record × Key) → HeldZone w zone keys
+    → IsStrictlyBelow name zone.signer → is_set_at name CNAME group ≡ true → (length group.records == 1) ≡ true
+    → GoodPair w zone.signer keys group p → is_expanded group p.0 ≡ false → KeptAt w name (within_by w zone keys name group p)
+alias_within w zone keys name group p h below is single g whole =
+    let at = set_at name CNAME group is in
+    let one = only_one group.records single in
+    within_kept w zone keys name group p h g below at.of_class whole
+    (inl (record { of_type = at.of_type; at = at.at; rdata = one.0.rdata; alone = ap (map (λ (r : Record). r.rdata)) one.1 }))
+
+alias_kept : (w : World) (zone : Node) (keys : List (List ℕ)) (name : Place) (answers authorities : List Group) (o : Option Group)
+    → find (is_set_at name CNAME) answers ≡ o → HeldZone w zone keys → IsStrictlyBelow name zone.signer
     → BelowFollows w zone keys name (by_alias w zone keys name authorities o)
-alias_kept w zone keys name authorities None h below = missing_below w zone keys name authorities h below
-alias_kept w zone keys name authorities (Some group) h below =
+alias_kept w zone keys name answers authorities None e h below = missing_below w zone keys name authorities h below
+alias_kept w zone keys name answers authorities (Some group) e h below =
+    let at = (from_find (is_set_at name CNAME) answers group e).0 in
     either (BelowFollows w zone keys name) (length group.records == 1) _ _
-    (λ _. one_kept w zone keys name group _ (under_keys w zone.signer keys group) refl (λ p g.
-    either (BelowFollows w zone keys name) (is_expanded group p.0) _ _ (λ _. missing_below w zone keys name authorities h below) (λ _. (within_kept w zone keys name group p h, λ _. refl, refl))))
+    (λ single. one_kept w zone keys name group _ (under_keys w zone.signer keys group) refl (λ p g.
+    either (BelowFollows w zone keys name) (is_expanded group p.0) _ _ (λ _. missing_below w zone keys name authorities h below) (λ whole.
+    (alias_within w zone keys name group p h below at single g whole, λ _. refl, refl))))
     (λ _. missing_below w zone keys name authorities h below)
 
 signed_ds_kept : (w : World) (zone : Node) (keys : List (List ℕ)) (name : Place) (group : Group) (p : Record × Key) → HeldZone w zone keys
@@ -75,12 +96,12 @@ signed_ds_kept w zone keys name group p h below at g whole =
 ds_set_kept : (w : World) (zone : Node) (keys : List (List ℕ)) (name : Place) (answers authorities : List Group) (o : Option Group)
     → find (is_set_at name DS) answers ≡ o → HeldZone w zone keys → IsStrictlyBelow name zone.signer
     → BelowFollows w zone keys name (by_ds_set w zone keys name answers authorities o)
-ds_set_kept w zone keys name answers authorities None e h below = alias_kept w zone keys name authorities (find (is_set_at name CNAME) answers) h below
+ds_set_kept w zone keys name answers authorities None e h below = alias_kept w zone keys name answers authorities (find (is_set_at name CNAME) answers) refl h below
 ds_set_kept w zone keys name answers authorities (Some group) e h below =
     let at = set_at name DS group (from_find (is_set_at name DS) answers group e).0 in
     one_kept w zone keys name group _ (under_keys w zone.signer keys group) refl (λ p g.
     either (BelowFollows w zone keys name) (is_expanded group p.0) _ _
-    (λ _. alias_kept w zone keys name authorities (find (is_set_at name CNAME) answers) h below)
+    (λ _. alias_kept w zone keys name answers authorities (find (is_set_at name CNAME) answers) refl h below)
     (λ whole. signed_ds_kept w zone keys name group p h below at g whole))
 
 -- what the reply to the question for a DS set comes to follows from the zone

@@ -46,7 +46,7 @@ making_counted s asked n c = by n.standing
 
     by : (x : Standing) → IsCounted (made_by s asked n x).0
     by (apex keys) = record { begun = omega arith; waits = tt; counted = more }
-    by within = record { begun = omega arith; waits = tt; counted = more }
+    by (within last) = record { begun = omega arith; waits = tt; counted = more }
     by (insecure cause signed) = record { begun = omega arith; waits = tt; counted = more }
     by (bogus cause) = record { begun = omega arith; waits = tt; counted = more }
 

@@ -1,11 +1,12 @@
 -- Each node that is made below a held zone is kept (RFC 4035 4.5, 5.2).
-use Rattle.std.proofs.Common.{◌≡◌, ℕ, ◌+◌, ◌≤◌, false, List, [], ◌∷◌, ◌++◌, Option, refl, sym, ap, ◌∙◌, subst, arith}
+use Rattle.std.proofs.Common.{◌≡◌, ℕ, ◌+◌, ◌≤◌, false, List, [], ◌∷◌, ◌++◌, Option, Some, refl, sym, ap, ◌∙◌, subst, inl, inr, arith}
 use Rattle.std.specs.Prelude.{min}
 use Rattle.std.proofs.Math.Nat.{min-le_left, min-le_right}
 use Rattle.std.proofs.lemmas.Bool.{true≢false}
 use Rattle.dsec_spec.specs.Names.{Place, place, IsStrictlyBelow}
 use Rattle.dsec_spec.specs.Numbers.{IN, DS, DNSKEY}
-use Rattle.dsec_spec.specs.Records.{Record, Key}
+use Rattle.dsec_spec.specs.Records.{Record, RecordSet, Key, Rrsig, rrsig_of}
+use Rattle.dsec_spec.specs.SignedBytes.{IsExpansion}
 use Rattle.dsec_spec.specs.Answering.{is_expansion}
 use Rattle.dsec_spec.specs.Groups.{Group, set_in}
 use Rattle.dsec_spec.specs.Trying.{of_signature}
@@ -13,10 +14,10 @@ use Rattle.dsec_spec.specs.Chain as chain
 use Rattle.dsec_spec.specs.Chain.{IsDsLink, IsKeyLink, IsSetLink, IsChain, Holds}
 use Rattle.dsec_spec.proofs.AnsweringLemmas.{no_expansion}
 use Rattle.dsec_spec.proofs.ChainLaws.{chain_goes_on}
-use Rattle.dsec_spec.proofs.NamesBelow.{at_or_below}
 use Rattle.dsec_nodes.specs.World.{World, moment, on_circle}
 use Rattle.dsec_nodes.specs.Causes.{Cause}
 use Rattle.dsec_nodes.specs.Nodes.{Node, Standing, apex, Kept, HoldsAt, Shows, Ground, IsBogus}
+use Rattle.dsec_nodes.specs.WithinCauses.{ShowsNoZone}
 use Rattle.dsec_nodes.specs.Signing.{link_under, is_expanded, kept_for, time_left}
 use Rattle.dsec_nodes.specs.Admission.{Admitted, admitted_link}
 use Rattle.dsec_nodes.specs.MissingDs.{bogus_at, within_by, insecure_by}
@@ -48,11 +49,53 @@ signature_longer : (w : World) (zone : Node) (group : Group) (r : Record) → ke
 signature_longer w zone group r =
     omega (arith, min-le_right (time_left w zone) (min (least_ttl group.records) (ttl_for_sig r (moment w))), min-le_right (least_ttl group.records) (ttl_for_sig r (moment w)))
 
--- a node within a held zone is kept
+-- the link of a set that a zone's key has signed, as long as the signature counts
+set_link_lasts : (w : World) (zone : Node) (keys : List (List ℕ)) (group : Group) (p : Record × Key) (s : ℕ) → GoodPair w zone.signer keys group p
+    → (group.rtype ≡ DS → IsStrictlyBelow (place group.owner) zone.signer) → w.now ≤ s → s ≤ w.now + kept_for w zone group p.0
+    → IsSetLink w.accepts zone.signer keys (link_under chain.set keys group p) (on_circle s)
+set_link_lasts w zone keys group p s g above from to = record {
+  of_kind = refl;
+  within = g.counts.signed.within;
+  ds_above = λ is_ds _. above is_ds;
+  by_held = g.says.there;
+  signed = link_lasts w chain.set zone.signer keys group p s g from (omega (arith, to, signature_longer w zone group p.0));
+}
+
+-- a set that the test doesn't take for an expansion is none
+whole_set : (group : Group) (signature : Record) (sig : Rrsig) → rrsig_of signature.rdata ≡ Some sig → is_expanded group signature ≡ false
+    → IsExpansion sig.labels group.owner → ⊥
+whole_set group signature sig reads whole =
+    no_expansion sig.labels group.owner (sym (ap (of_signature (λ one. is_expansion one.labels group.owner)) reads) ∙ whole)
+
+-- a set that shows that no zone begins at a name is no DS set
+never_ds : (c : Place) (set : RecordSet) → ShowsNoZone c set → set.rtype ≡ DS → ⊥
+never_ds c set (inl alias) e = let both = sym alias.of_type ∙ e in omega (arith, both)
+never_ds c set (inr one) e = let both = sym one.1.of_type ∙ e in omega (arith, both)
+
+-- a node within a held zone is kept, by a set of the zone's that shows that no zone begins at its name
 pub within_kept : (w : World) (zone : Node) (keys : List (List ℕ)) (name : Place) (group : Group) (p : Record × Key) → HeldZone w zone keys
-    → KeptAt w name (within_by w zone name group p)
-within_kept w zone keys name group p h =
-    (λ e. (h.anchor, h.its, λ s from to. (keys, h.chain_to s from (omega (arith, to, zone_longer w zone group p.0)))), refl, omega arith, omega arith)
+    → GoodPair w zone.signer keys group p → IsStrictlyBelow name zone.signer → group.class ≡ IN → is_expanded group p.0 ≡ false
+    → ShowsNoZone name (set_in group) → KeptAt w name (within_by w zone keys name group p)
+within_kept w zone keys name group p h g below classed whole shows = (
+  λ e. (
+    h.anchor,
+    h.its,
+    λ s from to. record {
+      keys = keys;
+      leads = h.chain_to s from (omega (arith, to, zone_longer w zone group p.0));
+      is_set = set_link_lasts w zone keys group p s g (λ is_ds. absurd (never_ds name (set_in group) shows is_ds)) from to;
+      below = below;
+      of_class = classed;
+      signature = g.counts.signature;
+      reads = g.counts.reads_signature;
+      no_expansion = whole_set group p.0 g.counts.signature g.counts.reads_signature whole;
+      shows = shows;
+    },
+  ),
+  refl,
+  omega arith,
+  omega arith,
+)
 
 -- a DS set strictly below a zone that a key of the zone's has signed is one as the zone has signed it (RFC 4035 5.2)
 pub is_pending : (w : World) (zone : Node) (keys : List (List ℕ)) (name : Place) (group : Group) (p : Record × Key)
@@ -101,13 +144,6 @@ insecure_kept w zone keys name cause basis group p h g at classed below whole sh
     λ s from to.
         let strictly : IsStrictlyBelow (place group.owner) zone.signer = subst (λ (n : Place). IsStrictlyBelow n zone.signer) (sym at) below in
         let link = link_under chain.set keys group p in
-        let set_link : IsSetLink w.accepts zone.signer keys link (on_circle s) = record {
-          of_kind = refl;
-          within = at_or_below (place group.owner) zone.signer strictly;
-          ds_above = λ _ _. strictly;
-          by_held = g.says.there;
-          signed = link_lasts w chain.set zone.signer keys group p s g from (omega (arith, to, signature_longer w zone group p.0));
-        } in
         let shown : Holds w.accepts (h.anchor ∷ []) (zone.links ++ link ∷ []) (set_in group) (on_circle s) = record {
           chain = zone.links;
           last = link;
@@ -115,7 +151,7 @@ insecure_kept w zone keys name cause basis group p h g at classed below whole sh
           keys = keys;
           are = refl;
           leads = h.chain_to s from (omega (arith, to, zone_longer w zone group p.0));
-          shows = set_link;
+          shows = set_link_lasts w zone keys group p s g (λ _. strictly) from to;
           same = refl;
         } in
         record {
@@ -124,7 +160,7 @@ insecure_kept w zone keys name cause basis group p h g at classed below whole sh
           of_class = classed;
           signature = g.counts.signature;
           reads = g.counts.reads_signature;
-          no_expansion = no_expansion g.counts.signature.labels group.owner (sym (ap (of_signature (λ sig. is_expansion sig.labels group.owner)) g.counts.reads_signature) ∙ whole);
+          no_expansion = whole_set group p.0 g.counts.signature g.counts.reads_signature whole;
           shows = shows;
         },
   ),

@@ -90,7 +90,7 @@ making_goes w s asked n below le further facts = by n.standing refl
 
     by : (x : Standing) → n.standing ≡ x → Goes w (made_by s asked n x)
     by (apex keys) e = put
-    by within e = put
+    by (within last) e = put
     by (insecure cause signed) e = put
     by (bogus cause) e = record {
       in_step = record {

@@ -108,7 +108,7 @@ standing_of (asks pending) = None
 abbrev pub basis_in : Option Standing → Option (Option Cause × Ground)
 basis_in (Some (insecure cause signed)) = Some (cause, signed.basis)
 basis_in (Some (apex keys)) = None
-basis_in (Some within) = None
+basis_in (Some (within last)) = None
 basis_in (Some (bogus cause)) = None
 basis_in None = None
 
@@ -131,13 +131,25 @@ expanded_nsec : standing_of (comes_to [] (set_of_one 47 (nsec_data 32) (signed 4
 unfolding nsec_search rrsig_of name_in labels_in blocks_in signs least_ttl
 expanded_nsec = refl
 
--- an NSEC record without NS makes it a name within the zone
-within_zone : standing_of (comes_to [] (set_of_one 47 (nsec_data 64) (signed 47 2) ∷ [])) ≡ Some within
+-- an NSEC record without NS makes it a name within the zone, and is kept
+within_zone : standing_of (comes_to [] (set_of_one 47 (nsec_data 64) (signed 47 2) ∷ [])) ≡ Some (within (record {
+  kind = chain.set;
+  records = record { owner = child; class = 1; rtype = 47; datas = nsec_data 64 ∷ [] };
+  via = None;
+  signing_key = key_octets zone_key;
+  rrsig = (signed 47 2).rdata;
+}))
 unfolding nsec_search rrsig_of name_in labels_in blocks_in signs least_ttl
 within_zone = refl
 
 -- so does a CNAME record
-alias_within : standing_of (comes_to (set_of_one 5 (wire_octets parent) (signed 5 2) ∷ []) []) ≡ Some within
+alias_within : standing_of (comes_to (set_of_one 5 (wire_octets parent) (signed 5 2) ∷ []) []) ≡ Some (within (record {
+  kind = chain.set;
+  records = record { owner = child; class = 1; rtype = 5; datas = wire_octets parent ∷ [] };
+  via = None;
+  signing_key = key_octets zone_key;
+  rrsig = (signed 5 2).rdata;
+}))
 unfolding nsec_search rrsig_of name_in labels_in blocks_in signs least_ttl
 alias_within = refl
 

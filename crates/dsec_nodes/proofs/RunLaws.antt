@@ -53,7 +53,7 @@ making_stays w replies s asked n a g = by n.standing
   where
     by : (x : Standing) → StaysOf w replies s (made_by s asked n x).0
     by (apex keys) = record { same_top = refl; same_target = refl; asked = a; got = g }
-    by within = record { same_top = refl; same_target = refl; asked = a; got = g }
+    by (within last) = record { same_top = refl; same_target = refl; asked = a; got = g }
     by (insecure cause signed) = record { same_top = refl; same_target = refl; asked = a; got = g }
     by (bogus cause) = record { same_top = refl; same_target = refl; asked = a; got = g }
 

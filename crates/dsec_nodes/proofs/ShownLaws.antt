@@ -32,7 +32,7 @@ use Rattle.dsec_nodes.proofs.AmongLaws.{chain_among, chain_begins}
 after_zone : (zone n : Node) (s : Standing) (keys : List (List ℕ)) → n.standing ≡ s → (after zone n s).node.standing ≡ apex keys
     → (after zone n s).zone ≡ (after zone n s).node
 after_zone zone n (apex own) keys e f = refl
-after_zone zone n within keys e f = absurd (let g : within ≡ apex keys = sym e ∙ f in cc)
+after_zone zone n (within last) keys e f = absurd (let g : within last ≡ apex keys = sym e ∙ f in cc)
 after_zone zone n (insecure cause signed) keys e f = absurd (let g : insecure cause signed ≡ apex keys = sym e ∙ f in cc)
 after_zone zone n (bogus cause) keys e f = absurd (let g : bogus cause ≡ apex keys = sym e ∙ f in cc)
 
@@ -190,7 +190,7 @@ shown_is w replies group links last signature e = by_records (length group.recor
         → (s : Standing) → n.standing ≡ s → found_at w group n s ≡ is_shown links last signature
         → Is (record { group = group; signer = n.signer; finding = found_at w group n s })
     by_standing top some f n over (apex keys) g h = by_tried top some f n keys (over keys g) (under_keys w n.signer keys group) refl h
-    by_standing top some f n over within g h = absurd cc
+    by_standing top some f n over (within last) g h = absurd cc
     by_standing top some f n over (insecure cause signed) g h = absurd cc
     by_standing top some f n over (bogus cause) g h = absurd cc
 

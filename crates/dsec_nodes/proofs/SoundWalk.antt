@@ -3,6 +3,7 @@ use Rattle.std.proofs.Common.{◌≡◌, ℕ, suc, ◌+◌, ◌≤◌, ◌&&◌,
 use Rattle.std.proofs.lemmas.Bool.{false≢true, and_parts, leb-true}
 use Rattle.dsec_spec.specs.Names.{Place, IsStrictlyBelow}
 use Rattle.dsec_spec.specs.Numbers.{DS, DNSKEY}
+use Rattle.dsec_spec.specs.Chain.{Link}
 use Rattle.dsec_nodes.specs.World.{World}
 use Rattle.dsec_nodes.specs.Nodes.{Node, Standing, apex, within, insecure, bogus}
 use Rattle.dsec_nodes.specs.Replies.{read_reply}
@@ -53,7 +54,7 @@ arrives : (w : World) (s : Walking) (o : Option Reached) (n : Node) → s.top �
     → OnTheWay w s.top s.target (length s.top + s.behind) (arrived o n)
 arrives w s None n below le f g may k =
     let top : name_at s ≡ s.top = ap (λ (m : ℕ). take m s.target) (let m : length s.top + s.behind ≡ length s.top = omega (arith, f) in m) ∙ sym below in
-    let never : n.standing ≡ within → ⊥ = λ e. false≢true (sym (ap (may_stand None) e) ∙ may) in
+    let never : (last : Link) → n.standing ≡ within last → ⊥ = λ last e. false≢true (sym (ap (may_stand None) e) ∙ may) in
     let count : length s.top ≡ length s.top + s.behind = omega (arith, f) in
     subst (λ (m : ℕ). OnTheWay w s.top s.target m (record { zone = n; node = n })) count (first_kept w s.top s.target n n.standing refl never below (subst (λ (p : Place). KeptUnder w s.top p n) top k))
 arrives w s (Some r) n below le f g may k =
@@ -92,7 +93,7 @@ making_sound w s asked n h further may k = by n.standing
 
     by : (x : Standing) → Sound w (made_by s asked n x)
     by (apex keys) = put
-    by within = put
+    by (within last) = put
     by (insecure cause signed) = put
     by (bogus cause) = (record { below = h.below; shorter = h.shorter; is_ahead = tt; on_way = there; pends = tt }, (k.0.0, k.1))
 
@@ -119,9 +120,9 @@ given_sound w s (Some n) h further i = by (counts w s.top (name_at s) n && may_s
         })
 
 -- at the island a walk can stand on any node that isn't within a zone
-may_first : (x : Standing) → (x ≡ within → ⊥) → may_stand None x ≡ true
+may_first : (x : Standing) → ((last : Link) → x ≡ within last → ⊥) → may_stand None x ≡ true
 may_first (apex keys) never = refl
-may_first within never = absurd (never refl)
+may_first (within last) never = absurd (never last refl)
 may_first (insecure cause signed) never = refl
 may_first (bogus cause) never = refl
 

@@ -76,7 +76,7 @@ insecure_is w replies group cause signed e = by_records (length group.records ==
     by_standing top f (apex keys) g h =
         let n = node_of w replies top (target_of group (Some top)) in
         absurd (let x : true ≡ false = sym (tried_is group n keys (under_keys w n.signer keys group)) ∙ ap IsTried h in cc)
-    by_standing top f within g h = absurd cc
+    by_standing top f (within last) g h = absurd cc
     by_standing top f (insecure c s) g h = let same : s ≡ signed = cc in subst (IsShownInsecure w group) same (insecure_node w replies group top c s f g)
     by_standing top f (bogus c) g h = absurd cc
 
@@ -107,7 +107,7 @@ found_has w group n (apex keys) = by (under_keys w n.signer keys group)
     by nothing = refl
     by all_bad = refl
     by too_many_bad = refl
-found_has w group n within = refl
+found_has w group n (within last) = refl
 found_has w group n (insecure cause signed) = refl
 found_has w group n (bogus cause) = refl
 

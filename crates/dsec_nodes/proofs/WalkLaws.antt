@@ -7,6 +7,7 @@ use Rattle.std.proofs.lemmas.List.{take-append-drop}
 use Rattle.dsec_spec.specs.Names.{Place, IsAtOrBelow, IsStrictlyBelow}
 use Rattle.dsec_spec.specs.Numbers.{DNSKEY}
 use Rattle.dsec_spec.specs.Records.{Record}
+use Rattle.dsec_spec.specs.Chain.{Link}
 use Rattle.dsec_nodes.specs.Replies.{read_reply}
 use Rattle.dsec_nodes.specs.World.{World, Replies, on_circle}
 use Rattle.dsec_nodes.specs.Nodes.{Node, Standing, apex, within, insecure, bogus, Kept, HoldsAt, IsBogus}
@@ -70,7 +71,7 @@ pub after_kept : (w : World) (top name : Place) (labels : ℕ) (r : Reached) (n 
 after_kept w top name labels r n (apex keys) e z k =
     on_way w top name (take (suc labels) name) (suc labels) (record { zone = n; node = n }) k (front_over name (suc labels))
     (λ _. zone_in w top name (suc labels) n keys e k)
-after_kept w top name labels r n within e z k =
+after_kept w top name labels r n (within last) e z k =
     on_way w top name (take (suc labels) name) (suc labels) (record { zone = r.zone; node = n }) k (front_over name (suc labels))
     (λ _. record { zone_held = z.zone_held; zone_rests = z.zone_rests; count = z.count; at_most = omega (arith, z.at_most); is = z.is })
 after_kept w top name labels r n (insecure cause signed) e z k =
@@ -118,11 +119,11 @@ top_over : (name top : Place) → top ≡ take (length top) name → IsAtOrBelow
 top_over name top t = subst (λ (p : Place). IsAtOrBelow name p) (sym t) (front_over name (length top))
 
 -- a walk begins at an island's node that is kept
-pub first_kept : (w : World) (top name : Place) (n : Node) (s : Standing) → n.standing ≡ s → (n.standing ≡ within → ⊥)
+pub first_kept : (w : World) (top name : Place) (n : Node) (s : Standing) → n.standing ≡ s → ((last : Link) → n.standing ≡ within last → ⊥)
     → top ≡ take (length top) name → KeptUnder w top top n → OnTheWay w top name (length top) (record { zone = n; node = n })
 first_kept w top name n (apex keys) e never t k = on_way w top name top (length top) (record { zone = n; node = n }) k (top_over name top t)
     (λ _. zone_in w top name (length top) n keys e (subst (λ (p : Place). KeptUnder w top p n) t k))
-first_kept w top name n within e never t k = absurd (never e)
+first_kept w top name n (within last) e never t k = absurd (never last e)
 first_kept w top name n (insecure cause signed) e never t k = on_way w top name top (length top) (record { zone = n; node = n }) k (top_over name top t)
     (λ g. absurd (false≢true (sym (ap goes_on e) ∙ g)))
 first_kept w top name n (bogus cause) e never t k = on_way w top name top (length top) (record { zone = n; node = n }) k (top_over name top t)

@@ -36,7 +36,7 @@ arrives w replies top name k n e f = by (goes_on (way w replies top name k).node
 -- the node after a node is that one
 pub after_node : (zone n : Node) (s : Standing) → (after zone n s).node ≡ n
 after_node zone n (apex keys) = refl
-after_node zone n within = refl
+after_node zone n (within last) = refl
 after_node zone n (insecure cause signed) = refl
 after_node zone n (bogus cause) = refl
 

@@ -55,7 +55,7 @@ abbrev pub by_alias : World → Node → List (List ℕ) → Place → List Grou
 by_alias w zone keys name authorities None = made (missing_ds w zone keys name authorities)
 by_alias w zone keys name authorities (Some group) =
     if length group.records == 1 then if_one w name (under_keys w zone.signer keys group) (λ p.
-    if is_expanded group p.0 then made (missing_ds w zone keys name authorities) else made (within_by w zone name group p))
+    if is_expanded group p.0 then made (missing_ds w zone keys name authorities) else made (within_by w zone keys name group p))
     else made (missing_ds w zone keys name authorities)
 
 -- a reply whose answer section has no DS set that counts (RFC 4035 5.2)

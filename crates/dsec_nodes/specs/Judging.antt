@@ -41,7 +41,7 @@ found_by group n keys too_many_bad = is_bogus TooManyBadSignatures n.links
 -- what is found of a group by the node of the zone that is to have signed it; below a name within a zone there are no keys (RFC 4033 5)
 abbrev pub found_at : World → Group → Node → Standing → Finding
 found_at w group n (apex keys) = found_by group n keys (under_keys w n.signer keys group)
-found_at w group n within = is_bogus NoSignature n.links
+found_at w group n (within last) = is_bogus NoSignature n.links
 found_at w group n (insecure cause signed) = is_insecure cause signed
 found_at w group n (bogus cause) = is_bogus cause n.links
 

@@ -29,16 +29,16 @@ bogus_at w name cause = record {
   bounds = w.bounds;
 }
 
--- a node within the zone, by a group that its keys have signed (RFC 4035 5.2)
-abbrev pub within_by : World → Node → Place → Group → Record × Key → Node
-within_by w zone name group p = record {
+-- a node within the zone, by a group that its keys have signed, whose link it keeps (RFC 4035 5.2)
+abbrev pub within_by : World → Node → List (List ℕ) → Place → Group → Record × Key → Node
+within_by w zone keys name group p = record {
   name = name;
   made = w.now;
   valid_for = kept_for w zone group p.0;
   anchor = zone.anchor;
   signer = zone.signer;
   links = zone.links;
-  standing = within;
+  standing = within (link_under chain.set keys group p);
   bounds = w.bounds;
 }
 
@@ -82,18 +82,18 @@ by_matching w zone keys name group nsec p =
     if is_expanded group p.0 then decided (bogus_at w name NsecForDsFromWildcard) else
     if has_type nsec.types DS then decided (bogus_at w name NsecProvesDs) else
     if has_type nsec.types SOA then decided (bogus_at w name NsecForDsFromApex) else
-    if has_type nsec.types NS then decided (insecure_by w zone keys name None nsec_without_ds group p) else decided (within_by w zone name group p)
+    if has_type nsec.types NS then decided (insecure_by w zone keys name None nsec_without_ds group p) else decided (within_by w zone keys name group p)
 
 -- an NSEC record whose next name shows that the name is an empty non-terminal, and so within the zone (RFC 4592 2.2.2)
-abbrev pub by_covering : World → Node → Place → Group → Record × Key → Looked
-by_covering w zone name group p =
-    if is_expanded group p.0 then decided (bogus_at w name EmptyNonTerminalNsecFromWildcard) else decided (within_by w zone name group p)
+abbrev pub by_covering : World → Node → List (List ℕ) → Place → Group → Record × Key → Looked
+by_covering w zone keys name group p =
+    if is_expanded group p.0 then decided (bogus_at w name EmptyNonTerminalNsecFromWildcard) else decided (within_by w zone keys name group p)
 
 -- an NSEC record with the name in its gap, and its next name below the name; another shows nothing (RFC 4034 4.1.1)
 abbrev pub by_range : World → Node → List (List ℕ) → Place → Group → Nsec → Looked
 by_range w zone keys name group nsec =
     if is_in_range (place group.owner) (place nsec.next_name) name && is_below (place nsec.next_name) name
-    then if_signed w name (under_keys w zone.signer keys group) (by_covering w zone name group) else passed (Some NsecNotUsable)
+    then if_signed w name (under_keys w zone.signer keys group) (by_covering w zone keys name group) else passed (Some NsecNotUsable)
 
 -- an NSEC record strictly above the name; with DNAME, or that of a delegation, it can't say what is below (RFC 6840 4.1)
 abbrev pub by_prefix : World → Node → List (List ℕ) → Place → Group → Nsec → Record × Key → Looked

@@ -6,14 +6,15 @@ use Rattle.dsec_spec.specs.Accepts.{Accepts}
 use Rattle.dsec_spec.specs.Chain.{Link, IsChain}
 use Rattle.dsec_nodes.specs.World.{Bounds, on_circle}
 use Rattle.dsec_nodes.specs.Causes.{Cause}
+use Rattle.dsec_nodes.specs.WithinCauses.{IsShownWithin}
 pub use Rattle.dsec_nodes.specs.SignedCauses.{Ground, nsec_without_ds, nsec3_without_ds, nsec3_opts_out, nsec3_iterates, ds_not_supported, SignedCause, Shows, IsSignedCause}
 
 -- what is known of a name (RFC 4033 5, RFC 4035 5.2)
 pub data Standing : Type 0 where
   -- a zone begins here: the data of its DNSKEY set
   apex : List (List ℕ) → Standing
-  -- it is in the zone above, and no zone begins here
-  within : Standing
+  -- it is in the zone above, and no zone begins here: the link of the set that shows it
+  within : Link → Standing
   -- no chain leads here: the cause, if one is told, and the signed record that shows it
   insecure : Option Cause → SignedCause → Standing
   -- what was found out isn't to be relied on
@@ -33,11 +34,12 @@ pub record Node : Type 0 where
   -- the bounds within which it was made
   pub bounds : Bounds
 
--- What holds of a node at a moment: of a zone that a chain leads to its keys; of a name within a zone that one leads to the zone's keys; of a
--- name to which none leads that a signed record shows it; of a bogus one nothing (RFC 4033 5)
+-- What holds of a node at a moment: of a zone that a chain leads to its keys; of a name within a zone that one leads to the zone's keys, and
+-- that a set of the zone's shows that no zone begins at the name; of a name to which none leads that a signed record shows it; of a bogus one
+-- nothing (RFC 4033 5)
 abbrev pub HoldsAt : Accepts → Bounds → Record → Place → Place → List Link → Standing → ℕ → Type 0
 HoldsAt accepts bounds anchor name signer links (apex keys) t = (name ≡ signer) × IsChain accepts (anchor ∷ []) links signer keys t
-HoldsAt accepts bounds anchor name signer links within t = (keys : List (List ℕ)) × IsChain accepts (anchor ∷ []) links signer keys t
+HoldsAt accepts bounds anchor name signer links (within last) t = IsShownWithin accepts anchor name signer links last t
 HoldsAt accepts bounds anchor name signer links (insecure cause signed) t = IsSignedCause accepts bounds anchor name signed t
 HoldsAt accepts bounds anchor name signer links (bogus cause) t = Unit {0}
 
@@ -45,6 +47,11 @@ HoldsAt accepts bounds anchor name signer links (bogus cause) t = Unit {0}
 abbrev pub IsBogus : Standing → Bool
 IsBogus (bogus cause) = true
 IsBogus _ = false
+
+-- whether it is within a zone, and none begins at the name (RFC 4033 5)
+abbrev pub IsWithin : Standing → Bool
+IsWithin (within last) = true
+IsWithin _ = false
 
 -- a node that isn't bogus has an anchor, and from it what it says holds at each moment for which it is kept (RFC 4035 4.5, 5.3.3)
 abbrev pub Kept : Accepts → Node → Type 0

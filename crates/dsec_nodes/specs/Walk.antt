@@ -82,7 +82,7 @@ after zone n _ = record { zone = zone; node = n }
 -- whether a walk goes on below a node: below a zone and below what is within one, and nowhere else (RFC 4033 5)
 abbrev pub goes_on : Standing → Bool
 goes_on (apex keys) = true
-goes_on within = true
+goes_on (within last) = true
 goes_on (insecure cause signed) = false
 goes_on (bogus cause) = false
 
@@ -106,6 +106,6 @@ node_of w replies top name = (way w replies top name (length name - length top))
 -- whether a walk that has reached this can stand on a node: it doesn't begin at one that is within a zone, whose zone it doesn't know
 -- (RFC 4033 2)
 abbrev pub may_stand : Option Reached → Standing → Bool
-may_stand None within = false
+may_stand None (within last) = false
 may_stand None _ = true
 may_stand (Some r) _ = true

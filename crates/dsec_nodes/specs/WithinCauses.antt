@@ -3,14 +3,13 @@ use Rattle.std.specs.Prelude.{◌≡◌, ◌⊎◌, ℕ, ◌&&◌, List, [], ◌
 use Rattle.std.proofs.Math.Bool.{not}
 use Rattle.dsec_spec.specs.Names.{Place, place, IsAtOrBelow, IsStrictlyBelow}
 use Rattle.dsec_spec.specs.Numbers.{IN, NS, SOA, DS, CNAME, DNAME, NSEC}
-use Rattle.dsec_spec.specs.Records.{Record, RecordSet, Key}
+use Rattle.dsec_spec.specs.Records.{Record, RecordSet, Rrsig, rrsig_of}
 use Rattle.dsec_spec.specs.RecordViews.{Nsec, nsec_of}
 use Rattle.dsec_spec.specs.DenyingRecords.{NsecAt, Matches, Covers, has, next_of, owner_of}
-use Rattle.dsec_spec.specs.Groups.{Group, set_in}
-use Rattle.dsec_nodes.specs.World.{World}
-use Rattle.dsec_nodes.specs.Signing.{is_expanded}
+use Rattle.dsec_spec.specs.Accepts.{Accepts}
+use Rattle.dsec_spec.specs.SignedBytes.{IsExpansion}
+use Rattle.dsec_spec.specs.Chain.{Link, IsSetLink, IsChain}
 use Rattle.dsec_nodes.specs.SignedCauses.{nsec_at}
-use Rattle.dsec_nodes.specs.Held.{GoodPair}
 
 -- one CNAME record at the name, beside which no DNSKEY set can stand (RFC 1034 3.6.2, RFC 2181 10.1)
 pub record HasAlias (c : Place) (set : RecordSet) : Type 0 where
@@ -47,12 +46,15 @@ pub record HasNamesBelow (c : Place) (r : NsecAt) : Type 0 where
 abbrev pub ShowsNoZone : Place → RecordSet → Type 0
 ShowsNoZone c set = HasAlias c set ⊎ ((r : NsecAt) × IsOneNsec set r × (HasNoCut c r ⊎ HasNamesBelow c r))
 
--- a group of class IN that a zone's keys have signed, and that is no expansion of a wildcard, shows that no zone begins at the name
--- (RFC 4035 5.3.4)
-pub record IsShownWithin (w : World) (zone : Place) (keys : List (List ℕ)) (c : Place) : Type 0 where
-  pub group : Group
-  pub pair : Record × Key
-  pub signed : GoodPair w zone keys group pair
-  pub of_class : group.class ≡ IN
-  pub no_expansion : is_expanded group pair.0 ≡ false
-  pub shows : ShowsNoZone c (set_in group)
+-- A chain leads from the anchor by the links to the zone's keys, and by the last link one of these has signed a set of class IN that is no
+-- expansion of a wildcard and shows that no zone begins at the name, which is below the zone (RFC 4035 5.2, 5.3.4)
+pub record IsShownWithin (accepts : Accepts) (anchor : Record) (c zone : Place) (links : List Link) (last : Link) (t : ℕ) : Type 0 where
+  pub keys : List (List ℕ)
+  pub leads : IsChain accepts (anchor ∷ []) links zone keys t
+  pub is_set : IsSetLink accepts zone keys last t
+  pub below : IsStrictlyBelow c zone
+  pub of_class : last.records.class ≡ IN
+  pub signature : Rrsig
+  pub reads : rrsig_of last.rrsig ≡ Some signature
+  pub no_expansion : IsExpansion signature.labels last.records.owner → ⊥
+  pub shows : ShowsNoZone c last.records

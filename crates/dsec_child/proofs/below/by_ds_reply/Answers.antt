@@ -19,7 +19,7 @@ returns-in-Sections-clause-pending g c =
     if_ok c.by_sections.result (λ it h keys pending says asked.
     subst (λ (ks : List (List ℕ)). IsPending w a.zone.now ks pending) (same_keys its keys (sym begins ∙ says))
     (follows_pending w a.zone.now its (place a.name.now) (sections c.as_slice.result.now c.as_slice-in-Sections.result.now) c.standing.ensures.kept begins c.requires.made c.requires.counts c.requires.under (below_view it) h pending asked))
-    c.by_sections.ensures
+    c.by_sections.ensures.below
 
 pub returns-in-Failed-clause-below : goal.returns-in-Failed-clause-below
 returns-in-Failed-clause-below g c = λ keys says.

@@ -10,8 +10,8 @@ use Rattle.dsec_child.specs.declared.signed_set.SignedSet.TheVariants.{Refused}
 use Rattle.dsec_child.proofs.BelowSteps.{ds_refused, under_is}
 use Rattle.dsec_child.proofs.ds_set.by_ds_set.Goals as goal
 
-pub returns-in_ok-node-in-Refused : goal.returns-in_ok-node-in-Refused
-returns-in_ok-node-in-Refused g c = λ answers authorities.
+pub returns-in_ok-node-in-Refused-clause-below : goal.returns-in_ok-node-in-Refused-clause-below
+returns-in_ok-node-in-Refused-clause-below g c = λ answers authorities.
     let accepts = g.V.Verifier.accepts in
     let a = c.args in
     let w = world_of accepts [] (bounds_of a.config.now) a.now in

@@ -1,4 +1,4 @@
-use Rattle.std.proofs.Common.{◌≡◌, [], None, map, ap, ◌∙◌, subst}
+use Rattle.std.proofs.Common.{[], None, map, ap, ◌∙◌, subst}
 use Rattle.dsec_spec.specs.Names.{place}
 use Rattle.dsec_link.specs.TaggedKeys.{tagged_view}
 use Rattle.dsec_nodes.specs.MissingDs.{bogus_at, insecure_by, nsec_search, within_by}
@@ -24,21 +24,35 @@ insecure-requires-clause-kept g c =
       decided_kept w a.zone.now a.keys.now name a.groups.now said c.requires.above (insecure_by w a.zone.now a.keys.now name None nsec_without_ds group there.1) (finds group there.1 stands),
     )
 
+pub within-requires-clause-kept : goal.within-requires-clause-kept
+within-requires-clause-kept g c =
+    let a = c.args in
+    let w = world_of g.V.Verifier.accepts [] (bounds_of a.config.now) a.now in
+    let said = map tagged_view a.said.now in
+    let name = place a.name.now in
+    let group = c.index-groups-at.result in
+    let there = subst (AreThere a.groups.now said) c.in-Within.is c.requires.there in
+    let finds = subst (λ f. Finds w a.zone.now a.keys.now name a.groups.now said f (nsec_search w a.zone.now a.keys.now name a.groups.now)) c.in-Within.is c.requires.finds in
+    let stands = stands_read a.groups.now said c.in-Within.at there.0 group there.1 there.2 c.index-groups-at.is in (
+      there.1,
+      record { signature_there = stands.signature_there; key_there = stands.key_there },
+      decided_kept w a.zone.now a.keys.now name a.groups.now said c.requires.above (within_by w a.zone.now a.keys.now name group there.1) (finds group there.1 stands),
+    )
+
 pub returns-in-Within : goal.returns-in-Within
 returns-in-Within g c =
-    let accepts = g.V.Verifier.accepts in
     let a = c.args in
-    let w = world_of accepts [] (bounds_of a.config.now) a.now in
+    let w = world_of g.V.Verifier.accepts [] (bounds_of a.config.now) a.now in
     let said = map tagged_view a.said.now in
     let name = place a.name.now in
     let group = c.index-groups-at.result in
     let there = subst (AreThere a.groups.now said) c.in-Within.is c.requires.there in
     let finds = subst (λ f. Finds w a.zone.now a.keys.now name a.groups.now said f (nsec_search w a.zone.now a.keys.now name a.groups.now)) c.in-Within.is c.requires.finds in
     let stands = stands_read a.groups.now said c.in-Within.at there.0 group there.1 there.2 c.index-groups-at.is in
-    if_ok c.within_node.result (λ n h.
-    subst (λ b. n ≡ within_by (world_of accepts [] b a.now) a.zone.now name group there.1) c.bounds-bounds.ensures (h there.1 stands.signature_there)
-    ∙ missing_decided w a.zone.now a.keys.now name a.groups.now (within_by w a.zone.now name group there.1) (finds group there.1 stands))
-    c.within_node.ensures
+    if_ok c.within.result (λ n h.
+    h there.1 (record { signature_there = stands.signature_there; key_there = stands.key_there })
+    ∙ missing_decided w a.zone.now a.keys.now name a.groups.now (within_by w a.zone.now a.keys.now name group there.1) (finds group there.1 stands))
+    c.within.ensures
 
 pub returns-in-Insecure : goal.returns-in-Insecure
 returns-in-Insecure g c =
