@@ -1,0 +1,16 @@
+-- What a reply comes to, as the code has it between hearing it and going on.
+use Rattle.std.specs.Prelude.{ℕ, List, Option}
+use Rattle.dsec_spec.specs.Numbers.{DS, DNSKEY}
+use Rattle.dsec_nodes.specs.ByDs.{Pending}
+use Rattle.dsec_nodes.specs.Machine.{Walking, Step, ask, heard, making, name_at, with_pending}
+use Rattle.dsec_walk.specs.declared.reached.Next.{Next}
+use Rattle.dsec_walk.specs.declared.reached.Next.TheVariants.{Made, Asks}
+
+-- the DNSKEY set is asked for, after this reply to the question for the DS set (RFC 4035 5.2)
+abbrev pub pended : Walking → Option (List ℕ) → Pending → Walking × Step
+pended s octets pending = (with_pending s (heard s DS octets) pending, ask (name_at s) DNSKEY)
+
+-- the step after a reply that comes to this
+abbrev pub result_by : {V : Type 0} → Walking → Option (List ℕ) → Next V → Walking × Step
+result_by s octets (Made rtype node) = making s (heard s rtype octets) node
+result_by s octets (Asks pending) = pended s octets pending

@@ -1,0 +1,88 @@
+//! How far a walk has come.
+
+ghost use Rattle.std.specs.Prelude.{◌≡◌, IfOk};
+ghost use Rattle.std.specs.Arc.{arc_value};
+ghost use Rattle.std.specs.Option.{option_map};
+ghost use Rattle.dsec_node.specs.Views.{standing_view};
+ghost use Rattle.dsec_nodes.specs.Machine.{arrived as arrived_at};
+ghost use Rattle.dsec_nodes.specs.Nodes as nodes;
+ghost use Rattle.dsec_nodes.specs.Walk as walks;
+ghost use Rattle.dsec_spec.specs.Names.{place};
+ghost use Rattle.dsec_walk.specs.UnderWay.{stands_at as anchor_stands_at};
+ghost use Rattle.dsec_walk.specs.Views.{here_view};
+
+use dsec_crypto::Verifier;
+use dsec_name::{Name, NoMemory};
+use dsec_node::{Node, Pending, Standing};
+use dsec_number::Rtype;
+use std::sync::Arc;
+
+/// How far a walk has come.
+#[derive(Drop)]
+pub(crate) struct Here<V: Verifier> {
+    /// The last zone on the way.
+    pub(crate) zone: Arc<Node<V>>,
+    /// The last node.
+    pub(crate) node: Arc<Node<V>>,
+}
+
+/// What a reply comes to.
+#[derive(Drop)]
+pub(crate) enum Next<V: Verifier> {
+    /// This node, by the question for this type.
+    Made(Rtype, Node<V>),
+    /// The question for a DNSKEY set, which the DS set is to admit.
+    Asks(Pending),
+}
+
+/// Whether a walk goes on below a node: below a zone, and below what is within one (RFC 4033 5).
+pub(crate) fn goes_on(standing: &Standing) -> bool
+    ensures { result ≡ walks.goes_on (standing_view standing.now) }
+{
+    !matches!(standing, Standing::Insecure(_, _) | Standing::Bogus(_))
+}
+
+/// Whether it is bogus.
+pub(crate) fn is_bogus(standing: &Standing) -> bool
+    ensures { result ≡ nodes.IsBogus (standing_view standing.now) }
+{
+    matches!(standing, Standing::Bogus(_))
+}
+
+/// Whether a node's anchor stands at a name.
+pub(crate) fn stands_at<V: Verifier>(node: &Node<V>, top: &Name) -> bool
+    ensures { result ≡ anchor_stands_at (place top.now) node.now.anchor }
+{
+    match node.anchor() {
+        Some(anchor) => *anchor.owner() == *top,
+        None => false,
+    }
+}
+
+/// What is reached by a node at the next name.
+pub(crate) fn arrived<V: Verifier>(
+    here: &Option<Here<V>>,
+    node: &Arc<Node<V>>,
+) -> Result<Here<V>, NoMemory>
+    ensures { IfOk result (λ it. here_view it ≡ arrived_at (option_map here_view here.now) (arc_value node.now)) }
+{
+    let copy = Arc::try_clone(node)?;
+    let zone = match here {
+        Some(before) => zone_after(&before.zone, node)?,
+        None => Arc::try_clone(node)?,
+    };
+    Ok(Here { zone, node: copy })
+}
+
+/// The last zone on the way, with a node at the next name.
+fn zone_after<V: Verifier>(
+    zone: &Arc<Node<V>>,
+    node: &Arc<Node<V>>,
+) -> Result<Arc<Node<V>>, NoMemory>
+    ensures { IfOk result (λ z. record { zone = arc_value z; node = arc_value node.now } ≡ walks.after (arc_value zone.now) (arc_value node.now) (arc_value node.now).standing) }
+{
+    match node.standing() {
+        Standing::Apex(_) => Ok(Arc::try_clone(node)?),
+        _ => Ok(Arc::try_clone(zone)?),
+    }
+}
