@@ -1,0 +1,4 @@
+pub mod Lists
+pub mod WalkSteps
+pub mod GroupLaws
+pub mod AgreeingLaws
