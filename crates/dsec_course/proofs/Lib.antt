@@ -1,4 +1,9 @@
 pub mod Lists
 pub mod WalkSteps
+pub mod WalkPuts
 pub mod GroupLaws
 pub mod AgreeingLaws
+pub mod FoundLaws
+pub mod EndLaws
+pub mod SoundLaws
+pub mod BeginningLaws
