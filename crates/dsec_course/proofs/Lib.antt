@@ -7,3 +7,6 @@ pub mod FoundLaws
 pub mod EndLaws
 pub mod SoundLaws
 pub mod BeginningLaws
+pub mod AskingLaws
+pub mod StepLaws
+pub mod EndingLaws
