@@ -10,3 +10,5 @@ pub mod BeginningLaws
 pub mod AskingLaws
 pub mod StepLaws
 pub mod EndingLaws
+pub mod TraceLaws
+pub mod RunLaws
