@@ -12,3 +12,5 @@ pub mod StepLaws
 pub mod EndingLaws
 pub mod TraceLaws
 pub mod RunLaws
+pub mod RunExample
+pub mod SecureExample
