@@ -10,7 +10,7 @@ use Rattle.dsec_nodes.specs.Causes.{TooManyUnsignedCnames}
 use Rattle.dsec_nodes.specs.Machine.{begin}
 use Rattle.dsec_nodes.specs.Outcomes.{Outcome, by_nothing, bogus_by, not_built}
 use Rattle.dsec_nodes.specs.Alone.{Refusal, unreadable, on_groups, on_sections, sections_of, alone}
-use Rattle.dsec_course.specs.Course.{to_end, Course, CourseAnswers, walks_in}
+use Rattle.dsec_course.specs.Course.{to_end, Course, CourseAnswers, groups_in, walks_in}
 use Rattle.dsec_course.specs.Advancing.{beginning, begun_with, begun_by, begun}
 use Rattle.dsec_course.specs.Agreeing.{CourseInStep}
 use Rattle.dsec_course.specs.Justified.{SoundCourse}
@@ -94,6 +94,7 @@ begun_sound w most message c e = by_sections (sections_of message) refl e
 pub record HasNothing (c : Course) : Type 0 where
   pub begins : CourseAnswers c.waits begin
   pub no_walks : walks_in c ≡ []
+  pub groups_are : groups_in c ≡ c.left
 
 pub begun_waits : (most : ℕ) (message : List ℕ) (c : Course) → begun most message ≡ Ok c → HasNothing c
 begun_waits most message c e = by_sections (sections_of message) e
@@ -102,13 +103,13 @@ begun_waits most message c e = by_sections (sections_of message) e
     Sections = List Question × List Record × List Record
 
     by_moved : (s : Sections) (m : Option (List Group)) → HasNothing (begun_with message s.0 m (groups_of s.2))
-    by_moved s None = record { begins = tt; no_walks = refl }
-    by_moved s (Some answers) = record { begins = tt; no_walks = refl }
+    by_moved s None = record { begins = tt; no_walks = refl; groups_are = refl }
+    by_moved s (Some answers) = record { begins = tt; no_walks = refl; groups_are = refl }
 
     by_bare : (s : Sections) (b : Bool)
         → cond {A = Result Course Refusal} b (Ok (beginning message s.0 0 [] (to_end not_built))) (Ok (begun_with message s.0 (moved most (groups_of s.1)) (groups_of s.2))) ≡ Ok c
         → HasNothing c
-    by_bare s true g = let same : beginning message s.0 0 [] (to_end not_built) ≡ c = cc in subst HasNothing same (record { begins = tt; no_walks = refl })
+    by_bare s true g = let same : beginning message s.0 0 [] (to_end not_built) ≡ c = cc in subst HasNothing same (record { begins = tt; no_walks = refl; groups_are = refl })
     by_bare s false g =
         let same : begun_with message s.0 (moved most (groups_of s.1)) (groups_of s.2) ≡ c = cc in
         subst HasNothing same (by_moved s (moved most (groups_of s.1)))

@@ -8,6 +8,7 @@ pub mod EndLaws
 pub mod SoundLaws
 pub mod BeginningLaws
 pub mod AskingLaws
+pub mod LabelLaws
 pub mod StepLaws
 pub mod EndingLaws
 pub mod TraceLaws

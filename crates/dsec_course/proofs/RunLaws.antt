@@ -1,7 +1,9 @@
 -- A message judged over nodes that are of a table, and over empty caches, ends with the outcome of the recursion.
-use Rattle.std.proofs.Common.{◌≡◌, ◌⊎◌, ℕ, List, [], ◌∷◌, ◌++◌, Result, Ok, refl, sym, subst, inl, inr}
+use Rattle.std.proofs.Common.{◌≡◌, ◌⊎◌, ℕ, ◌*◌, ◌≤◌, List, [], ◌∷◌, ◌++◌, length, Result, Ok, refl, sym, subst, inl, inr, arith}
 use Rattle.std.specs.Prelude.{Contains}
 use Rattle.std.specs.List.{AllByRecursion}
+use Rattle.dsec_spec.specs.Names.{IsName}
+use Rattle.dsec_spec.specs.Groups.{Group}
 use Rattle.dsec_spec.proofs.Members.{in_either, not_in_none}
 use Rattle.dsec_nodes.specs.World.{World, Replies}
 use Rattle.dsec_nodes.specs.Nodes.{Node, Kept}
@@ -10,7 +12,7 @@ use Rattle.dsec_nodes.specs.Machine.{Question as Asked, Input, begin}
 use Rattle.dsec_nodes.specs.InStep.{AskedOf}
 use Rattle.dsec_nodes.specs.Outcomes.{Outcome}
 use Rattle.dsec_nodes.specs.Alone.{Refusal, alone}
-use Rattle.dsec_course.specs.Course.{Waiting, to_begin, to_end, for_walk, for_nothing, Course, CourseStep, get, end, CourseAnswers, walks_in, asked_in}
+use Rattle.dsec_course.specs.Course.{Waiting, to_begin, to_end, for_walk, for_nothing, Course, CourseStep, get, end, CourseAnswers, groups_in, walks_in, asked_in}
 use Rattle.dsec_course.specs.Advancing.{begun, course_advanced}
 use Rattle.dsec_course.specs.Agreeing.{CourseOf, CourseInStep, CourseStepIs, CourseGoes}
 use Rattle.dsec_course.specs.Justified.{SoundCourse, SoundGoing}
@@ -20,13 +22,17 @@ use Rattle.dsec_course.proofs.AgreeingLaws.{course_goes}
 use Rattle.dsec_course.proofs.SoundLaws.{course_sound}
 use Rattle.dsec_course.proofs.BeginningLaws.{begun_in_step, begun_sound, begun_waits}
 use Rattle.dsec_course.proofs.TraceLaws.{Trace, in_longer, walks_of, given_on, put_kept, put_of_table, input_kept}
+use Rattle.dsec_course.proofs.AskingLaws.{course_asks, groups_stay}
+use Rattle.dsec_course.proofs.LabelLaws.{most_for_names, begun_named}
 use Rattle.dsec_course.proofs.StepLaws.{asked_grows, course_awaits}
 
 -- a run from a course that is sound and in step goes on so
 run_on : (w : World) (most : ℕ) (message : List ℕ) (held : Node → Type 0) (r : Run) (input : Input)
     → ((n : Node) → held n → Kept w.accepts n) → SoundCourse w most message r.course → CourseInStep w most message r.course
-    → Traces w held r → CourseAnswers r.course.waits input → GivenFrom held r.puts input → HoldsRun w most message held (ran_on w r input)
-run_on w most message held r input kept sound steps t a from = record {
+    → Traces w held r → AllByRecursion (λ (g : Group). IsName g.owner) (groups_in r.course) → CourseAnswers r.course.waits input
+    → GivenFrom held r.puts input → HoldsRun w most message held (ran_on w r input)
+run_on w most message held r input kept sound steps t named a from = record {
+  named = subst (AllByRecursion (λ (g : Group). IsName g.owner)) (sym (groups_stay w r.course input a)) named;
   sound = going;
   goes = goes;
   awaits = course_awaits w most message r.course input sound a;
@@ -72,7 +78,7 @@ run_on w most message held r input kept sound steps t a from = record {
 pub run_goes_on : (w : World) (most : ℕ) (message : List ℕ) (held : Node → Type 0) (r : Run) (input : Input)
     → ((n : Node) → held n → Kept w.accepts n) → HoldsRun w most message held r → CourseAnswers r.course.waits input
     → GivenFrom held r.puts input → HoldsRun w most message held (ran_on w r input)
-run_goes_on w most message held r input kept h a from = run_on w most message held r input kept h.sound.0 h.goes.in_step h.traced a from
+run_goes_on w most message held r input kept h a from = run_on w most message held r input kept h.sound.0 h.goes.in_step h.traced h.named a from
 
 -- a message begins a run
 pub run_begins : (w : World) (most : ℕ) (message : List ℕ) (held : Node → Type 0) (c : Course) → ((n : Node) → held n → Kept w.accepts n)
@@ -83,7 +89,13 @@ run_begins w most message held c kept e =
       given = subst (AllByRecursion (Trace w held [])) (sym n.no_walks) tt;
       kept = λ x there. absurd (not_in_none x there);
       of_table = λ replies h asked x there. absurd (not_in_none x there);
-    }) n.begins tt
+    }) (subst (AllByRecursion (λ (g : Group). IsName g.owner)) (sym n.groups_are) (begun_named most message c e)) n.begins tt
+
+-- a run asks at most 255 questions for each group of its message (RFC 1035 2.3.4, RFC 4035 5.2)
+pub run_asks : (w : World) (most : ℕ) (message : List ℕ) (held : Node → Type 0) (r : Run) → HoldsRun w most message held r
+    → length (asked_in r.course) ≤ 255 * length (groups_in r.course)
+run_asks w most message held r h =
+    omega (arith, course_asks w most message r.course h.sound.0, most_for_names w (groups_in r.course) h.named)
 
 -- where what was held is of a table, and the replies are the table's, so are the nodes that a message was given
 pub run_of_table : (w : World) (most : ℕ) (message : List ℕ) (held : Node → Type 0) (r : Run) (replies : Replies) → HoldsRun w most message held r

@@ -1,14 +1,14 @@
 -- A message judged over nodes that were held before and an upstream: what it was given, and what it put (RFC 4035 4.5).
 use Rattle.std.specs.Prelude.{◌≡◌, ◌⊎◌, ℕ, List, [], ◌∷◌, ◌++◌, Contains, Some, None}
 use Rattle.std.specs.List.{AllByRecursion}
-use Rattle.dsec_spec.specs.Names.{Place}
+use Rattle.dsec_spec.specs.Names.{Place, IsName}
 use Rattle.dsec_nodes.specs.World.{World, Replies}
 use Rattle.dsec_nodes.specs.Nodes.{Node, Kept}
 use Rattle.dsec_nodes.specs.Walk.{node_of}
 use Rattle.dsec_nodes.specs.Taking.{RestsAt}
 use Rattle.dsec_nodes.specs.Machine.{Question as Asked, Input, begin, node, stored, reply, name_at, asked_type}
 use Rattle.dsec_nodes.specs.InStep.{AskedOf}
-use Rattle.dsec_course.specs.Course.{Waiting, for_walk, Course, CourseStep, get, put, ask_for, end, CourseAnswers, Awaits, walks_in, asked_in}
+use Rattle.dsec_course.specs.Course.{Waiting, for_walk, Course, CourseStep, get, put, ask_for, end, CourseAnswers, Awaits, groups_in, walks_in, asked_in}
 use Rattle.dsec_course.specs.Advancing.{course_advanced}
 use Rattle.dsec_course.specs.Agreeing.{CourseGoes}
 use Rattle.dsec_course.specs.Justified.{SoundGoing}
@@ -77,9 +77,11 @@ pub record Traces (w : World) (held : Node → Type 0) (r : Run) : Type 0 where
   pub of_table : (replies : Replies) → ((n : Node) → held n → IsOfTable w replies n) → AskedOf replies (asked_in r.course)
       → (n : Node) → Contains r.puts n → IsOfTable w replies n
 
--- a run that is sound, in step with the recursion, and of what it was given; it waits for what answers its step
+-- a run that is sound, in step with the recursion, and of what it was given; it waits for what answers its step; and the owners of its groups are
+-- names (RFC 1035 2.3.4)
 pub record HoldsRun (w : World) (most : ℕ) (message : List ℕ) (held : Node → Type 0) (r : Run) : Type 0 where
   pub sound : SoundGoing w most message (r.course, r.step)
   pub goes : CourseGoes w most message (r.course, r.step)
   pub traced : Traces w held r
   pub awaits : Awaits r.step r.course.waits
+  pub named : AllByRecursion (λ g. IsName g.owner) (groups_in r.course)
