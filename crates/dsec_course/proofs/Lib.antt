@@ -1,0 +1,17 @@
+pub mod Lists
+pub mod WalkSteps
+pub mod WalkPuts
+pub mod GroupLaws
+pub mod AgreeingLaws
+pub mod FoundLaws
+pub mod EndLaws
+pub mod SoundLaws
+pub mod BeginningLaws
+pub mod AskingLaws
+pub mod LabelLaws
+pub mod StepLaws
+pub mod EndingLaws
+pub mod TraceLaws
+pub mod RunLaws
+pub mod RunExample
+pub mod SecureExample

@@ -1,0 +1,2 @@
+//! Judging a message a step at a time, from its groups to its outcome.
+#![tactic(auto)]
