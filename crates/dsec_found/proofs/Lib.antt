@@ -1,0 +1,4 @@
+pub mod IslandSteps
+pub mod TargetSteps
+pub mod FoundSteps
+pub mod AnswerSteps

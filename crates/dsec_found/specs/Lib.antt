@@ -1,0 +1,5 @@
+pub mod Errors
+pub mod Founds
+pub mod Told
+pub mod Outcomes
+pub mod Begun

@@ -1,0 +1,58 @@
+-- What a message comes to, as the code keeps it (RFC 4033 5).
+use Rattle.std.specs.Prelude.{List, [], ◌∷◌, ◌++◌, Option, Some, None}
+use Rattle.std.specs.Arc.{arc_value}
+use Rattle.dsec_group.specs.declared.state.ValidationState.{ValidationState}
+use Rattle.dsec_group.specs.declared.state.ValidationState.TheVariants as states
+use Rattle.dsec_spec.specs.Chain.{Link}
+use Rattle.dsec_nodes.specs.Causes.{Cause}
+use Rattle.dsec_nodes.specs.Nodes.{Standing, apex, within, insecure, bogus}
+use Rattle.dsec_nodes.specs.Judging as judging
+use Rattle.dsec_nodes.specs.Judging.{Judged, Finding, is_shown, has_no_set, is_insecure, is_bogus, is_indeterminate, all, one_bogus}
+use Rattle.dsec_nodes.specs.Outcomes as outcomes
+use Rattle.dsec_nodes.specs.Outcomes.{by_groups, by_cause, by_links, by_nothing}
+use Rattle.dsec_found.specs.declared.outcome.Why.{Why}
+use Rattle.dsec_found.specs.declared.outcome.Why.TheVariants.{ByGroups, ByCause, ByLinks, ByNothing}
+use Rattle.dsec_found.specs.declared.section.AllJudged.{AllJudged}
+use Rattle.dsec_found.specs.declared.section.AllJudged.TheVariants.{All, OneBogus}
+
+-- a status
+abbrev pub state_view : ValidationState → outcomes.State
+state_view states.Secure = outcomes.secure
+state_view states.Insecure = outcomes.insecure
+state_view states.Bogus = outcomes.bogus
+state_view states.Indeterminate = outcomes.indeterminate
+
+-- the signed cause that a node holds, where it holds one
+abbrev pub cause_in : Standing → outcomes.Why
+cause_in (insecure cause signed) = by_cause signed
+cause_in (apex keys) = by_nothing
+cause_in within = by_nothing
+cause_in (bogus cause) = by_nothing
+
+-- why a status was found
+abbrev pub why_view : {V : Type 0} → Why V → outcomes.Why
+why_view (ByGroups judged) = by_groups judged.items
+why_view (ByCause node) = cause_in (arc_value node).standing
+why_view (ByLinks node) = by_links (arc_value node).links
+why_view ByNothing = by_nothing
+
+-- what judging a section's groups came to
+abbrev pub section_view : {V : Type 0} → AllJudged V → judging.AllJudged
+section_view (All judged) = all judged.items
+section_view (OneBogus cause node) = one_bogus cause (arc_value node).links
+
+-- groups that are all judged, and one after them (RFC 4033 5)
+abbrev pub and_next : List Judged → Judged → Finding → judging.AllJudged
+and_next js j (is_bogus cause links) = one_bogus cause links
+and_next js j (is_shown links last signature) = all (js ++ j ∷ [])
+and_next js j has_no_set = all (js ++ j ∷ [])
+and_next js j (is_insecure cause signed) = all (js ++ j ∷ [])
+and_next js j is_indeterminate = all (js ++ j ∷ [])
+
+-- a bogus group's cause, and the links to the zone whose keys were tried
+abbrev pub bogus_of : Finding → Option (Cause × List Link)
+bogus_of (is_bogus cause links) = Some (cause, links)
+bogus_of (is_shown links last signature) = None
+bogus_of has_no_set = None
+bogus_of (is_insecure cause signed) = None
+bogus_of is_indeterminate = None
