@@ -1,22 +1,22 @@
 -- A message judged over nodes that are of a table, and over empty caches, ends with the outcome of the recursion.
-use Rattle.std.proofs.Common.{◌≡◌, ◌⊎◌, ℕ, ◌*◌, ◌≤◌, List, [], ◌∷◌, ◌++◌, length, Result, Ok, refl, sym, subst, inl, inr, arith}
+use Rattle.std.proofs.Common.{◌≡◌, ◌⊎◌, ℕ, ◌*◌, ◌≤◌, List, [], ◌∷◌, ◌++◌, length, Option, Result, Ok, refl, sym, ap, ◌∙◌, subst, inl, inr, arith, append-nil}
 use Rattle.std.specs.Prelude.{Contains}
 use Rattle.std.specs.List.{AllByRecursion}
-use Rattle.dsec_spec.specs.Names.{IsName}
+use Rattle.dsec_spec.specs.Names.{Place, IsName}
 use Rattle.dsec_spec.specs.Groups.{Group}
 use Rattle.dsec_spec.proofs.Members.{in_either, not_in_none}
 use Rattle.dsec_nodes.specs.World.{World, Replies}
 use Rattle.dsec_nodes.specs.Nodes.{Node, Kept}
 use Rattle.dsec_nodes.specs.Taking.{RestsAt}
-use Rattle.dsec_nodes.specs.Machine.{Question as Asked, Input, begin}
+use Rattle.dsec_nodes.specs.Machine.{Question as Asked, Input, begin, node, stored, reply}
 use Rattle.dsec_nodes.specs.InStep.{AskedOf}
 use Rattle.dsec_nodes.specs.Outcomes.{Outcome}
 use Rattle.dsec_nodes.specs.Alone.{Refusal, alone}
-use Rattle.dsec_course.specs.Course.{Waiting, to_begin, to_end, for_walk, for_nothing, Course, CourseStep, get, end, CourseAnswers, groups_in, walks_in, asked_in}
+use Rattle.dsec_course.specs.Course.{Waiting, to_begin, to_end, for_walk, for_nothing, Course, CourseStep, get, put, ask_for, end, CourseAnswers, Awaits, groups_in, walks_in, asked_in, asked_by}
 use Rattle.dsec_course.specs.Advancing.{begun, course_advanced}
 use Rattle.dsec_course.specs.Agreeing.{CourseOf, CourseInStep, CourseStepIs, CourseGoes}
 use Rattle.dsec_course.specs.Justified.{SoundCourse, SoundGoing}
-use Rattle.dsec_course.specs.Hearing.{Run, put_by, first_run, ran_on, GivenFrom, AreHeard, after_heard, asked_by, IsOfTable, Traces, HoldsRun}
+use Rattle.dsec_course.specs.Hearing.{Run, put_by, first_run, ran_on, GivenFrom, AreHeard, after_heard, IsOfTable, Traces, HoldsRun}
 use Rattle.dsec_course.proofs.Lists.{all_front, all_map}
 use Rattle.dsec_course.proofs.AgreeingLaws.{course_goes}
 use Rattle.dsec_course.proofs.SoundLaws.{course_sound}
@@ -96,6 +96,41 @@ pub run_asks : (w : World) (most : ℕ) (message : List ℕ) (held : Node → Ty
     → length (asked_in r.course) ≤ 255 * length (groups_in r.course)
 run_asks w most message held r h =
     omega (arith, course_asks w most message r.course h.sound.0, most_for_names w (groups_in r.course) h.named)
+
+-- a reply is kept with the question of the step that it answers
+pub run_asked : (w : World) (most : ℕ) (message : List ℕ) (held : Node → Type 0) (r : Run) (name : Place) (rtype : ℕ) (octets : Option (List ℕ))
+    → HoldsRun w most message held r → r.step ≡ ask_for name rtype
+    → asked_in (ran_on w r (reply octets)).course ≡ asked_in r.course ++ record { name = name; rtype = rtype; reply = octets } ∷ []
+run_asked w most message held r name rtype octets h e =
+    let a = subst (λ (x : CourseStep). Awaits x r.course.waits) e h.awaits octets in
+    asked_grows w most message r.course (reply octets) h.sound.0 a.0 ∙ ap (λ (qs : List Asked). asked_in r.course ++ qs) a.1
+
+-- a node that is got, or put, asks nothing
+unasked_node : (waits : Waiting) (o : Option Node) → asked_by waits (node o) ≡ []
+unasked_node to_begin o = refl
+unasked_node (to_end x) o = refl
+unasked_node (for_walk group s) o = refl
+unasked_node for_nothing o = refl
+
+unasked_put : (waits : Waiting) → asked_by waits stored ≡ []
+unasked_put to_begin = refl
+unasked_put (to_end x) = refl
+unasked_put (for_walk group s) = refl
+unasked_put for_nothing = refl
+
+pub run_got : (w : World) (most : ℕ) (message : List ℕ) (held : Node → Type 0) (r : Run) (name : Place) (o : Option Node)
+    → HoldsRun w most message held r → r.step ≡ get name → asked_in (ran_on w r (node o)).course ≡ asked_in r.course
+run_got w most message held r name o h e =
+    let a = subst (λ (x : CourseStep). Awaits x r.course.waits) e h.awaits o in
+    asked_grows w most message r.course (node o) h.sound.0 a
+    ∙ (ap (λ (qs : List Asked). asked_in r.course ++ qs) (unasked_node r.course.waits o) ∙ append-nil (asked_in r.course))
+
+pub run_put : (w : World) (most : ℕ) (message : List ℕ) (held : Node → Type 0) (r : Run) (name : Place) (n : Node)
+    → HoldsRun w most message held r → r.step ≡ put name n → asked_in (ran_on w r stored).course ≡ asked_in r.course
+run_put w most message held r name n h e =
+    let a = subst (λ (x : CourseStep). Awaits x r.course.waits) e h.awaits in
+    asked_grows w most message r.course stored h.sound.0 a
+    ∙ (ap (λ (qs : List Asked). asked_in r.course ++ qs) (unasked_put r.course.waits) ∙ append-nil (asked_in r.course))
 
 -- where what was held is of a table, and the replies are the table's, so are the nodes that a message was given
 pub run_of_table : (w : World) (most : ℕ) (message : List ℕ) (held : Node → Type 0) (r : Run) (replies : Replies) → HoldsRun w most message held r
