@@ -12,7 +12,7 @@ use Rattle.dsec_nodes.specs.Machine.{Question as Asked, Input, begin, node, stor
 use Rattle.dsec_nodes.specs.InStep.{AskedOf}
 use Rattle.dsec_nodes.specs.Outcomes.{Outcome}
 use Rattle.dsec_nodes.specs.Alone.{Refusal, alone}
-use Rattle.dsec_course.specs.Course.{Waiting, to_begin, to_end, for_walk, for_nothing, Course, CourseStep, get, put, ask_for, end, CourseAnswers, Awaits, groups_in, walks_in, asked_in, asked_by}
+use Rattle.dsec_course.specs.Course.{Waiting, to_begin, to_end, for_walk, for_nothing, Course, CourseStep, get_node, put_node, ask_for, end_with, CourseAnswers, Awaits, groups_in, walks_in, asked_in, asked_by}
 use Rattle.dsec_course.specs.Advancing.{begun, course_advanced}
 use Rattle.dsec_course.specs.Agreeing.{CourseOf, CourseInStep, CourseStepIs, CourseGoes}
 use Rattle.dsec_course.specs.Justified.{SoundCourse, SoundGoing}
@@ -85,7 +85,7 @@ pub run_begins : (w : World) (most : ℕ) (message : List ℕ) (held : Node → 
     → begun most message ≡ Ok c → HoldsRun w most message held (first_run w c)
 run_begins w most message held c kept e =
     let n = begun_waits most message c e in
-    run_on w most message held (record { course = c; step = get []; puts = [] }) begin kept (begun_sound w most message c e) (begun_in_step w most message c e) (record {
+    run_on w most message held (record { course = c; step = get_node []; puts = [] }) begin kept (begun_sound w most message c e) (begun_in_step w most message c e) (record {
       given = subst (AllByRecursion (Trace w held [])) (sym n.no_walks) tt;
       kept = λ x there. absurd (not_in_none x there);
       of_table = λ replies h asked x there. absurd (not_in_none x there);
@@ -119,14 +119,14 @@ unasked_put (for_walk group s) = refl
 unasked_put for_nothing = refl
 
 pub run_got : (w : World) (most : ℕ) (message : List ℕ) (held : Node → Type 0) (r : Run) (name : Place) (o : Option Node)
-    → HoldsRun w most message held r → r.step ≡ get name → asked_in (ran_on w r (node o)).course ≡ asked_in r.course
+    → HoldsRun w most message held r → r.step ≡ get_node name → asked_in (ran_on w r (node o)).course ≡ asked_in r.course
 run_got w most message held r name o h e =
     let a = subst (λ (x : CourseStep). Awaits x r.course.waits) e h.awaits o in
     asked_grows w most message r.course (node o) h.sound.0 a
     ∙ (ap (λ (qs : List Asked). asked_in r.course ++ qs) (unasked_node r.course.waits o) ∙ append-nil (asked_in r.course))
 
 pub run_put : (w : World) (most : ℕ) (message : List ℕ) (held : Node → Type 0) (r : Run) (name : Place) (n : Node)
-    → HoldsRun w most message held r → r.step ≡ put name n → asked_in (ran_on w r stored).course ≡ asked_in r.course
+    → HoldsRun w most message held r → r.step ≡ put_node name n → asked_in (ran_on w r stored).course ≡ asked_in r.course
 run_put w most message held r name n h e =
     let a = subst (λ (x : CourseStep). Awaits x r.course.waits) e h.awaits in
     asked_grows w most message r.course stored h.sound.0 a
@@ -140,7 +140,7 @@ run_of_table w most message held r replies h of asked =
 
 -- an end comes where nothing is waited for, with the outcome of the recursion
 ends_so : (w : World) (most : ℕ) (replies : Replies) (message : List ℕ) (waits : Waiting) (x : Result Outcome Refusal)
-    → CourseStepIs w most replies message waits (end x) → x ≡ alone w most replies message
+    → CourseStepIs w most replies message waits (end_with x) → x ≡ alone w most replies message
 ends_so w most replies message for_nothing x h = h
 ends_so w most replies message to_begin x h = absurd h
 ends_so w most replies message (to_end o) x h = absurd h
@@ -149,7 +149,7 @@ ends_so w most replies message (for_walk group s) x h = absurd h
 -- A message that was judged over nodes of a table, with the table's replies, ends with the outcome of the recursion
 pub run_ends : (w : World) (most : ℕ) (message : List ℕ) (held : Node → Type 0) (r : Run) (replies : Replies) (x : Result Outcome Refusal)
     → HoldsRun w most message held r → ((n : Node) → held n → IsOfTable w replies n) → AskedOf replies (asked_in r.course)
-    → r.step ≡ end x → x ≡ alone w most replies message
+    → r.step ≡ end_with x → x ≡ alone w most replies message
 run_ends w most message held r replies x h of asked e =
     ends_so w most replies message r.course.waits x
     (subst (CourseStepIs w most replies message r.course.waits) e (h.goes.says replies (run_of_table w most message held r replies h of asked)))
@@ -178,7 +178,7 @@ after_more w (j ∷ inputs) r i = after_more w inputs (ran_on w r j) i
 -- the recursion (RFC 4033 5)
 pub ends_from_nothing : (w : World) (most : ℕ) (message : List ℕ) (c : Course) (inputs : List Input) (x : Result Outcome Refusal)
     → begun most message ≡ Ok c → AreHeard w (λ (n : Node). ⊥) (first_run w c) inputs
-    → (after_heard w (first_run w c) inputs).step ≡ end x
+    → (after_heard w (first_run w c) inputs).step ≡ end_with x
     → (replies : Replies) → AskedOf replies (asked_in (after_heard w (first_run w c) inputs).course) → x ≡ alone w most replies message
 ends_from_nothing w most message c inputs x e heard ends replies asked =
     let none : Node → Type 0 = λ n. ⊥ in

@@ -33,10 +33,10 @@ pub record Course : Type 0 where
 
 -- a step: to get the node that is kept of a name, to put one, to ask for a set, or to end
 pub data CourseStep : Type 0 where
-  get : Place → CourseStep
-  put : Place → Node → CourseStep
+  get_node : Place → CourseStep
+  put_node : Place → Node → CourseStep
   ask_for : Place → ℕ → CourseStep
-  end : Result Outcome Refusal → CourseStep
+  end_with : Result Outcome Refusal → CourseStep
 
 -- the input answers the pending step: where a walk is waited for, the walk's
 abbrev pub CourseAnswers : Waiting → Input → Type 0
@@ -52,11 +52,11 @@ asked_by _ _ = []
 
 -- what is waited for is what answers the step, and a reply is kept with the question that the step asks; nothing is waited for at the end alone
 abbrev pub Awaits : CourseStep → Waiting → Type 0
-Awaits (get name) waits = (o : Option Node) → CourseAnswers waits (node o)
-Awaits (put name n) waits = CourseAnswers waits stored
+Awaits (get_node name) waits = (o : Option Node) → CourseAnswers waits (node o)
+Awaits (put_node name n) waits = CourseAnswers waits stored
 Awaits (ask_for name rtype) waits =
     (octets : Option (List ℕ)) → CourseAnswers waits (reply octets) × (asked_by waits (reply octets) ≡ record { name = name; rtype = rtype; reply = octets } ∷ [])
-Awaits (end r) waits = waits ≡ for_nothing
+Awaits (end_with r) waits = waits ≡ for_nothing
 
 -- the group and the walk that are waited for, if there is one
 abbrev pub group_in : Waiting → List Group

@@ -8,7 +8,7 @@ use Rattle.dsec_nodes.specs.Walk.{node_of}
 use Rattle.dsec_nodes.specs.Taking.{RestsAt}
 use Rattle.dsec_nodes.specs.Machine.{Input, begin, node, stored, reply}
 use Rattle.dsec_nodes.specs.InStep.{AskedOf}
-use Rattle.dsec_course.specs.Course.{Course, CourseStep, get, put, ask_for, end, CourseAnswers, Awaits, groups_in, walks_in, asked_in}
+use Rattle.dsec_course.specs.Course.{Course, CourseStep, get_node, put_node, ask_for, end_with, CourseAnswers, Awaits, groups_in, walks_in, asked_in}
 use Rattle.dsec_course.specs.Advancing.{course_advanced}
 use Rattle.dsec_course.specs.Agreeing.{CourseGoes}
 use Rattle.dsec_course.specs.Justified.{SoundGoing}
@@ -21,10 +21,10 @@ pub record Run : Type 0 where
 
 -- the node that a step puts
 abbrev pub put_by : CourseStep → List Node
-put_by (put name n) = n ∷ []
-put_by (get name) = []
+put_by (put_node name n) = n ∷ []
+put_by (get_node name) = []
 put_by (ask_for name rtype) = []
-put_by (end r) = []
+put_by (end_with r) = []
 
 -- a course that has begun
 abbrev pub first_run : World → Course → Run
