@@ -1,6 +1,6 @@
 -- An ordinary reply, and so a verdict that is sound: the address of `www.example.`, under the key of `example.` as the only anchor.
-use Rattle.std.proofs.Common.{◌≡◌, ℕ, ◌<◌, ◌≤◌, List, [], ◌∷◌, ◌++◌, length, refl, sym, ap, ◌∙◌, subst, arith, rules, ◌&&◌, ◌||◌}
-use Rattle.std.specs.Prelude.{codes, None, Some, false}
+use Rattle.std.proofs.Common.{◌≡◌, ℕ, List, [], ◌∷◌, ◌++◌, refl, arith, rules, ◌&&◌, ◌||◌}
+use Rattle.std.specs.Prelude.{codes, Some, false}
 use Rattle.std.specs.Str.{bytes_eq}
 use Rattle.dsec_spec.specs.Names.{Labels, place, wire_octets}
 use Rattle.dsec_spec.specs.RecordData.{parts_in, labels_in, name_in}
@@ -8,7 +8,7 @@ use Rattle.dsec_spec.specs.Records.{Key, Record, Rrsig, rrsig_octets, rrsig_of, 
 use Rattle.dsec_spec.specs.SignedBytes.{inserted, ascending}
 use Rattle.dsec_spec.specs.Accepts.{Accepts}
 use Rattle.dsec_spec.specs.Signed.{Signed}
-use Rattle.dsec_spec.specs.Messages.{Question, question_at, data_at, parts_at, record_at, questions_of, answers_of, authorities_of, opt_of, first_opt, rcode_of}
+use Rattle.dsec_spec.specs.Messages.{question_at, data_at, parts_at, record_at, questions_of, answers_of, authorities_of, opt_of, first_opt, rcode_of}
 use Rattle.dsec_spec.specs.WireNames.{name_within, name_at}
 use Rattle.dsec_spec.specs.Reading.{many_of}
 use Rattle.dsec_spec.specs.WrittenMessages.{Written, message_octets}

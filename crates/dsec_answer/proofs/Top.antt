@@ -17,10 +17,9 @@ use Rattle.dsec_outside.specs.Limit.{limit, line_past}
 use Rattle.dsec_script.specs.Script.{script_of}
 use Rattle.dsec_script.proofs.CallerLemmas.{script_of-taken}
 use Rattle.dsec_spec.specs.Accepts.{Accepts}
-use Rattle.dsec_spec.specs.Outside.{SentFront}
 use Rattle.dsec_answer.specs.Headline.{Answered, RefusedAt, Refuses, Done, IsUsageRun, IsValidateRun, SentFor, WentOut, nothing, refused, answer}
 use Rattle.dsec_answer.specs.Headline as headline
-use Rattle.dsec_answer.specs.Words.{usage as usage_text, IsNoCommand, IsValidate}
+use Rattle.dsec_answer.specs.Words.{IsValidate}
 use Rattle.dsec_signing.specs.Words.{sign_in}
 use Rattle.dsec_signing.specs.declared.words.SignWords.{SignWords}
 

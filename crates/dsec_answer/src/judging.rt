@@ -23,14 +23,13 @@ fn judge_one<V: Verifier>(
     alloc: Global,
     context: &mut ValidationContext<V>,
     upstream: &mut TableUpstream,
-    item: &Item,
+    item: Item,
 ) -> Result<Outcome<V>, NoMemory>
-    ensures exact { IfOk result (λ outcome. outcome ≡ outcome_of V.accepts context.old.anchors context.old.limits upstream.old.replies item.now.seconds item.now.octets) }
+    ensures exact { IfOk result (λ outcome. outcome ≡ outcome_of V.accepts context.old.anchors context.old.limits upstream.old.replies item.seconds item.octets) }
     ensures same_context { context.new ≡ context.old }
     ensures same_table { upstream.new.replies ≡ upstream.old.replies }
 {
-    let octets = item.octets.as_slice().to_vec(alloc)?;
-    let Ok(mut message) = Message::from_octets(octets) else {
+    let Ok(mut message) = Message::from_octets(item.octets.into_vec()) else {
         return Ok(Outcome::refused(Error::ShortMessage));
     };
     match context.validate_msg(alloc, &mut message, upstream, item.seconds) {
@@ -48,10 +47,10 @@ fn push_one<V: Verifier>(
     context: &mut ValidationContext<V>,
     upstream: &mut TableUpstream,
     index: u64,
-    item: &Item,
+    item: Item,
     out: &mut Vec<u8>,
 ) -> Result<(), NoMemory>
-    ensures exact { OnOk result (out.new.items ≡ out.old.items ++ outcome_text index (outcome_of V.accepts context.old.anchors context.old.limits upstream.old.replies item.now.seconds item.now.octets)) }
+    ensures exact { OnOk result (out.new.items ≡ out.old.items ++ outcome_text index (outcome_of V.accepts context.old.anchors context.old.limits upstream.old.replies item.seconds item.octets)) }
     ensures same_context { context.new ≡ context.old }
     ensures same_table { upstream.new.replies ≡ upstream.old.replies }
 {
@@ -64,14 +63,14 @@ pub fn judge_all<V: Verifier, K: Sink>(
     alloc: Global,
     context: &mut ValidationContext<V>,
     upstream: &mut TableUpstream,
-    items: &[Item],
+    items: Vec<Item>,
     sink: &mut K,
 ) -> Result<(), Halt>
     ensures later { K.faults sink.old ≤ K.faults sink.new }
     ensures write { IsErrOf result Halt.Write → Rose (K.faults sink.old) (K.faults sink.new) }
     ensures counts { CountsWrites (K.faults sink.old) (K.faults sink.new) result }
-    ensures sent { OnOk result (Appends (K.written sink.old) (K.written sink.new) (answer_text V.accepts context.old.anchors context.old.limits upstream.old.replies items.now)) }
-    ensures front { SentFront (K.written sink.old) (K.written sink.new) (answer_text V.accepts context.old.anchors context.old.limits upstream.old.replies items.now) }
+    ensures sent { OnOk result (Appends (K.written sink.old) (K.written sink.new) (answer_text V.accepts context.old.anchors context.old.limits upstream.old.replies items.items)) }
+    ensures front { SentFront (K.written sink.old) (K.written sink.new) (answer_text V.accepts context.old.anchors context.old.limits upstream.old.replies items.items) }
 {
     let mut gathered = Vec::new(alloc);
     let mut index = 0u64;

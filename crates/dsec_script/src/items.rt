@@ -44,6 +44,13 @@ impl Items {
         &self.items
     }
 
+    /// The messages as a vector.
+    pub fn into_vec(self) -> Vec<Item>
+        ensures { result.items ≡ self }
+    {
+        self.items
+    }
+
     /// How many there are.
     pub fn len(&self) -> usize
         ensures { result ≡ length self.now }

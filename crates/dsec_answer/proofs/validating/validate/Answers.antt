@@ -1,5 +1,4 @@
-use Rattle.std.proofs.Common.{inl, inr, refl}
-use Rattle.dsec_answer.proofs.Top.{idle_run, run_of}
+use Rattle.dsec_answer.proofs.Top.{run_of}
 use Rattle.dsec_answer.proofs.validating.validate.Goals as goal
 
 pub returns-in-Ok-clause-run : goal.returns-in-Ok-clause-run
