@@ -1,6 +1,6 @@
 //! The signatures of sets by keys (RFC 4035 2.2).
 
-ghost use Rattle.std.specs.Prelude.{◌≡◌, ◌++◌, ◌∷◌, [], All, IfOk, IsErrOf, OnOk, length, map, take};
+ghost use Rattle.std.specs.Prelude.{◌≡◌, ◌++◌, ◌∷◌, [], All, IfOk, IsErrOf, OnErr, OnOk, length, map, take};
 ghost use Rattle.dsec_spec.specs.CanonicalRecords.{IsCanonical};
 ghost use Rattle.dsec_spec.specs.Signatures.{AreSignatures};
 ghost use Rattle.dsec_sorted.specs.SetViews.{members_of};
@@ -29,13 +29,33 @@ pub(crate) fn sign_sets<I: SignRaw>(
     ensures failed { IsErrOf result SignError.Failed → SomeRose I.faults keys.old keys.new }
 {
     let tags = tags_of(alloc, keys)?;
-    let mut message = Vec::new(alloc);
     let mut all = Vec::with_capacity(alloc, sets.len().saturating_mul(keys.len()))?;
+    sign_each(alloc, records, sets, keys, &tags, config, &mut all)?;
+    Ok(all)
+}
+
+/// Adds the signatures of each set by each key; on a refusal there may be some of them.
+fn sign_each<I: SignRaw>(
+    alloc: Global,
+    records: &[Record],
+    sets: &[SetAt],
+    keys: &mut [SigningKey<I>],
+    tags: &[u16],
+    config: &GenerateRrsigConfig,
+    out: &mut Vec<Record>,
+) -> Result<(), SignError>
+    requires sets { All (IsSignable records.now) sets.now }
+    requires tags { tags.now ≡ signer_tags (map (signer_of I.key) keys.old) }
+    ensures signed { OnOk result (AddsSignatures I.signs (period_of config.now) (map (set_at records.now) sets.now) (map (signer_of I.key) keys.old) out.old.items out.new.items) }
+    ensures same { AreSameSigners I.key I.faults keys.old keys.new }
+    ensures failed { IsErrOf result SignError.Failed → SomeRose I.faults keys.old keys.new }
+{
+    let mut message = Vec::new(alloc);
     for set in sets {
         let members = members(records, *set);
-        sign_one(alloc, &members, keys, &tags, config, &mut message, &mut all)?;
+        sign_one(alloc, &members, keys, tags, config, &mut message, out)?;
     }
-    Ok(all)
+    Ok(())
 }
 
 /// Adds the signatures of each set by each key behind the records; on a refusal there may be some of them.
@@ -53,22 +73,67 @@ pub(crate) fn sign_behind<I: SignRaw>(
     ensures failed { IsErrOf result SignError.Failed → SomeRose I.faults keys.old keys.new }
 {
     let tags = tags_of(alloc, keys)?;
-    let mut message = Vec::new(alloc);
-    let mut made = Vec::with_capacity(alloc, keys.len())?;
     records.reserve_exact(sets.len().saturating_mul(keys.len()))?;
+    sign_each_behind(alloc, records, sets, keys, &tags, config)?;
+    Ok(())
+}
+
+/// The same by keys whose tags are at hand.
+fn sign_each_behind<I: SignRaw>(
+    alloc: Global,
+    records: &mut Vec<Record>,
+    sets: &[SetAt],
+    keys: &mut [SigningKey<I>],
+    tags: &[u16],
+    config: &GenerateRrsigConfig,
+) -> Result<(), SignError>
+    requires sets { All (IsSignable records.old.items) sets.now }
+    requires tags { tags.now ≡ signer_tags (map (signer_of I.key) keys.old) }
+    ensures signed { OnOk result (AddsSignatures I.signs (period_of config.now) (map (set_at records.old.items) sets.now) (map (signer_of I.key) keys.old) records.old.items records.new.items) }
+    ensures front { take (length records.old.items) records.new.items ≡ records.old.items }
+    ensures same { AreSameSigners I.key I.faults keys.old keys.new }
+    ensures failed { IsErrOf result SignError.Failed → SomeRose I.faults keys.old keys.new }
+{
+    let mut message = Vec::new(alloc);
+    let mut made = Vec::new(alloc);
     for set in sets {
-        let members = members(records, *set);
-        sign_one(
+        sign_one_behind(
             alloc,
-            &members,
+            records,
+            *set,
             keys,
-            &tags,
+            tags,
             config,
             &mut message,
             &mut made,
         )?;
-        records.append(&mut made)?;
     }
+    Ok(())
+}
+
+/// Adds the signatures of a set by each key behind the records, of which it is one; a refusal leaves these as they are.
+fn sign_one_behind<I: SignRaw>(
+    alloc: Global,
+    records: &mut Vec<Record>,
+    set: SetAt,
+    keys: &mut [SigningKey<I>],
+    tags: &[u16],
+    config: &GenerateRrsigConfig,
+    message: &mut Vec<u8>,
+    made: &mut Vec<Record>,
+) -> Result<(), SignError>
+    requires set { IsSignable records.old.items set }
+    requires tags { tags.now ≡ signer_tags (map (signer_of I.key) keys.old) }
+    requires empty { made.old.items ≡ [] }
+    ensures signed { OnOk result (AddsOfSet I.signs (period_of config.now) (set_at records.old.items set) (map (signer_of I.key) keys.old) records.old.items records.new.items) }
+    ensures empty { OnOk result (made.new.items ≡ []) }
+    ensures err { OnErr result (records.new.items ≡ records.old.items) }
+    ensures same { AreSameSigners I.key I.faults keys.old keys.new }
+    ensures failed { IsErrOf result SignError.Failed → SomeRose I.faults keys.old keys.new }
+{
+    let members = members(records, set);
+    sign_one(alloc, &members, keys, tags, config, message, made)?;
+    records.append(made)?;
     Ok(())
 }
 

@@ -5,6 +5,7 @@ pub mod Merged
 pub mod Rising
 pub mod Orderings
 pub mod Places
+pub mod Inserted
 pub mod Extending
 pub mod OwnerRuns
 pub mod SetLaws

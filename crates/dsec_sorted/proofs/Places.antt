@@ -45,8 +45,8 @@ ties_alike r s = both_ways (are_duplicates r s) (eq_by_cmp record_cmp r s)
     (λ h. (duplicates_tie r s).1 (is_tied (record_cmp r s) h))
 
 -- what a binary search answers
-pub found_of : (records : List Record) (r : Record) (it : Result ℕ ℕ) → IsSearchInRange it (length records) → IsBinarySearchResult (λ s. record_cmp s r) records it → IfOk it (λ _. IsPresent r records)
-found_of records r (Ok k) within at = present records r k within at
+pub found_of : (records : List Record) (r : Record) (it : Result ℕ ℕ) → IsSearchInRange it (length records) → IsBinarySearchResult (λ s. record_cmp s r) records it → IfOk it (λ k. (k < length records) × IsPresent r records)
+found_of records r (Ok k) within at = (within, present records r k within at)
 found_of records r (Err k) within at = tt
 
 pub place_of : (records : List Record) (r : Record) (it : Result ℕ ℕ) → IsCanonical records → IsSearchInRange it (length records) → IsBinarySearchResult (λ s. record_cmp s r) records it → IfErr it (λ at. IsPlace r records at)

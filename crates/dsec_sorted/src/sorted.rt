@@ -1,12 +1,13 @@
 //! Records in canonical order (RFC 4034 6).
 
-ghost use Rattle.std.specs.Prelude.{◌≡◌, ◌↔◌, ◌++◌, ◌∷◌, [], Contains, IfErr, IfOk, IsPermutation, MatchResult, OnErr, OnOk};
+ghost use Rattle.std.specs.Prelude.{◌≡◌, ◌↔◌, ◌≤◌, ◌<◌, ◌++◌, ◌∷◌, [], Contains, IfErr, IfOk, IsPermutation, MatchResult, OnErr, OnOk, insert, length};
 ghost use Rattle.std.specs.List.{dedup};
 ghost use Rattle.std.specs.List.Sorted.{IsSorted, IsStable};
 ghost use Rattle.std.specs.Ordering.{eq_by_cmp};
 ghost use Rattle.dsec_spec.specs.CanonicalRecords.{IsCanonical, IsFirst, record_cmp};
 ghost use Rattle.dsec_spec.specs.Records as entries;
 ghost use Rattle.dsec_spec.specs.SignedZones.{IsUnion};
+ghost use Rattle.dsec_sorted.specs.declared.sorted.InsertError.TheVariants as refusal;
 ghost use Rattle.dsec_sorted.specs.Inserting.{IsNew, IsPlace, IsPresent, IsReason};
 
 use crate::order::canonical_cmp;
@@ -69,14 +70,10 @@ impl SortedRecords {
         ensures err { OnErr result (self.new ≡ self.old) }
         ensures why { MatchResult result (λ _. IsNew item self.old) (λ e. IsReason e item self.old) }
     {
-        let at = match find_place(&self.records, &item) {
-            Ok(_) => return Err(InsertError::Duplicate(item)),
-            Err(at) => at,
-        };
-        if let Err(failed) = self.records.insert(at, item) {
-            return Err(InsertError::NoMemory(failed.value));
+        match find_place(&self.records, &item) {
+            Err(at) => insert_at(&mut self.records, at, item),
+            Ok(_) => Err(InsertError::Duplicate(item)),
         }
-        Ok(())
     }
 
     /// Adds the records of which no duplicate is there; of duplicates among them the first. A refusal changes nothing.
@@ -124,10 +121,23 @@ pub fn extend_sorted(records: &mut Vec<Record>, added: Vec<Record>) -> Result<()
 /// Where a duplicate of a record stands, or where the record is to stand.
 fn find_place(records: &[Record], item: &Record) -> Result<usize, usize>
     requires { IsCanonical records.now }
-    ensures found { IfOk result (λ _. IsPresent item.now records.now) }
+    ensures found { IfOk result (λ at. (at < length records.now) × IsPresent item.now records.now) }
     ensures place { IfErr result (λ at. IsPlace item.now records.now at) }
 {
     records.binary_search_by(|one| canonical_cmp(one, item))
+}
+
+/// Puts a record before the one at a place, or behind the last; without memory it is given back.
+fn insert_at(records: &mut Vec<Record>, at: usize, item: Record) -> Result<(), InsertError>
+    requires { at ≤ length records.old.items }
+    ensures ok { OnOk result (records.new.items ≡ insert records.old.items at item) }
+    ensures err { OnErr result (records.new.items ≡ records.old.items) }
+    ensures given { IfErr result (λ e. e ≡ refusal.NoMemory item) }
+{
+    if let Err(failed) = records.insert(at, item) {
+        return Err(InsertError::NoMemory(failed.value));
+    }
+    Ok(())
 }
 
 /// Brings records into canonical order; duplicates keep the order that they have.

@@ -1,24 +1,19 @@
-use Rattle.std.proofs.lemmas.List.Sorted.{IsPermutation-insert}
-use Rattle.dsec_spec.proofs.CanonicalOrder.{record_cmp_total}
 use Rattle.dsec_sorted.specs.Inserting.{IsPlace}
-use Rattle.dsec_sorted.proofs.Places.{new}
-use Rattle.dsec_sorted.proofs.Rising.{insert_rises}
+use Rattle.dsec_sorted.proofs.Inserted.{answered, one_more, stays_canonical}
 use Rattle.dsec_sorted.proofs.sorted.SortedRecords.insert.Goals as goal
 
-pub returns-in-Err-insert-clause-why : goal.returns-in-Err-insert-clause-why
-returns-in-Err-insert-clause-why c =
-    (c.in-Err-insert.ensures.value_returned, rw (← c.self.view_is) (new c.self.inside.records.items c.args.item c.in-Err.at (rw (← c.deref.ensures.value) c.in-Err.ensures.place)))
-
-pub invariant_of-self-2 : goal.invariant_of-self-2
-invariant_of-self-2 c =
+pub invariant_of-self : goal.invariant_of-self
+invariant_of-self c =
     let place : IsPlace c.args.item c.self.inside.records.items c.in-Err.at = rw (← c.deref.ensures.value) c.in-Err.ensures.place in
-    rw (c.in_default.ensures.items) (insert_rises record_cmp_total c.self.inside.records.items c.in-Err.at c.args.item place.within c.self.invariant place.parts)
+    stays_canonical c.insert_at.result c.self.inside.records.items c.insert_at.new.records.items c.args.item c.in-Err.at c.self.invariant place c.insert_at.ensures.ok c.insert_at.ensures.err
 
-pub returns-clause-ok : goal.returns-clause-ok
-returns-clause-ok c = rw (c.in_default.ensures.items, ← c.self.view_is) (IsPermutation-insert c.self.inside.records.items c.in-Err.at c.args.item)
+pub returns-in-Err-clause-ok : goal.returns-in-Err-clause-ok
+returns-in-Err-clause-ok c = rw (← c.self.view_is) (one_more c.insert_at.result c.self.inside.records.items c.insert_at.new.records.items c.args.item c.in-Err.at c.insert_at.ensures.ok)
 
-pub returns-clause-canonical : goal.returns-clause-canonical
-returns-clause-canonical c = invariant_of-self-2 c
+pub returns-in-Err-clause-canonical : goal.returns-in-Err-clause-canonical
+returns-in-Err-clause-canonical c = invariant_of-self c
 
-pub returns-clause-why : goal.returns-clause-why
-returns-clause-why c = rw (← c.self.view_is) (new c.self.inside.records.items c.args.item c.in-Err.at (rw (← c.deref.ensures.value) c.in-Err.ensures.place))
+pub returns-in-Err-clause-why : goal.returns-in-Err-clause-why
+returns-in-Err-clause-why c =
+    let place : IsPlace c.args.item c.self.inside.records.items c.in-Err.at = rw (← c.deref.ensures.value) c.in-Err.ensures.place in
+    rw (← c.self.view_is) (answered c.insert_at.result c.self.inside.records.items c.args.item c.in-Err.at place c.insert_at.ensures.given)

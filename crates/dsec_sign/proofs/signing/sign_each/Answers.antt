@@ -1,4 +1,4 @@
-use Rattle.std.proofs.Common.{◌<◌, List, [], map, subst, arith, length, get_or, rules}
+use Rattle.std.proofs.Common.{◌<◌, List, map, subst, arith, length, get_or, rules}
 use Rattle.std.proofs.lemmas.List.{length-map, get_or-map}
 use Rattle.dsec_spec.specs.Records.{Record}
 use Rattle.dsec_spec.specs.Signatures.{Signer}
@@ -7,7 +7,7 @@ use Rattle.dsec_sign.specs.Places.{set_at}
 use Rattle.dsec_sign.specs.SignerFaults.{AddsOfSet}
 use Rattle.dsec_sign.specs.declared.zone_sets.SetAt.{SetAt}
 use Rattle.dsec_sign.proofs.SignerSteps.{rose_then, same_then, set_more}
-use Rattle.dsec_sign.proofs.signing.sign_sets.Goals as goal
+use Rattle.dsec_sign.proofs.signing.sign_each.Goals as goal
 
 pub returns-in_err-sign_one-clause-failed : goal.returns-in_err-sign_one-clause-failed
 returns-in_err-sign_one-clause-failed g c h =
@@ -25,10 +25,10 @@ loop-set-preserved g c =
     let signers = map (signer_of g.I.SignRaw.key) c.args.keys.now in
     let lt : i < length sets = c.loop-set-test.true in
     let more =
-    subst (λ (ss : List Signer). AddsOfSet signs period set ss c.loop-set.all.items c.sign_one.new.out.items) c.loop-set.invariant.same.kept
-    (subst (λ (xs : List Record). AddsOfSet signs period xs (map (signer_of g.I.SignRaw.key) c.loop-set.keys) c.loop-set.all.items c.sign_one.new.out.items) c.members-members.ensures c.in_ok-sign_one.ensures.signed) in
+    subst (λ (ss : List Signer). AddsOfSet signs period set ss c.loop-set.out.items c.sign_one.new.out.items) c.loop-set.invariant.same.kept
+    (subst (λ (xs : List Record). AddsOfSet signs period xs (map (signer_of g.I.SignRaw.key) c.loop-set.keys) c.loop-set.out.items c.sign_one.new.out.items) c.members-members.ensures c.in_ok-sign_one.ensures.signed) in
     record {
       same = same_then g.I.SignRaw.key g.I.SignRaw.faults c.args.keys.now c.loop-set.keys c.sign_one.new.keys c.loop-set.invariant.same c.sign_one.ensures.same;
-      adds = set_more signs period (map (set_at records) sets) signers i set [] c.loop-set.all.items c.sign_one.new.out.items (omega (arith, lt, length-map sets (set_at records)))
+      adds = set_more signs period (map (set_at records) sets) signers i set c.args.out.now.items c.loop-set.out.items c.sign_one.new.out.items (omega (arith, lt, length-map sets (set_at records)))
           (get_or-map (set_at records) sets i zero set lt) c.loop-set.invariant.adds more;
     }

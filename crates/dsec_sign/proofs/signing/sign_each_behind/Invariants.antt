@@ -2,7 +2,7 @@ use Rattle.std.proofs.Common.{◌≡◌, [], map, take}
 use Rattle.dsec_rrsig.specs.Signers.{period_of, signer_of}
 use Rattle.dsec_sign.specs.Places.{set_at}
 use Rattle.dsec_sign.specs.SignerFaults.{AddsSignatures, AreSameSigners}
-use Rattle.dsec_sign.proofs.signing.sign_behind.Given as goal
+use Rattle.dsec_sign.proofs.signing.sign_each_behind.Given as goal
 
 abbrev pub invariant-loop-set : goal.invariant-loop-set
 invariant-loop-set g l = record {

@@ -1,0 +1,46 @@
+use Rattle.std.proofs.Common.{◌≡◌, ◌∙◌, ◌<◌, List, map, sym, ap, subst, arith, length, get_or, rules}
+use Rattle.std.proofs.lemmas.List.{length-map, get_or-map}
+use Rattle.dsec_spec.specs.Records.{Record}
+use Rattle.dsec_spec.specs.Signatures.{Signer}
+use Rattle.dsec_rrsig.specs.Signers.{period_of, signer_of}
+use Rattle.dsec_sign.specs.Places.{set_at}
+use Rattle.dsec_sign.specs.SignerFaults.{AddsOfSet}
+use Rattle.dsec_sign.specs.declared.zone_sets.SetAt.{SetAt}
+use Rattle.dsec_sign.proofs.SignerSteps.{rose_then, same_then, set_in_front, set_more, signable_in_front}
+use Rattle.dsec_sign.proofs.signing.sign_each_behind.Goals as goal
+
+pub sign_one_behind-requires-clause-set : goal.sign_one_behind-requires-clause-set
+sign_one_behind-requires-clause-set g c =
+    let zero : SetAt = record { start = 0; size = 0 } in
+    let adds = c.loop-set.invariant.adds in
+    signable_in_front c.args.records.now.items adds.signatures c.loop-set.records.items (get_or c.args.sets.now c.loop-set.set-index zero) adds.is (c.requires.sets c.loop-set.set-index zero c.loop-set-test.true)
+
+pub returns-in_err-sign_one_behind-clause-failed : goal.returns-in_err-sign_one_behind-clause-failed
+returns-in_err-sign_one_behind-clause-failed g c h =
+    rose_then g.I.SignRaw.key g.I.SignRaw.faults c.args.keys.now c.loop-set.keys c.sign_one_behind.new.keys c.loop-set.invariant.same (c.sign_one_behind.ensures.failed (search rules))
+
+pub loop-set-preserved : goal.loop-set-preserved
+loop-set-preserved g c =
+    let old = c.args.records.now.items in
+    let sets = c.args.sets.now in
+    let i = c.loop-set.set-index in
+    let zero : SetAt = record { start = 0; size = 0 } in
+    let item = get_or sets i zero in
+    let set = set_at old item in
+    let signs = g.I.SignRaw.signs in
+    let period = period_of c.args.config.now in
+    let signers = map (signer_of g.I.SignRaw.key) c.args.keys.now in
+    let lt : i < length sets = c.loop-set-test.true in
+    let adds = c.loop-set.invariant.adds in
+    let here = c.loop-set.records.items in
+    let new = c.sign_one_behind.new.records.items in
+    let same : set_at here item ≡ set =
+    ap (λ (xs : List Record). set_at xs item) adds.is ∙ set_in_front old adds.signatures item (c.requires.sets i zero lt).found.within in
+    let more =
+    subst (λ (ss : List Signer). AddsOfSet signs period set ss here new) c.loop-set.invariant.same.kept
+    (subst (λ (xs : List Record). AddsOfSet signs period xs (map (signer_of g.I.SignRaw.key) c.loop-set.keys) here new) same c.in_ok-sign_one_behind.ensures.signed) in
+    record {
+      same = same_then g.I.SignRaw.key g.I.SignRaw.faults c.args.keys.now c.loop-set.keys c.sign_one_behind.new.keys c.loop-set.invariant.same c.sign_one_behind.ensures.same;
+      empty = c.in_ok-sign_one_behind.ensures.empty;
+      adds = set_more signs period (map (set_at old) sets) signers i set old here new (omega (arith, lt, length-map sets (set_at old))) (get_or-map (set_at old) sets i zero set lt) adds more;
+    }
