@@ -65,6 +65,13 @@ impl GroupSet {
         &self.groups
     }
 
+    /// The groups as a vector, in order of first arrival.
+    pub fn into_vec(self) -> Vec<Group>
+        ensures { result.items ≡ self }
+    {
+        self.groups
+    }
+
     /// The groups one by one, in order of first arrival.
     pub fn iter(&self) -> Iter<'_, Group>
         ensures { iter_rest result ≡ self.now }
