@@ -61,8 +61,8 @@ fn by_sections<V: Verifier>(
         }
         None => {
             let authorities = groups(alloc, authority, seed)?;
-            let left = copies(alloc, answers.as_slice(), authorities.as_slice())?;
             let count = answers.len();
+            let left = in_order(answers, authorities)?;
             Ok(beginning(alloc, octets, rcode, questions, count, left, Waits::ToBegin))
         }
     }
@@ -105,13 +105,13 @@ fn beginning<V: Verifier>(
     }
 }
 
-/// Copies of the groups of both sections, in order.
-fn copies(alloc: Global, answers: &[Group], authorities: &[Group]) -> Result<Vec<Group>, NoMemory>
-    ensures { IfOk result (λ all. all.items ≡ answers.now ++ authorities.now) }
+/// The groups of both sections, in order.
+fn in_order(answers: GroupSet, authorities: GroupSet) -> Result<Vec<Group>, NoMemory>
+    ensures { IfOk result (λ all. all.items ≡ answers ++ authorities) }
 {
-    let mut all = Vec::new(alloc);
-    add_copies(&mut all, answers)?;
-    add_copies(&mut all, authorities)?;
+    let mut all = answers.into_vec();
+    let mut others = authorities.into_vec();
+    all.append(&mut others)?;
     Ok(all)
 }
 
@@ -127,23 +127,6 @@ fn is_bare(group: &Group) -> bool
     ensures { result ≡ bare group.now }
 {
     group.rtype() == Rtype::CNAME && group.rr_set().len() == 1 && group.sig_set_len() == 0
-}
-
-/// Adds copies of groups at the end.
-fn add_copies(all: &mut Vec<Group>, groups: &[Group]) -> Result<(), NoMemory>
-    ensures { OnOk result (all.new.items ≡ all.old.items ++ groups.now) }
-{
-    for group in groups {
-        all.push(copied(group)?)?;
-    }
-    Ok(())
-}
-
-/// A copy of a group.
-fn copied(group: &Group) -> Result<Group, NoMemory>
-    ensures { IfOk result (λ copy. copy ≡ group.now) }
-{
-    group.clone()
 }
 
 /// A copy of a message's octets.

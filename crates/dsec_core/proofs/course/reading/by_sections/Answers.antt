@@ -19,5 +19,4 @@ returns-in_ok-left-in-None g c =
     let h = subst (MovesOrEnds c.args.most before after) c.in-None.is c.in_ok-cause.ensures in
     begins_so c.args.most c.args.octets.items (parts c.args.sections) before after c.beginning-in-None.result c.into_vec-questions.result.items c.len-count.result c.in_ok-left-in-None.left.items
     h c.in_ok-answers.ensures c.beginning-in-None.ensures c.into_vec-questions.ensures c.len-count.ensures
-    (c.in_ok-left-in-None.ensures ∙ (ap (λ (xs : List Group). xs ++ c.as_slice-in-None.result.now) c.as_slice.ensures.value
-    ∙ ap (λ (xs : List Group). after ++ xs) (c.as_slice-in-None.ensures.value ∙ c.in_ok-authorities-in-None.ensures)))
+    (c.in_ok-left-in-None.ensures ∙ ap (λ (xs : List Group). after ++ xs) c.in_ok-authorities-in-None.ensures)
