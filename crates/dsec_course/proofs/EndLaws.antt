@@ -101,11 +101,11 @@ own_set group signature sig reads e =
 justified_there : (w : World) (most : ℕ) (message : List ℕ) (question : Question) (groups : List Group) (js beside : List Judged) (o : Outcome)
     → IsRead message most question groups → map (λ (j : Judged). j.group) js ≡ groups → AllByRecursion (IsFound w) js
     → Ended w message question js beside o → Means w most message o
-justified_there w most message question groups js beside o read same founds end =
-    subst (Means w most message) (sym (end.is ∙ ap (after_path secure []) a.is)) (by j.finding refl)
+justified_there w most message question groups js beside o read same founds end_with =
+    subst (Means w most message) (sym (end_with.is ∙ ap (after_path secure []) a.is)) (by j.finding refl)
   where
     a : Answer w message question js beside (at_name w message question (place question.name) js beside)
-    a = end.answer
+    a = end_with.answer
 
     j : Judged
     j = a.judged
@@ -127,7 +127,7 @@ justified_there w most message question groups js beside o read same founds end 
         no_error = a.no_error;
         no_alias = λ other there leads.
             let m = from_map (λ (x : Judged). x.group) js other (subst (λ (gs : List Group). Contains gs other) (sym same) there) in
-            leads_nowhere w.anchors question m.0.group (none_passes (λ (x : Judged). leads_on w.anchors question x.group) js end.no_alias m.0 m.1)
+            leads_nowhere w.anchors question m.0.group (none_passes (λ (x : Judged). leads_on w.anchors question x.group) js end_with.no_alias m.0 m.1)
             (subst (LeadsOn w.anchors question) (sym m.2) leads);
         at_question = at_question question j.group a.at;
       };
@@ -173,5 +173,5 @@ pub end_justified : (w : World) (most : ℕ) (message : List ℕ) (question : Qu
 end_justified w most message question groups js beside read same founds =
     elim (from_end w message question js beside) [
       | inl b ↦ bogus_means w most message (at_end w message question js beside (alias_path w question js)) b
-      | inr end ↦ justified_there w most message question groups js beside (at_end w message question js beside (alias_path w question js)) read same founds end
+      | inr end_with ↦ justified_there w most message question groups js beside (at_end w message question js beside (alias_path w question js)) read same founds end_with
     ]

@@ -15,7 +15,7 @@ use Rattle.dsec_nodes.specs.Machine.{Walking}
 use Rattle.dsec_nodes.specs.Judging.{Finding, is_shown, has_no_set, is_insecure, is_bogus, is_indeterminate, Judged, AllJudged, all, one_bogus, and_others, by_node, by_island, judged_of, judged_all}
 use Rattle.dsec_nodes.specs.Alone.{on_questions, on_judged}
 use Rattle.dsec_nodes.proofs.JudgingLaws.{groups_same}
-use Rattle.dsec_course.specs.Course.{for_nothing, Course, end, Way, at_once, by_walk, way_under, way_of}
+use Rattle.dsec_course.specs.Course.{for_nothing, Course, end_with, Way, at_once, by_walk, way_under, way_of}
 use Rattle.dsec_course.specs.Advancing.{waiting, at_last, by_way, going_on}
 use Rattle.dsec_course.specs.Agreeing.{behind, on_all, IsFor}
 use Rattle.dsec_course.specs.Justified.{IsFound}
@@ -168,7 +168,7 @@ on_both w replies message questions answers authorities =
         ∙ ap (on_questions w message questions js) (drop-append_seam js beside))
 
 -- judging goes on where no group is left, or by the first
-pub going_none : (w : World) (c : Course) → going_on w [] c ≡ (waiting c [] for_nothing, end (at_last w c))
+pub going_none : (w : World) (c : Course) → going_on w [] c ≡ (waiting c [] for_nothing, end_with (at_last w c))
 unfolding going_on
 going_none w c = refl
 

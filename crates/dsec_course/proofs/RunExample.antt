@@ -15,7 +15,7 @@ use Rattle.dsec_nodes.specs.Nodes.{Node}
 use Rattle.dsec_nodes.specs.Outcomes.{by_links, bogus_by}
 use Rattle.dsec_nodes.specs.Alone.{alone}
 use Rattle.dsec_nodes.specs.Machine.{Input, node, reply}
-use Rattle.dsec_course.specs.Course.{to_begin, Course, get, end}
+use Rattle.dsec_course.specs.Course.{to_begin, Course, get_node, end_with}
 use Rattle.dsec_course.specs.Advancing.{beginning, begun, going_on}
 use Rattle.dsec_course.specs.Hearing.{first_run, AreHeard, after_heard}
 use Rattle.dsec_course.proofs.RunLaws.{ends_from_nothing}
@@ -61,7 +61,7 @@ unfolding questions_of answers_of authorities_of many_of question_at record_at d
 it_begins = refl
 
 -- the node of the island is to be got first
-pub it_gets : (first_run w c).step ≡ get (place example)
+pub it_gets : (first_run w c).step ≡ get_node (place example)
 unfolding going_on longest
 it_gets = refl
 
@@ -73,7 +73,7 @@ pub it_hears : AreHeard w (λ (n : Node). ⊥) (first_run w c) inputs
 unfolding going_on longest
 it_hears = (tt, tt, (tt, tt, tt))
 
-pub it_ends : (after_heard w (first_run w c) inputs).step ≡ end (Ok (bogus_by NoDnskeyForAnchor (by_links [])))
+pub it_ends : (after_heard w (first_run w c) inputs).step ≡ end_with (Ok (bogus_by NoDnskeyForAnchor (by_links [])))
 unfolding going_on longest
 it_ends = refl
 

@@ -1,22 +1,22 @@
 -- A message judged over nodes that are of a table, and over empty caches, ends with the outcome of the recursion.
-use Rattle.std.proofs.Common.{◌≡◌, ◌⊎◌, ℕ, ◌*◌, ◌≤◌, List, [], ◌∷◌, ◌++◌, length, Result, Ok, refl, sym, subst, inl, inr, arith}
+use Rattle.std.proofs.Common.{◌≡◌, ◌⊎◌, ℕ, ◌*◌, ◌≤◌, List, [], ◌∷◌, ◌++◌, length, Option, Result, Ok, refl, sym, ap, ◌∙◌, subst, inl, inr, arith, append-nil}
 use Rattle.std.specs.Prelude.{Contains}
 use Rattle.std.specs.List.{AllByRecursion}
-use Rattle.dsec_spec.specs.Names.{IsName}
+use Rattle.dsec_spec.specs.Names.{Place, IsName}
 use Rattle.dsec_spec.specs.Groups.{Group}
 use Rattle.dsec_spec.proofs.Members.{in_either, not_in_none}
 use Rattle.dsec_nodes.specs.World.{World, Replies}
 use Rattle.dsec_nodes.specs.Nodes.{Node, Kept}
 use Rattle.dsec_nodes.specs.Taking.{RestsAt}
-use Rattle.dsec_nodes.specs.Machine.{Question as Asked, Input, begin}
+use Rattle.dsec_nodes.specs.Machine.{Question as Asked, Input, begin, node, stored, reply}
 use Rattle.dsec_nodes.specs.InStep.{AskedOf}
 use Rattle.dsec_nodes.specs.Outcomes.{Outcome}
 use Rattle.dsec_nodes.specs.Alone.{Refusal, alone}
-use Rattle.dsec_course.specs.Course.{Waiting, to_begin, to_end, for_walk, for_nothing, Course, CourseStep, get, end, CourseAnswers, groups_in, walks_in, asked_in}
+use Rattle.dsec_course.specs.Course.{Waiting, to_begin, to_end, for_walk, for_nothing, Course, CourseStep, get_node, put_node, ask_for, end_with, CourseAnswers, Awaits, groups_in, walks_in, asked_in, asked_by}
 use Rattle.dsec_course.specs.Advancing.{begun, course_advanced}
 use Rattle.dsec_course.specs.Agreeing.{CourseOf, CourseInStep, CourseStepIs, CourseGoes}
 use Rattle.dsec_course.specs.Justified.{SoundCourse, SoundGoing}
-use Rattle.dsec_course.specs.Hearing.{Run, put_by, first_run, ran_on, GivenFrom, AreHeard, after_heard, asked_by, IsOfTable, Traces, HoldsRun}
+use Rattle.dsec_course.specs.Hearing.{Run, put_by, first_run, ran_on, GivenFrom, AreHeard, after_heard, IsOfTable, Traces, HoldsRun}
 use Rattle.dsec_course.proofs.Lists.{all_front, all_map}
 use Rattle.dsec_course.proofs.AgreeingLaws.{course_goes}
 use Rattle.dsec_course.proofs.SoundLaws.{course_sound}
@@ -85,7 +85,7 @@ pub run_begins : (w : World) (most : ℕ) (message : List ℕ) (held : Node → 
     → begun most message ≡ Ok c → HoldsRun w most message held (first_run w c)
 run_begins w most message held c kept e =
     let n = begun_waits most message c e in
-    run_on w most message held (record { course = c; step = get []; puts = [] }) begin kept (begun_sound w most message c e) (begun_in_step w most message c e) (record {
+    run_on w most message held (record { course = c; step = get_node []; puts = [] }) begin kept (begun_sound w most message c e) (begun_in_step w most message c e) (record {
       given = subst (AllByRecursion (Trace w held [])) (sym n.no_walks) tt;
       kept = λ x there. absurd (not_in_none x there);
       of_table = λ replies h asked x there. absurd (not_in_none x there);
@@ -97,6 +97,41 @@ pub run_asks : (w : World) (most : ℕ) (message : List ℕ) (held : Node → Ty
 run_asks w most message held r h =
     omega (arith, course_asks w most message r.course h.sound.0, most_for_names w (groups_in r.course) h.named)
 
+-- a reply is kept with the question of the step that it answers
+pub run_asked : (w : World) (most : ℕ) (message : List ℕ) (held : Node → Type 0) (r : Run) (name : Place) (rtype : ℕ) (octets : Option (List ℕ))
+    → HoldsRun w most message held r → r.step ≡ ask_for name rtype
+    → asked_in (ran_on w r (reply octets)).course ≡ asked_in r.course ++ record { name = name; rtype = rtype; reply = octets } ∷ []
+run_asked w most message held r name rtype octets h e =
+    let a = subst (λ (x : CourseStep). Awaits x r.course.waits) e h.awaits octets in
+    asked_grows w most message r.course (reply octets) h.sound.0 a.0 ∙ ap (λ (qs : List Asked). asked_in r.course ++ qs) a.1
+
+-- a node that is got, or put, asks nothing
+unasked_node : (waits : Waiting) (o : Option Node) → asked_by waits (node o) ≡ []
+unasked_node to_begin o = refl
+unasked_node (to_end x) o = refl
+unasked_node (for_walk group s) o = refl
+unasked_node for_nothing o = refl
+
+unasked_put : (waits : Waiting) → asked_by waits stored ≡ []
+unasked_put to_begin = refl
+unasked_put (to_end x) = refl
+unasked_put (for_walk group s) = refl
+unasked_put for_nothing = refl
+
+pub run_got : (w : World) (most : ℕ) (message : List ℕ) (held : Node → Type 0) (r : Run) (name : Place) (o : Option Node)
+    → HoldsRun w most message held r → r.step ≡ get_node name → asked_in (ran_on w r (node o)).course ≡ asked_in r.course
+run_got w most message held r name o h e =
+    let a = subst (λ (x : CourseStep). Awaits x r.course.waits) e h.awaits o in
+    asked_grows w most message r.course (node o) h.sound.0 a
+    ∙ (ap (λ (qs : List Asked). asked_in r.course ++ qs) (unasked_node r.course.waits o) ∙ append-nil (asked_in r.course))
+
+pub run_put : (w : World) (most : ℕ) (message : List ℕ) (held : Node → Type 0) (r : Run) (name : Place) (n : Node)
+    → HoldsRun w most message held r → r.step ≡ put_node name n → asked_in (ran_on w r stored).course ≡ asked_in r.course
+run_put w most message held r name n h e =
+    let a = subst (λ (x : CourseStep). Awaits x r.course.waits) e h.awaits in
+    asked_grows w most message r.course stored h.sound.0 a
+    ∙ (ap (λ (qs : List Asked). asked_in r.course ++ qs) (unasked_put r.course.waits) ∙ append-nil (asked_in r.course))
+
 -- where what was held is of a table, and the replies are the table's, so are the nodes that a message was given
 pub run_of_table : (w : World) (most : ℕ) (message : List ℕ) (held : Node → Type 0) (r : Run) (replies : Replies) → HoldsRun w most message held r
     → ((n : Node) → held n → IsOfTable w replies n) → AskedOf replies (asked_in r.course) → CourseOf w replies r.course
@@ -105,7 +140,7 @@ run_of_table w most message held r replies h of asked =
 
 -- an end comes where nothing is waited for, with the outcome of the recursion
 ends_so : (w : World) (most : ℕ) (replies : Replies) (message : List ℕ) (waits : Waiting) (x : Result Outcome Refusal)
-    → CourseStepIs w most replies message waits (end x) → x ≡ alone w most replies message
+    → CourseStepIs w most replies message waits (end_with x) → x ≡ alone w most replies message
 ends_so w most replies message for_nothing x h = h
 ends_so w most replies message to_begin x h = absurd h
 ends_so w most replies message (to_end o) x h = absurd h
@@ -114,7 +149,7 @@ ends_so w most replies message (for_walk group s) x h = absurd h
 -- A message that was judged over nodes of a table, with the table's replies, ends with the outcome of the recursion
 pub run_ends : (w : World) (most : ℕ) (message : List ℕ) (held : Node → Type 0) (r : Run) (replies : Replies) (x : Result Outcome Refusal)
     → HoldsRun w most message held r → ((n : Node) → held n → IsOfTable w replies n) → AskedOf replies (asked_in r.course)
-    → r.step ≡ end x → x ≡ alone w most replies message
+    → r.step ≡ end_with x → x ≡ alone w most replies message
 run_ends w most message held r replies x h of asked e =
     ends_so w most replies message r.course.waits x
     (subst (CourseStepIs w most replies message r.course.waits) e (h.goes.says replies (run_of_table w most message held r replies h of asked)))
@@ -143,7 +178,7 @@ after_more w (j ∷ inputs) r i = after_more w inputs (ran_on w r j) i
 -- the recursion (RFC 4033 5)
 pub ends_from_nothing : (w : World) (most : ℕ) (message : List ℕ) (c : Course) (inputs : List Input) (x : Result Outcome Refusal)
     → begun most message ≡ Ok c → AreHeard w (λ (n : Node). ⊥) (first_run w c) inputs
-    → (after_heard w (first_run w c) inputs).step ≡ end x
+    → (after_heard w (first_run w c) inputs).step ≡ end_with x
     → (replies : Replies) → AskedOf replies (asked_in (after_heard w (first_run w c) inputs).course) → x ≡ alone w most replies message
 ends_from_nothing w most message c inputs x e heard ends replies asked =
     let none : Node → Type 0 = λ n. ⊥ in

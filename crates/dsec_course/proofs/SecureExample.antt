@@ -18,7 +18,7 @@ use Rattle.dsec_nodes.specs.Outcomes.{State, secure}
 use Rattle.dsec_nodes.specs.Machine.{Question as Asked, Input, node, stored, reply}
 use Rattle.dsec_nodes.proofs.NodeExamples as nodes
 use Rattle.dsec_nodes.proofs.NodeExamples.{parent, zone_key}
-use Rattle.dsec_course.specs.Course.{to_begin, Course, CourseStep, get, put, ask_for, end, asked_in}
+use Rattle.dsec_course.specs.Course.{to_begin, Course, CourseStep, get_node, put_node, ask_for, end_with, asked_in}
 use Rattle.dsec_course.specs.Advancing.{beginning, begun, going_on}
 use Rattle.dsec_course.specs.Hearing.{first_run, AreHeard, after_heard}
 
@@ -91,10 +91,10 @@ first (n ∷ ns) = Some n
 
 -- the state with which a step ends
 abbrev state_at : CourseStep → Option State
-state_at (end (Ok o)) = Some o.state
-state_at (end (Err e)) = None
-state_at (get name) = None
-state_at (put name n) = None
+state_at (end_with (Ok o)) = Some o.state
+state_at (end_with (Err e)) = None
+state_at (get_node name) = None
+state_at (put_node name n) = None
 state_at (ask_for name rtype) = None
 
 pub it_hears : AreHeard w (λ (n : Node). ⊥) (first_run w c) inputs

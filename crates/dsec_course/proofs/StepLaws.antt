@@ -1,15 +1,15 @@
 -- What a message has asked grows by the question of the step that was answered, and each step waits for what answers it.
-use Rattle.std.proofs.Common.{◌≡◌, ℕ, List, [], ◌∷◌, ◌++◌, Some, refl, sym, ap, ◌∙◌, append-nil, append_assoc}
+use Rattle.std.proofs.Common.{◌≡◌, ℕ, List, [], ◌∷◌, ◌++◌, Option, Some, refl, sym, ap, ◌∙◌, append-nil, append_assoc}
 use Rattle.std.specs.List.{flat_map}
 use Rattle.std.proofs.lemmas.List.Concat.{flat_map-append}
+use Rattle.dsec_spec.specs.Names.{Place}
 use Rattle.dsec_spec.specs.Groups.{Group}
 use Rattle.dsec_nodes.specs.World.{World}
-use Rattle.dsec_nodes.specs.Machine.{Question as Asked, Walking, Step, Input, begin, node, stored, reply, gets, in_phase, started, advanced, node_get, node_put, ask, done}
+use Rattle.dsec_nodes.specs.Machine.{Question as Asked, Walking, Step, Input, begin, node, stored, reply, gets, in_phase, started, asked_type, advanced, node_get, node_put, ask, done}
 use Rattle.dsec_nodes.specs.Judging.{Finding, is_shown, has_no_set, is_insecure, is_bogus, is_indeterminate, by_node, target_of}
-use Rattle.dsec_course.specs.Course.{Waiting, to_begin, to_end, for_walk, for_nothing, Course, CourseAnswers, Awaits, walk_in, asked_in, Way, at_once, by_walk, way_of}
+use Rattle.dsec_course.specs.Course.{Waiting, to_begin, to_end, for_walk, for_nothing, Course, CourseAnswers, Awaits, walk_in, asked_in, asked_by, Way, at_once, by_walk, way_of}
 use Rattle.dsec_course.specs.Advancing.{with_judged, with_walk, by_way, going_on, by_found, by_step, by_waiting, course_advanced}
 use Rattle.dsec_course.specs.Justified.{SoundCourseAt, SoundCourse}
-use Rattle.dsec_course.specs.Hearing.{asked_by}
 use Rattle.dsec_course.proofs.WalkSteps.{WalkAwaits, asked_after, advances}
 
 -- the questions of walks
@@ -81,6 +81,10 @@ asked_grows w most message c input h a = by c.waits input h a
     by (to_end o) (reply octets) g b = absurd b
     by for_nothing i g b = absurd b
 
+-- one question with its reply
+abbrev one : Place → ℕ → Option (List ℕ) → List Asked
+one name rtype octets = record { name = name; rtype = rtype; reply = octets } ∷ []
+
 going_awaits : (w : World) (groups : List Group) (c : Course) → Awaits (going_on w groups c).1 (going_on w groups c).0.waits
 unfolding going_on
 going_awaits w [] c = refl
@@ -90,11 +94,12 @@ going_awaits w (g ∷ gs) c = by (going_awaits w gs) (way_of w g)
     by later (at_once j) = later (with_judged c j)
     by later (by_walk top) = λ o. tt
 
-step_awaits : (w : World) (c : Course) (group : Group) (s : Walking) (x : Step) → WalkAwaits x s.phase
+step_awaits : (w : World) (c : Course) (group : Group) (s : Walking) (x : Step) → WalkAwaits x s
     → Awaits (by_step w c group s x).1 (by_step w c group s x).0.waits
 step_awaits w c group s (node_get name) h = h
 step_awaits w c group s (node_put name n) h = h
-step_awaits w c group s (ask name rtype) h = h
+step_awaits w c group s (ask name rtype) h =
+    λ octets. (h.0 octets, ap (λ (p : Place). one p (asked_type s.phase s.reached) octets) (sym h.1) ∙ ap (λ (n : ℕ). one name n octets) (sym h.2))
 step_awaits w c group s (done n) h = by (by_node w group n).finding
   where
     d : Course

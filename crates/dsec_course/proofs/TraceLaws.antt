@@ -16,7 +16,7 @@ use Rattle.dsec_nodes.specs.InStep.{AskedOf}
 use Rattle.dsec_nodes.specs.SoundSteps.{InputKept}
 use Rattle.dsec_nodes.specs.Judging.{Finding, is_shown, has_no_set, is_insecure, is_bogus, is_indeterminate, by_node, target_of}
 use Rattle.dsec_nodes.proofs.MachineLaws.{all_last}
-use Rattle.dsec_course.specs.Course.{Waiting, to_begin, to_end, for_walk, for_nothing, Course, CourseStep, get, put, ask_for, end, CourseAnswers, walk_in, walks_in, Way, at_once, by_walk, way_of}
+use Rattle.dsec_course.specs.Course.{Waiting, to_begin, to_end, for_walk, for_nothing, Course, CourseStep, get_node, put_node, ask_for, end_with, CourseAnswers, walk_in, walks_in, Way, at_once, by_walk, way_of}
 use Rattle.dsec_course.specs.Advancing.{with_judged, with_walk, by_way, going_on, by_found, by_step, by_waiting, course_advanced}
 use Rattle.dsec_course.specs.Agreeing.{WalkOf, CourseStepIs}
 use Rattle.dsec_course.specs.Justified.{CourseStepSound}
@@ -143,28 +143,28 @@ given_on w held puts c input a from h = by c.waits input a from h
 -- a node that a step puts is kept
 pub put_kept : (w : World) (most : ℕ) (message : List ℕ) (x : CourseStep) (waits : Waiting) → CourseStepSound w most message x waits → (n : Node)
     → Contains (put_by x) n → Kept w.accepts n
-put_kept w most message (put name m) (for_walk group s) h n there = subst (Kept w.accepts) (only m n there) h.0.0.0
-put_kept w most message (put name m) to_begin h n there = absurd h
-put_kept w most message (put name m) (to_end o) h n there = absurd h
-put_kept w most message (put name m) for_nothing h n there = absurd h
-put_kept w most message (get name) waits h n there = absurd (not_in_none n there)
+put_kept w most message (put_node name m) (for_walk group s) h n there = subst (Kept w.accepts) (only m n there) h.0.0.0
+put_kept w most message (put_node name m) to_begin h n there = absurd h
+put_kept w most message (put_node name m) (to_end o) h n there = absurd h
+put_kept w most message (put_node name m) for_nothing h n there = absurd h
+put_kept w most message (get_node name) waits h n there = absurd (not_in_none n there)
 put_kept w most message (ask_for name rtype) waits h n there = absurd (not_in_none n there)
-put_kept w most message (end r) waits h n there = absurd (not_in_none n there)
+put_kept w most message (end_with r) waits h n there = absurd (not_in_none n there)
 
 -- and of the table, where what was given is
 pub put_of_table : (w : World) (most : ℕ) (replies : Replies) (message : List ℕ) (x : CourseStep) (waits : Waiting)
     → CourseStepSound w most message x waits
     → CourseStepIs w most replies message waits x → (n : Node) → Contains (put_by x) n → IsOfTable w replies n
-put_of_table w most replies message (put name m) (for_walk group s) h is n there =
+put_of_table w most replies message (put_node name m) (for_walk group s) h is n there =
     subst (IsOfTable w replies) (only m n there) (λ top r.
     let same : top ≡ s.top = same_island w.anchors top s.top m r (h.0.1 h.1) in
     ap (λ (p : Place). node_of w replies p m.name) same ∙ (ap (λ (p : Place). node_of w replies s.top p) h.0.0.1 ∙ is))
-put_of_table w most replies message (put name m) to_begin h is n there = absurd h
-put_of_table w most replies message (put name m) (to_end o) h is n there = absurd h
-put_of_table w most replies message (put name m) for_nothing h is n there = absurd h
-put_of_table w most replies message (get name) waits h is n there = absurd (not_in_none n there)
+put_of_table w most replies message (put_node name m) to_begin h is n there = absurd h
+put_of_table w most replies message (put_node name m) (to_end o) h is n there = absurd h
+put_of_table w most replies message (put_node name m) for_nothing h is n there = absurd h
+put_of_table w most replies message (get_node name) waits h is n there = absurd (not_in_none n there)
 put_of_table w most replies message (ask_for name rtype) waits h is n there = absurd (not_in_none n there)
-put_of_table w most replies message (end r) waits h is n there = absurd (not_in_none n there)
+put_of_table w most replies message (end_with r) waits h is n there = absurd (not_in_none n there)
 
 -- a kept input, where what was held is kept
 pub input_kept : (w : World) (held : Node → Type 0) (puts : List Node) (i : Input) → ((n : Node) → held n → Kept w.accepts n)

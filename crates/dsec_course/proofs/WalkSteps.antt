@@ -13,12 +13,13 @@ use Rattle.dsec_nodes.specs.InStep.{WaitsBelow}
 use Rattle.dsec_nodes.proofs.NextLaws.{arrived_node}
 use Rattle.dsec_nodes.proofs.TakingLaws.{taken}
 
--- what answers a walk's step answers what it waits for
-abbrev pub WalkAwaits : Step → Phase → Type 0
-WalkAwaits (node_get name) x = (o : Option Node) → Answers x (node o)
-WalkAwaits (node_put name n) x = Answers x stored
-WalkAwaits (ask name rtype) x = (octets : Option (List ℕ)) → Answers x (reply octets)
-WalkAwaits (done n) x = Unit {0}
+-- what answers a walk's step answers what it waits for, and its question is the one under which the reply is kept
+abbrev pub WalkAwaits : Step → Walking → Type 0
+WalkAwaits (node_get name) t = (o : Option Node) → Answers t.phase (node o)
+WalkAwaits (node_put name n) t = Answers t.phase stored
+WalkAwaits (ask name rtype) t =
+    ((octets : Option (List ℕ)) → Answers t.phase (reply octets)) × (name ≡ name_at t) × (rtype ≡ asked_type t.phase t.reached)
+WalkAwaits (done n) t = Unit {0}
 
 -- a walk that ends has reached the node with which it ends
 abbrev pub HasReached : Step → Option Reached → Type 0
@@ -35,7 +36,7 @@ pub record Leaves (s : Walking) (asked : List Question) (got : List Node) (p : W
   pub got_is : p.0.got ≡ got
   pub reached : HasReached p.1 p.0.reached
   pub asked_is : WaitsBelow s.phase s.reached → p.0.asked ≡ asked
-  pub awaits : WaitsBelow s.phase s.reached → WalkAwaits p.1 p.0.phase
+  pub awaits : WaitsBelow s.phase s.reached → WalkAwaits p.1 p.0
 
 -- the next step from what is reached
 ahead_leaves : (t s : Walking) → s.top ≡ t.top → s.target ≡ t.target → Leaves t s.asked s.got (ahead s)
@@ -69,7 +70,7 @@ making_leaves s asked n = by n.standing
 
 -- a question for the next name
 asking_leaves : (s : Walking) → Leaves s s.asked s.got (asking s)
-asking_leaves s = record { same_top = refl; same_target = refl; got_is = refl; reached = tt; asked_is = λ _. refl; awaits = λ _ o. tt }
+asking_leaves s = record { same_top = refl; same_target = refl; got_is = refl; reached = tt; asked_is = λ _. refl; awaits = λ _. (λ octets. tt, refl, refl) }
 
 -- the first reply at a name is kept with its question
 first_leaves : (w : World) (s : Walking) (octets : Option (List ℕ))
@@ -78,7 +79,7 @@ first_leaves w s octets = by s.reached
   where
     by_below : (b : Below) → Leaves s (heard s DS octets) s.got (below_by s (heard s DS octets) b)
     by_below (made n) = making_leaves s (heard s DS octets) n
-    by_below (asks pending) = record { same_top = refl; same_target = refl; got_is = refl; reached = tt; asked_is = λ _. refl; awaits = λ _ o. tt }
+    by_below (asks pending) = record { same_top = refl; same_target = refl; got_is = refl; reached = tt; asked_is = λ _. refl; awaits = λ _. (λ octets. tt, refl, refl) }
 
     by : (o : Option Reached) → Leaves s (heard s (type_at o) octets) s.got (first_reply w s o octets)
     by None = making_leaves s (heard s DNSKEY octets) (by_anchor_reply w s.top (read_reply octets))

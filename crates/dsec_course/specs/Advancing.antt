@@ -11,7 +11,7 @@ use Rattle.dsec_nodes.specs.Machine.{Walking, Step, node_get, node_put, ask, don
 use Rattle.dsec_nodes.specs.Judging.{Finding, is_bogus, Judged, by_node, target_of}
 use Rattle.dsec_nodes.specs.Outcomes.{Outcome, by_links, by_nothing, bogus_by, not_built}
 use Rattle.dsec_nodes.specs.Alone.{Refusal, unreadable, on_questions, sections_of}
-pub use Rattle.dsec_course.specs.Course.{Waiting, to_begin, to_end, for_walk, for_nothing, Course, CourseStep, get, put, ask_for, end, CourseAnswers, Way, at_once, by_walk, way_of}
+pub use Rattle.dsec_course.specs.Course.{Waiting, to_begin, to_end, for_walk, for_nothing, Course, CourseStep, get_node, put_node, ask_for, end_with, CourseAnswers, Way, at_once, by_walk, way_of}
 
 -- a course with nothing behind it
 abbrev pub beginning : List ℕ → List Question → ℕ → List Group → Waiting → Course
@@ -85,7 +85,7 @@ at_last w c = on_questions w c.message c.questions (take c.answers c.judged) (dr
 
 -- a walk for a group sets out, first to get the node of its island (RFC 4033 2)
 abbrev pub setting_out : Course → Group → List Group → Walking → Course × CourseStep
-setting_out c group later s = (waiting c later (for_walk group (in_phase s gets)), get (name_at s))
+setting_out c group later s = (waiting c later (for_walk group (in_phase s gets)), get_node (name_at s))
 
 -- a group that is judged at once is passed, and judging goes on behind it; for any other a walk sets out (RFC 4035 4.3)
 abbrev pub by_way : Group → List Group → Way → (Course → Course × CourseStep) → Course → Course × CourseStep
@@ -94,27 +94,27 @@ by_way group later (by_walk top) behind c = setting_out c group later (started t
 
 -- judging goes on with these groups, in order, to the first that needs a walk, or to the end (RFC 4035 4.3)
 unfoldable pub going_on : World → List Group → Course → Course × CourseStep
-going_on w [] c = (waiting c [] for_nothing, end (at_last w c))
+going_on w [] c = (waiting c [] for_nothing, end_with (at_last w c))
 going_on w (g ∷ gs) c = by_way g gs (way_of w g) (going_on w gs) c
 
 -- after a group was judged: a bogus one ends the message, even one that has nothing to do with the question (RFC 4035 5)
 abbrev pub by_found : World → Course → Finding → Course × CourseStep
-by_found w c (is_bogus cause links) = (waiting c c.left for_nothing, end (Ok (bogus_by cause (by_links links))))
+by_found w c (is_bogus cause links) = (waiting c c.left for_nothing, end_with (Ok (bogus_by cause (by_links links))))
 by_found w c _ = going_on w c.left c
 
 -- after a step of the walk that is waited for: its step, or judging its group by the node that it has come to (RFC 4035 5)
 abbrev pub by_step : World → Course → Group → Walking → Step → Course × CourseStep
-by_step w c group s (node_get name) = (waiting c c.left (for_walk group s), get name)
-by_step w c group s (node_put name n) = (waiting c c.left (for_walk group s), put name n)
+by_step w c group s (node_get name) = (waiting c c.left (for_walk group s), get_node name)
+by_step w c group s (node_put name n) = (waiting c c.left (for_walk group s), put_node name n)
 by_step w c group s (ask name rtype) = (waiting c c.left (for_walk group s), ask_for name rtype)
 by_step w c group s (done n) = by_found w (with_judged (with_walk c s) (by_node w group n)) (by_node w group n).finding
 
 -- the step after an input, by what was waited for; what has ended stays as it is
 abbrev pub by_waiting : World → Course → Input → Waiting → Course × CourseStep
 by_waiting w c input to_begin = going_on w c.left c
-by_waiting w c input (to_end o) = (waiting c c.left for_nothing, end (Ok o))
+by_waiting w c input (to_end o) = (waiting c c.left for_nothing, end_with (Ok o))
 by_waiting w c input (for_walk group s) = by_step w c group (advanced w s input).0 (advanced w s input).1
-by_waiting w c input for_nothing = (c, end (Ok not_built))
+by_waiting w c input for_nothing = (c, end_with (Ok not_built))
 
 -- the step after what answers the last one (RFC 4035 4.3, 5)
 abbrev pub course_advanced : World → Course → Input → Course × CourseStep

@@ -11,7 +11,7 @@ use Rattle.dsec_nodes.specs.InStep.{AskedOf, GotOf, InStep, StepIs}
 use Rattle.dsec_nodes.specs.Judging.{Judged, AllJudged, all, one_bogus, target_of, judged_all}
 use Rattle.dsec_nodes.specs.Outcomes.{Outcome, by_links, bogus_by}
 use Rattle.dsec_nodes.specs.Alone.{Refusal, on_questions, alone}
-use Rattle.dsec_course.specs.Course.{Waiting, to_begin, to_end, for_walk, for_nothing, Course, CourseStep, get, put, ask_for, end, walks_in}
+use Rattle.dsec_course.specs.Course.{Waiting, to_begin, to_end, for_walk, for_nothing, Course, CourseStep, get_node, put_node, ask_for, end_with, walks_in}
 
 -- the replies and the nodes that a walk was given are a table's
 abbrev pub WalkOf : World → Replies → Walking → Type 0
@@ -55,10 +55,10 @@ CourseInStep w most message c = InStepAt w most message c c.waits
 
 -- what a step says is what the recursion says: the walk's steps as its own, the end as the outcome of the message
 abbrev pub CourseStepIs : World → ℕ → Replies → List ℕ → Waiting → CourseStep → Type 0
-CourseStepIs w most replies message (for_walk group s) (get name) = StepIs w replies s (node_get name)
-CourseStepIs w most replies message (for_walk group s) (put name n) = StepIs w replies s (node_put name n)
+CourseStepIs w most replies message (for_walk group s) (get_node name) = StepIs w replies s (node_get name)
+CourseStepIs w most replies message (for_walk group s) (put_node name n) = StepIs w replies s (node_put name n)
 CourseStepIs w most replies message (for_walk group s) (ask_for name rtype) = StepIs w replies s (ask name rtype)
-CourseStepIs w most replies message for_nothing (end r) = r ≡ alone w most replies message
+CourseStepIs w most replies message for_nothing (end_with r) = r ≡ alone w most replies message
 CourseStepIs w most replies message _ _ = ⊥
 
 -- A course goes on in step: wherever the replies and the nodes that its walks were given are a table's, what it does next is what the recursion

@@ -7,7 +7,7 @@ use Rattle.dsec_spec.specs.Groups.{Group}
 use Rattle.dsec_spec.specs.Islands.{island}
 use Rattle.dsec_nodes.specs.World.{World}
 use Rattle.dsec_nodes.specs.Nodes.{Node}
-use Rattle.dsec_nodes.specs.Machine.{Question as Asked, Walking, Input, begin, node, stored, reply, Answers}
+use Rattle.dsec_nodes.specs.Machine.{Question as Asked, Walking, Input, begin, node, stored, reply, name_at, asked_type, Answers}
 use Rattle.dsec_nodes.specs.Judging.{has_no_set, is_indeterminate, Judged, target_of}
 use Rattle.dsec_nodes.specs.Outcomes.{Outcome}
 use Rattle.dsec_nodes.specs.Alone.{Refusal}
@@ -33,10 +33,10 @@ pub record Course : Type 0 where
 
 -- a step: to get the node that is kept of a name, to put one, to ask for a set, or to end
 pub data CourseStep : Type 0 where
-  get : Place → CourseStep
-  put : Place → Node → CourseStep
+  get_node : Place → CourseStep
+  put_node : Place → Node → CourseStep
   ask_for : Place → ℕ → CourseStep
-  end : Result Outcome Refusal → CourseStep
+  end_with : Result Outcome Refusal → CourseStep
 
 -- the input answers the pending step: where a walk is waited for, the walk's
 abbrev pub CourseAnswers : Waiting → Input → Type 0
@@ -45,12 +45,18 @@ CourseAnswers (to_end o) begin = Unit {0}
 CourseAnswers (for_walk group s) i = Answers s.phase i
 CourseAnswers _ _ = ⊥
 
--- what is waited for is what answers the step, and nothing only at the end
+-- what was asked for a message after an input: a reply is kept with the question that it answers
+abbrev pub asked_by : Waiting → Input → List Asked
+asked_by (for_walk group s) (reply octets) = record { name = name_at s; rtype = asked_type s.phase s.reached; reply = octets } ∷ []
+asked_by _ _ = []
+
+-- what is waited for is what answers the step, and a reply is kept with the question that the step asks; nothing is waited for at the end alone
 abbrev pub Awaits : CourseStep → Waiting → Type 0
-Awaits (get name) waits = (o : Option Node) → CourseAnswers waits (node o)
-Awaits (put name n) waits = CourseAnswers waits stored
-Awaits (ask_for name rtype) waits = (octets : Option (List ℕ)) → CourseAnswers waits (reply octets)
-Awaits (end r) waits = waits ≡ for_nothing
+Awaits (get_node name) waits = (o : Option Node) → CourseAnswers waits (node o)
+Awaits (put_node name n) waits = CourseAnswers waits stored
+Awaits (ask_for name rtype) waits =
+    (octets : Option (List ℕ)) → CourseAnswers waits (reply octets) × (asked_by waits (reply octets) ≡ record { name = name; rtype = rtype; reply = octets } ∷ [])
+Awaits (end_with r) waits = waits ≡ for_nothing
 
 -- the group and the walk that are waited for, if there is one
 abbrev pub group_in : Waiting → List Group

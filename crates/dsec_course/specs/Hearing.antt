@@ -6,9 +6,9 @@ use Rattle.dsec_nodes.specs.World.{World, Replies}
 use Rattle.dsec_nodes.specs.Nodes.{Node, Kept}
 use Rattle.dsec_nodes.specs.Walk.{node_of}
 use Rattle.dsec_nodes.specs.Taking.{RestsAt}
-use Rattle.dsec_nodes.specs.Machine.{Question as Asked, Input, begin, node, stored, reply, name_at, asked_type}
+use Rattle.dsec_nodes.specs.Machine.{Input, begin, node, stored, reply}
 use Rattle.dsec_nodes.specs.InStep.{AskedOf}
-use Rattle.dsec_course.specs.Course.{Waiting, for_walk, Course, CourseStep, get, put, ask_for, end, CourseAnswers, Awaits, groups_in, walks_in, asked_in}
+use Rattle.dsec_course.specs.Course.{Course, CourseStep, get_node, put_node, ask_for, end_with, CourseAnswers, Awaits, groups_in, walks_in, asked_in}
 use Rattle.dsec_course.specs.Advancing.{course_advanced}
 use Rattle.dsec_course.specs.Agreeing.{CourseGoes}
 use Rattle.dsec_course.specs.Justified.{SoundGoing}
@@ -21,10 +21,10 @@ pub record Run : Type 0 where
 
 -- the node that a step puts
 abbrev pub put_by : CourseStep → List Node
-put_by (put name n) = n ∷ []
-put_by (get name) = []
+put_by (put_node name n) = n ∷ []
+put_by (get_node name) = []
 put_by (ask_for name rtype) = []
-put_by (end r) = []
+put_by (end_with r) = []
 
 -- a course that has begun
 abbrev pub first_run : World → Course → Run
@@ -59,11 +59,6 @@ AreHeard w held r (i ∷ inputs) = CourseAnswers r.course.waits i × GivenFrom h
 abbrev pub after_heard : World → Run → List Input → Run
 after_heard w r [] = r
 after_heard w r (i ∷ inputs) = after_heard w (ran_on w r i) inputs
-
--- what was asked for a message after an input: a reply is kept with the question that it answers
-abbrev pub asked_by : Waiting → Input → List Asked
-asked_by (for_walk group s) (reply octets) = record { name = name_at s; rtype = asked_type s.phase s.reached; reply = octets } ∷ []
-asked_by _ _ = []
 
 -- a node is of a table: it is the one that the recursion makes at its name, from the island at which its anchor stands, by these replies
 abbrev pub IsOfTable : World → Replies → Node → Type 0

@@ -16,7 +16,7 @@ use Rattle.dsec_nodes.specs.Judging.{Finding, is_shown, has_no_set, is_insecure,
 use Rattle.dsec_nodes.specs.Outcomes.{Outcome}
 use Rattle.dsec_nodes.specs.Alone.{Refusal, not_one_question, sections_of}
 use Rattle.dsec_nodes.specs.SoundOutcomes.{IsShownSet, IsShownInsecure, IsJustified}
-use Rattle.dsec_course.specs.Course.{Waiting, to_begin, to_end, for_walk, for_nothing, Course, CourseStep, get, put, ask_for, end, Way, at_once, by_walk, way_of}
+use Rattle.dsec_course.specs.Course.{Waiting, to_begin, to_end, for_walk, for_nothing, Course, CourseStep, get_node, put_node, ask_for, end_with, Way, at_once, by_walk, way_of}
 use Rattle.dsec_course.specs.Agreeing.{IsFor}
 
 -- what was found of a group is so: links show its set, it has no record, a signed record shows that no chain leads to its zone, or no anchor
@@ -101,10 +101,10 @@ IsEnd w most message (Err e) =
 -- a node that is put is kept, is the name's, counts at the moment of judging, and has an anchor of the island's; the end is one
 -- (RFC 4035 4.5, RFC 4033 5)
 abbrev pub CourseStepSound : World → ℕ → List ℕ → CourseStep → Waiting → Type 0
-CourseStepSound w most message (put name n) (for_walk group s) = KeptUnder w s.top name n × (IsBogus n.standing ≡ false)
-CourseStepSound w most message (put name n) _ = ⊥
-CourseStepSound w most message (end r) waits = IsEnd w most message r
-CourseStepSound w most message (get name) waits = Unit {0}
+CourseStepSound w most message (put_node name n) (for_walk group s) = KeptUnder w s.top name n × (IsBogus n.standing ≡ false)
+CourseStepSound w most message (put_node name n) _ = ⊥
+CourseStepSound w most message (end_with r) waits = IsEnd w most message r
+CourseStepSound w most message (get_node name) waits = Unit {0}
 CourseStepSound w most message (ask_for name rtype) waits = Unit {0}
 
 -- a course and its next step are sound (RFC 4033 5)
