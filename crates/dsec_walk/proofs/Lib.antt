@@ -1,5 +1,4 @@
 pub mod Places
-pub mod Counted
 pub mod Worlds
 pub mod Heard
 pub mod Making

@@ -20,13 +20,13 @@ parts s n m behind here phase asked asked' e b f g =
 
 by_bogus : (s : Walking) (asked : List Question) (n : Node) (x : Standing) → IsBogus x ≡ true → made_by s asked n x ≡ (with_node s asked n ends, done n)
 by_bogus s asked n (apex keys) e = absurd (false≢true e)
-by_bogus s asked n within e = absurd (false≢true e)
+by_bogus s asked n (within last) e = absurd (false≢true e)
 by_bogus s asked n (insecure cause signed) e = absurd (false≢true e)
 by_bogus s asked n (bogus cause) e = refl
 
 by_kept : (s : Walking) (asked : List Question) (n : Node) (x : Standing) → IsBogus x ≡ false → made_by s asked n x ≡ (with_node s asked n puts, node_put (name_at s) n)
 by_kept s asked n (apex keys) e = refl
-by_kept s asked n within e = refl
+by_kept s asked n (within last) e = refl
 by_kept s asked n (insecure cause signed) e = refl
 by_kept s asked n (bogus cause) e = absurd (true≢false e)
 

@@ -3,6 +3,7 @@ use Rattle.std.proofs.Common.{◌≡◌, ℕ, ◌+◌, ◌-◌, ◌*◌, ◌≤�
 use Rattle.std.proofs.Math.Seq.{take-append_seam}
 use Rattle.std.proofs.lemmas.Bool.{false≢true, and_parts, leb-true}
 use Rattle.dsec_spec.specs.Names.{Place, IsAtOrBelow, IsStrictlyBelow}
+use Rattle.dsec_spec.specs.Chain.{Link}
 use Rattle.dsec_spec.specs.Numbers.{DS, DNSKEY}
 use Rattle.dsec_nodes.specs.World.{World}
 use Rattle.dsec_nodes.specs.Nodes.{Node, Standing, apex, within, insecure, bogus}
@@ -113,14 +114,14 @@ arrived_in_zone w None n z may from to = λ g. by n.standing refl g
   where
     by : (x : Standing) → n.standing ≡ x → goes_on n.standing ≡ true → IsZoneNow w n
     by (apex keys) e g = record { keys = keys; begins = e; from = from; to = to }
-    by within e g = absurd (false≢true (sym (ap (may_stand None) e) ∙ may))
+    by (within last) e g = absurd (false≢true (sym (ap (may_stand None) e) ∙ may))
     by (insecure cause signed) e g = absurd (false≢true (sym (ap goes_on e) ∙ g))
     by (bogus cause) e g = absurd (false≢true (sym (ap goes_on e) ∙ g))
 arrived_in_zone w (Some r) n z may from to = by n.standing refl
   where
     by : (x : Standing) → n.standing ≡ x → IsInZone w (Some (after r.zone n x))
     by (apex keys) e = λ g. record { keys = keys; begins = e; from = from; to = to }
-    by within e = λ g. z
+    by (within last) e = λ g. z
     by (insecure cause signed) e = λ g. absurd (false≢true (sym (ap goes_on e) ∙ g))
     by (bogus cause) e = λ g. absurd (false≢true (sym (ap goes_on e) ∙ g))
 
@@ -142,7 +143,7 @@ making_in_zone w s asked n z = by n.standing
   where
     by : (x : Standing) → IsInZone w (made_by s asked n x).0.reached
     by (apex keys) = z
-    by within = z
+    by (within last) = z
     by (insecure cause signed) = z
     by (bogus cause) = z
 
@@ -159,9 +160,9 @@ given_in_zone w s (Some n) g z = by (counts w s.top (name_at s) n && may_stand s
         ahead_in_zone w (with_got s n) (arrived_in_zone w s.reached n (zone_of w s s.reached g z) both.1 t.from t.to)
 
 -- at the island a walk can stand on any node that isn't within a zone
-may_first : (x : Standing) → (x ≡ within → ⊥) → may_stand None x ≡ true
+may_first : (x : Standing) → ((last : Link) → x ≡ within last → ⊥) → may_stand None x ≡ true
 may_first (apex keys) never = refl
-may_first within never = absurd (never refl)
+may_first (within last) never = absurd (never last refl)
 may_first (insecure cause signed) never = refl
 may_first (bogus cause) never = refl
 

@@ -48,7 +48,7 @@ module _ (accepts : Accepts) (anchors : List Record) (bounds : Bounds) (now : �
     range_same : (group : Group) (nsec : Nsec) → by_range here zone keys name group nsec ≡ by_range bare zone keys name group nsec
     range_same group nsec =
         cond_same (is_in_range (place group.owner) (place nsec.next_name) name && is_below (place nsec.next_name) name) _ _ _ _
-        (signed_same name (by_covering here zone name group) (by_covering bare zone name group) (under_keys here zone.signer keys group) (λ p. refl)) refl
+        (signed_same name (by_covering here zone keys name group) (by_covering bare zone keys name group) (under_keys here zone.signer keys group) (λ p. refl)) refl
 
     prefix_same : (group : Group) (nsec : Nsec) (p : Record × Key) → by_prefix here zone keys name group nsec p ≡ by_prefix bare zone keys name group nsec p
     prefix_same group nsec p =

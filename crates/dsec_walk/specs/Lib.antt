@@ -1,3 +1,4 @@
 pub mod Views
 pub mod UnderWay
+pub mod Checks
 pub mod Progress

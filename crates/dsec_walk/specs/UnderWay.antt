@@ -1,7 +1,6 @@
 -- Walks that can be taken on at the moment of judging (RFC 4035 4.5, 5.2).
-use Rattle.std.specs.Prelude.{◌≡◌, ℕ, ◌+◌, ◌≤◌, List, length, Bool, true, false, Option, Some, None}
-use Rattle.dsec_spec.specs.Names.{Place, place, same_place, IsStrictlyBelow}
-use Rattle.dsec_spec.specs.Records.{Record}
+use Rattle.std.specs.Prelude.{◌≡◌, ℕ, ◌+◌, ◌≤◌, List, length, true, Option, Some, None}
+use Rattle.dsec_spec.specs.Names.{IsStrictlyBelow}
 use Rattle.dsec_nodes.specs.World.{World}
 use Rattle.dsec_nodes.specs.Nodes.{Node, apex}
 use Rattle.dsec_nodes.specs.Walk.{Reached, goes_on}
@@ -47,8 +46,3 @@ pub record CanHear (w : World) (s : Walking) : Type 0 where
   pub below : IsBelowZone w s s.reached
   pub pends : PendingSound w s s.phase s.reached
   pub waits : WaitsBelow s.phase s.reached
-
--- whether an anchor stands at a place (RFC 4033 2, island of security)
-abbrev pub stands_at : Place → Option Record → Bool
-stands_at top None = false
-stands_at top (Some anchor) = same_place (place anchor.owner) top

@@ -7,12 +7,10 @@ ghost use Rattle.dsec_node.specs.Views.{standing_view};
 ghost use Rattle.dsec_nodes.specs.Machine.{arrived as arrived_at};
 ghost use Rattle.dsec_nodes.specs.Nodes as nodes;
 ghost use Rattle.dsec_nodes.specs.Walk as walks;
-ghost use Rattle.dsec_spec.specs.Names.{place};
-ghost use Rattle.dsec_walk.specs.UnderWay.{stands_at as anchor_stands_at};
 ghost use Rattle.dsec_walk.specs.Views.{here_view};
 
 use dsec_crypto::Verifier;
-use dsec_name::{Name, NoMemory};
+use dsec_name::NoMemory;
 use dsec_node::{Node, Pending, Standing};
 use dsec_number::Rtype;
 use std::sync::Arc;
@@ -47,16 +45,6 @@ pub(crate) fn is_bogus(standing: &Standing) -> bool
     ensures { result ≡ nodes.IsBogus (standing_view standing.now) }
 {
     matches!(standing, Standing::Bogus(_))
-}
-
-/// Whether a node's anchor stands at a name.
-pub(crate) fn stands_at<V: Verifier>(node: &Node<V>, top: &Name) -> bool
-    ensures { result ≡ anchor_stands_at (place top.now) node.now.anchor }
-{
-    match node.anchor() {
-        Some(anchor) => *anchor.owner() == *top,
-        None => false,
-    }
 }
 
 /// What is reached by a node at the next name.

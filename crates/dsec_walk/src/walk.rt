@@ -2,11 +2,11 @@
 
 ghost use Rattle.std.specs.Prelude.{◌≡◌, ◌↔◌, ◌+◌, ◌-◌, ◌*◌, ◌≤◌, map, length, IfOk, IsTrue, OnErr};
 ghost use Rattle.dsec_spec.specs.Names.{IsAtOrBelow, place};
-ghost use Rattle.dsec_spec.specs.Numbers.{DNSKEY};
 ghost use Rattle.dsec_nodes.specs.InStep.{Goes, InStep};
 ghost use Rattle.dsec_nodes.specs.Machine as machine;
 ghost use Rattle.dsec_nodes.specs.SoundSteps.{InputKept, Sound};
 ghost use Rattle.dsec_nodes.specs.World.{World};
+ghost use Rattle.dsec_walk.specs.Checks.{most_checked_by};
 ghost use Rattle.dsec_walk.specs.UnderWay.{IsUnderWay};
 ghost use Rattle.dsec_walk.specs.Views.{input_view, question_view, step_view, world_in};
 
@@ -110,7 +110,7 @@ impl<V: Verifier> Walk<V> {
         ensures under_way { IfOk result (λ _. IsUnderWay (world_in V.accepts setting.now) self.new) }
         ensures few { IfOk result (λ _. length self.new.asked ≤ 1 + 2 * (length self.new.target - length self.new.top)) }
         ensures err { OnErr result (self.new.phase ≡ machine.ends) }
-        ensures bound { machine.asked_type self.old.phase self.old.reached ≡ DNSKEY → steps.new ≤ steps.old + (setting.now.config.now.max_bad_signatures + 1) }
+        ensures bound { steps.new ≤ steps.old + most_checked_by (input_view input) self.old.phase self.old.reached * (setting.now.config.now.max_bad_signatures + 1) }
     {
         match self.stepped::<L>(alloc, setting, input, memo, steps) {
             Ok(step) => Ok(step),
@@ -134,7 +134,7 @@ impl<V: Verifier> Walk<V> {
         requires answers { machine.Answers self.old.phase (input_view input) }
         ensures exact { IfOk result (λ s. (self.new, step_view s) ≡ machine.advanced (world_in V.accepts setting.now) self.old (input_view input)) }
         ensures kept { IfOk result (λ _. InputKept (world_in V.accepts setting.now) (input_view input)) }
-        ensures bound { machine.asked_type self.old.phase self.old.reached ≡ DNSKEY → steps.new ≤ steps.old + (setting.now.config.now.max_bad_signatures + 1) }
+        ensures bound { steps.new ≤ steps.old + most_checked_by (input_view input) self.old.phase self.old.reached * (setting.now.config.now.max_bad_signatures + 1) }
     {
         match input {
             Input::Begin => self.ahead(alloc),

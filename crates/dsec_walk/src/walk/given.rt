@@ -14,7 +14,7 @@ ghost use Rattle.dsec_walk.specs.UnderWay.{Fits};
 ghost use Rattle.dsec_walk.specs.Views.{step_view, world_in};
 
 use super::Walk;
-use crate::reached::{arrived, stands_at};
+use crate::reached::arrived;
 use crate::setting::Setting;
 use crate::steps::Step;
 use dsec_crypto::Verifier;
@@ -66,8 +66,7 @@ impl<V: Verifier> Walk<V> {
         ensures { result ≡ taking.counts (world_in V.accepts setting.now) self.now.top (place name.now) node.now }
     {
         let bounds = setting.config.bounds();
-        let for_taker = node.counts(name, setting.anchors, &bounds, setting.moment);
-        for_taker && stands_at(node, &self.top)
+        node.counts(&self.top, name, setting.anchors, &bounds, setting.moment)
     }
 
     /// Whether a walk can stand on a node: it doesn't begin at one within a zone, whose zone it doesn't know.

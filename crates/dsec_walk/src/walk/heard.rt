@@ -1,6 +1,6 @@
 //! What the replies to a walk's questions come to (RFC 4035 5.2).
 
-ghost use Rattle.std.specs.Prelude.{◌≡◌, ◌+◌, ◌≤◌, IfOk};
+ghost use Rattle.std.specs.Prelude.{◌≡◌, ◌+◌, ◌*◌, ◌≤◌, IfOk};
 ghost use Rattle.std.specs.Option.{option_map};
 ghost use Rattle.dsec_spec.specs.Names.{IsStrictlyBelow};
 ghost use Rattle.dsec_spec.specs.Numbers.{DNSKEY, DS};
@@ -11,6 +11,8 @@ ghost use Rattle.dsec_nodes.specs.Machine as machine;
 ghost use Rattle.dsec_nodes.specs.Replies.{read_reply};
 ghost use Rattle.dsec_nodes.specs.SoundSteps.{PendingSound};
 ghost use Rattle.dsec_nodes.specs.Walk.{by_anchor_reply, held_keys};
+ghost use Rattle.dsec_child.specs.Belows.{most_checked};
+ghost use Rattle.dsec_walk.specs.Checks.{checked_first, checked_reply};
 ghost use Rattle.dsec_walk.specs.Progress.{result_by};
 ghost use Rattle.dsec_walk.specs.UnderWay.{CanHear, Fits, IsBelowZone, IsZoneNow};
 ghost use Rattle.dsec_walk.specs.Views.{world_in};
@@ -40,7 +42,7 @@ impl<V: Verifier> Walk<V> {
     ) -> Result<Next<V>, NoMemory>
         requires { CanHear (world_in V.accepts setting.now) self.now }
         ensures next { IfOk result (λ n. machine.replied (world_in V.accepts setting.now) self.now self.now.phase reply.now ≡ result_by self.now reply.now n) }
-        ensures bound { machine.asked_type self.now.phase self.now.reached ≡ DNSKEY → steps.new ≤ steps.old + (setting.now.config.now.max_bad_signatures + 1) }
+        ensures bound { steps.new ≤ steps.old + checked_reply self.now.phase self.now.reached reply.now * (setting.now.config.now.max_bad_signatures + 1) }
     {
         match &self.phase {
             Phase::AsksKeys(pending) => {
@@ -117,7 +119,7 @@ impl<V: Verifier> Walk<V> {
         requires fits { Fits self.now }
         requires below { IsBelowZone (world_in V.accepts setting.now) self.now self.now.reached }
         ensures next { IfOk result (λ n. machine.first_reply (world_in V.accepts setting.now) self.now self.now.reached reply.now ≡ result_by self.now reply.now n) }
-        ensures bound { machine.type_at self.now.reached ≡ DNSKEY → steps.new ≤ steps.old + (setting.now.config.now.max_bad_signatures + 1) }
+        ensures bound { steps.new ≤ steps.old + checked_first self.now.reached reply.now * (setting.now.config.now.max_bad_signatures + 1) }
     {
         match &self.here {
             Some(here) => self.below_by::<L>(alloc, setting, &here.zone, reply, memo, steps),
@@ -165,8 +167,9 @@ impl<V: Verifier> Walk<V> {
         requires fits { Fits self.now }
         requires counts { IsZoneNow (world_in V.accepts setting.now) zone.now }
         requires under { IsStrictlyBelow (machine.name_at self.now) zone.now.signer }
-        ensures { IfOk result (λ n. machine.below_by self.now (machine.heard self.now DS reply.now)
+        ensures next { IfOk result (λ n. machine.below_by self.now (machine.heard self.now DS reply.now)
             (ds_reply_below (world_in V.accepts setting.now) zone.now (held_keys zone.now.standing) (machine.name_at self.now) (read_reply reply.now)) ≡ result_by self.now reply.now n) }
+        ensures bound { steps.new ≤ steps.old + most_checked (read_reply reply.now) * (setting.now.config.now.max_bad_signatures + 1) }
     {
         let name = self.name_at(alloc)?;
         let octets = copied(alloc, reply)?;

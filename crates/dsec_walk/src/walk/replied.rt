@@ -1,8 +1,8 @@
 //! Replies to a walk's questions, which it keeps.
 
-ghost use Rattle.std.specs.Prelude.{◌≡◌, ◌+◌, ◌≤◌, IfOk};
-ghost use Rattle.dsec_spec.specs.Numbers.{DNSKEY};
+ghost use Rattle.std.specs.Prelude.{◌≡◌, ◌+◌, ◌*◌, ◌≤◌, IfOk};
 ghost use Rattle.dsec_nodes.specs.Machine as machine;
+ghost use Rattle.dsec_walk.specs.Checks.{checked_reply};
 ghost use Rattle.dsec_walk.specs.Progress.{pended};
 ghost use Rattle.dsec_walk.specs.UnderWay.{CanHear, Fits};
 ghost use Rattle.dsec_walk.specs.Views.{step_view, world_in};
@@ -32,7 +32,7 @@ impl<V: Verifier> Walk<V> {
     ) -> Result<Step<V>, NoMemory>
         requires { CanHear (world_in V.accepts setting.now) self.old }
         ensures step { IfOk result (λ s. (self.new, step_view s) ≡ machine.replied (world_in V.accepts setting.now) self.old self.old.phase reply) }
-        ensures bound { machine.asked_type self.old.phase self.old.reached ≡ DNSKEY → steps.new ≤ steps.old + (setting.now.config.now.max_bad_signatures + 1) }
+        ensures bound { steps.new ≤ steps.old + checked_reply self.old.phase self.old.reached reply * (setting.now.config.now.max_bad_signatures + 1) }
     {
         match self.next_by::<L>(alloc, setting, &reply, memo, steps)? {
             Next::Made(rtype, node) => self.making(alloc, rtype, reply, node),
