@@ -1,19 +1,15 @@
 //! Judged groups: what was found of each, and by which node (RFC 4033 5, RFC 4035 4.3).
 
 ghost use Rattle.std.specs.Prelude.{◌≡◌, IfOk};
-ghost use Rattle.std.specs.Arc.{arc_value};
-ghost use Rattle.std.specs.Option.{option_map};
 ghost use Rattle.dsec_found.specs.Founds.{StandsOn, judged_view};
-ghost use Rattle.dsec_found.specs.Told.{cause_of, expands, signature_of, state_of, zone_links};
+ghost use Rattle.dsec_found.specs.Told.{cause_of, state_of};
 
 use crate::found::Found;
 use dsec_cause::Cause;
 use dsec_crypto::Verifier;
 use dsec_group::{Group, ValidationState};
-use dsec_link::Links;
 use dsec_name::{Name, NoMemory};
-use dsec_node::{Node, SignedCause};
-use dsec_wire::Record;
+use dsec_node::Node;
 use std::alloc::{AllocError, Global};
 use std::marker::Model;
 use std::sync::Arc;

@@ -1,7 +1,7 @@
 //! What a message comes to (RFC 4033 5, RFC 4035 4.3).
 
 ghost use Rattle.std.specs.Prelude.{◌≡◌};
-ghost use Rattle.dsec_nodes.specs.Outcomes.{not_built as not_built_of};
+ghost use Rattle.dsec_nodes.specs.Outcomes.{bogus_by, by_nothing, not_built as not_built_of};
 ghost use Rattle.dsec_found.specs.Outcomes.{state_view, why_view};
 
 use crate::judged::JudgedGroup;
@@ -44,21 +44,24 @@ impl<V: Verifier> Model for Outcome<V> {
 
 impl<V: Verifier> Outcome<V> {
     /// A state with its cause, and why it was found.
-    pub fn new(state: ValidationState, cause: Option<Cause>, why: Why<V>) -> Outcome<V>
+    pub(crate) fn new(state: ValidationState, cause: Option<Cause>, why: Why<V>) -> Outcome<V>
         ensures { result ≡ record { state = state_view state; cause = cause; why = why_view why } }
     {
         Outcome { state, cause, why }
+    }
+
+    /// A bogus outcome for which nothing else speaks.
+    pub fn bogus(cause: Cause) -> Outcome<V>
+        ensures { result ≡ bogus_by cause by_nothing }
+    {
+        Outcome::new(ValidationState::Bogus, Some(cause), Why::ByNothing)
     }
 
     /// The outcome where judging came to a part that is left out.
     pub(crate) fn not_built() -> Outcome<V>
         ensures { result ≡ not_built_of }
     {
-        Outcome {
-            state: ValidationState::Bogus,
-            cause: Some(Cause::NotBuilt),
-            why: Why::ByNothing,
-        }
+        Outcome::bogus(Cause::NotBuilt)
     }
 
     /// The security status of what the message answers (RFC 4033 5).
