@@ -46,7 +46,7 @@ making_nearer s asked n most fit le = by n.standing
   where
     by : (x : Standing) → steps_ahead (made_by s asked n x).0 < most
     by (apex keys) = omega (arith, fit, le)
-    by within = omega (arith, fit, le)
+    by (within last) = omega (arith, fit, le)
     by (insecure cause signed) = omega (arith, fit, le)
     by (bogus cause) = omega (arith, fit, le)
 

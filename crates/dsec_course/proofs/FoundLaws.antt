@@ -145,6 +145,6 @@ found_is w group top labels r some f o = by r.node.standing refl
     by : (s : Standing) → n.standing ≡ s
         → Justifies w (record { group = group; signer = n.signer; finding = found_at w group n s }) (found_at w group n s)
     by (apex keys) e = by_tried keys e (under_keys w n.signer keys group) refl
-    by within e = tt
+    by (within last) e = tt
     by (insecure cause signed) e = insecure_by_node w group top labels r cause signed f o e
     by (bogus cause) e = tt

@@ -44,7 +44,7 @@ making_under w s asked n k = by n.standing refl
   where
     by : (x : Standing) → n.standing ≡ x → PutUnder w s.top (made_by s asked n x).1
     by (apex keys) e = (k, ap IsBogus e)
-    by within e = (k, ap IsBogus e)
+    by (within last) e = (k, ap IsBogus e)
     by (insecure cause signed) e = (k, ap IsBogus e)
     by (bogus cause) e = tt
 

@@ -57,7 +57,7 @@ making_leaves s asked n = by n.standing
   where
     by : (x : Standing) → Leaves s asked s.got (made_by s asked n x)
     by (apex keys) = record { same_top = refl; same_target = refl; got_is = refl; reached = tt; asked_is = λ _. refl; awaits = λ _. tt }
-    by within = record { same_top = refl; same_target = refl; got_is = refl; reached = tt; asked_is = λ _. refl; awaits = λ _. tt }
+    by (within last) = record { same_top = refl; same_target = refl; got_is = refl; reached = tt; asked_is = λ _. refl; awaits = λ _. tt }
     by (insecure cause signed) = record { same_top = refl; same_target = refl; got_is = refl; reached = tt; asked_is = λ _. refl; awaits = λ _. tt }
     by (bogus cause) = record {
       same_top = refl;

@@ -78,7 +78,7 @@ if_ok (Err e) f h = h
 pub found_from_any : (accepts : Accepts) (anchors : List Record) (bounds : Bounds) (now : ℕ) (group : Group) (n : Node) (s : Standing)
     → found_at (world_of accepts [] bounds now) group n s ≡ found_at (world_of accepts anchors bounds now) group n s
 found_from_any accepts anchors bounds now group n (apex keys) = refl
-found_from_any accepts anchors bounds now group n within = refl
+found_from_any accepts anchors bounds now group n (within last) = refl
 found_from_any accepts anchors bounds now group n (insecure cause signed) = refl
 found_from_any accepts anchors bounds now group n (bogus cause) = refl
 

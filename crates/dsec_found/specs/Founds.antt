@@ -37,7 +37,7 @@ by_pair group n keys None key = found_by group n keys nothing
 abbrev pub by_insecure : Standing → Finding
 by_insecure (insecure cause signed) = is_insecure cause signed
 by_insecure (apex keys) = is_indeterminate
-by_insecure within = is_indeterminate
+by_insecure (within last) = is_indeterminate
 by_insecure (bogus cause) = is_indeterminate
 
 -- what is found of a group by a node

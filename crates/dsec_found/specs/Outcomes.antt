@@ -26,7 +26,7 @@ state_view states.Indeterminate = outcomes.indeterminate
 abbrev pub cause_in : Standing → outcomes.Why
 cause_in (insecure cause signed) = by_cause signed
 cause_in (apex keys) = by_nothing
-cause_in within = by_nothing
+cause_in (within last) = by_nothing
 cause_in (bogus cause) = by_nothing
 
 -- why a status was found

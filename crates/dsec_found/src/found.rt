@@ -57,7 +57,7 @@ pub(crate) fn found_by_node<V: Verifier, L: Ledger>(
             memo,
             steps,
         ),
-        Standing::Within => Ok(Found::Bogus(Cause::NoSignature)),
+        Standing::Within(_) => Ok(Found::Bogus(Cause::NoSignature)),
         Standing::Insecure(_, _) => Ok(Found::Insecure),
         Standing::Bogus(cause) => Ok(Found::Bogus(*cause)),
     }

@@ -1,0 +1,4 @@
+pub mod CountLaws
+pub mod HoldingLaws
+pub mod ServingLaws
+pub mod CallLaws

@@ -1,0 +1,2 @@
+//! Messages judged over caches of nodes, a memo and an upstream.
+#![tactic(auto)]
