@@ -44,7 +44,7 @@ end_so w most message table before now r replies x s e h asked =
     run_ends w most message (WasHeld w.accepts before.held) r replies x (serving_holds w most message table before now r s)
     (held_of_table w replies before.held h) asked e
 
-were_heard : (w : World) (most : ℕ) (message : List ℕ) (table : Option Table) (before now : Outside) (r : Run)
+pub were_heard : (w : World) (most : ℕ) (message : List ℕ) (table : Option Table) (before now : Outside) (r : Run)
     → IsServing w most message table before now r → WereHeard w most message (WasHeld w.accepts before.held) (asked_in r.course)
 were_heard w most message table before now r s = record {
   course = s.course;
@@ -156,7 +156,7 @@ groups_after w held [] r h = refl
 groups_after w held (i ∷ inputs) r h = groups_after w held inputs (ran_on w r i) h.2 ∙ groups_stay w r.course i h.0
 
 -- the questions that a message has heard are at most 255 for each of its groups
-heard_few : (w : World) (most : ℕ) (message : List ℕ) (held : Node → Type 0) (asked : List Asked) → ((n : Node) → held n → Kept w.accepts n)
+pub heard_few : (w : World) (most : ℕ) (message : List ℕ) (held : Node → Type 0) (asked : List Asked) → ((n : Node) → held n → Kept w.accepts n)
     → WereHeard w most message held asked → length asked ≤ most_questions most message
 heard_few w most message held asked kept t =
     let r = after_heard w (first_run w t.course) t.inputs in

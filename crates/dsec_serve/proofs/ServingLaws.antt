@@ -49,7 +49,7 @@ unasked_begin (to_end x) = refl
 unasked_begin (for_walk group s) = refl
 unasked_begin for_nothing = refl
 
-begins_unasked : (w : World) (most : ℕ) (message : List ℕ) (c : Course) → begun most message ≡ Ok c → asked_in (first_run w c).course ≡ []
+pub begins_unasked : (w : World) (most : ℕ) (message : List ℕ) (c : Course) → begun most message ≡ Ok c → asked_in (first_run w c).course ≡ []
 begins_unasked w most message c e =
     let n = begun_waits most message c e in
     asked_grows w most message c begin (begun_sound w most message c e) n.begins

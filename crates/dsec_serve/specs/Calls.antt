@@ -15,12 +15,8 @@ use Rattle.dsec_found.specs.Errors.{answer_of}
 use Rattle.dsec_course.specs.Course.{Course, groups_in, asked_in}
 use Rattle.dsec_course.specs.Advancing.{begun}
 use Rattle.dsec_course.specs.Hearing.{first_run, AreHeard, after_heard}
+pub use Rattle.dsec_serve.specs.Verdicts.{Verdict}
 use Rattle.dsec_serve.specs.Outside.{Outside, AreCounted, WasHeld, HoldsTable}
-
--- what a message comes to, and how many questions were asked for it (RFC 4033 5)
-pub record Verdict : Type 0 where
-  pub outcome : Outcome
-  pub questions : ℕ
 
 -- The questions are those of the message judged a step at a time, with their replies: it heard inputs, whose nodes were held when the call
 -- began or were put on the way (RFC 4035 4.3)
