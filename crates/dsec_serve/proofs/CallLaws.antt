@@ -1,0 +1,191 @@
+-- What a call promises where judging a message ends, by how far it has come.
+use Rattle.std.proofs.Common.{◌≡◌, ◌⊎◌, ℕ, ◌*◌, ◌≤◌, List, [], ◌∷◌, length, Option, Some, None, IfSome, Result, Ok, Err, IfOk, refl, sym, ap, ◌∙◌, subst, inl, inr, arith}
+use Rattle.std.specs.Prelude.{Contains}
+use Rattle.dsec_spec.specs.Messages.{Question, questions_of}
+use Rattle.dsec_spec.specs.Groups.{Group}
+use Rattle.dsec_spec.specs.Outside.{Table, risen}
+use Rattle.dsec_nodes.specs.World.{World, Replies}
+use Rattle.dsec_nodes.specs.Nodes.{Node, Kept}
+use Rattle.dsec_nodes.specs.Machine.{Question as Asked, Input, begin}
+use Rattle.dsec_nodes.specs.InStep.{AskedOf}
+use Rattle.dsec_nodes.specs.Outcomes.{Outcome}
+use Rattle.dsec_nodes.specs.SoundOutcomes.{IsJustified}
+use Rattle.dsec_nodes.specs.Alone.{Refusal, unreadable, not_one_question, alone}
+use Rattle.dsec_found.specs.declared.error.Error.{Error}
+use Rattle.dsec_found.specs.declared.error.Error.TheVariants.{FormError, ParseError, NoMemory}
+use Rattle.dsec_found.specs.Errors.{answer_of}
+use Rattle.dsec_course.specs.Course.{Waiting, Course, CourseStep, end_with, groups_in, asked_in}
+use Rattle.dsec_course.specs.Advancing.{begun, course_advanced}
+use Rattle.dsec_course.specs.Hearing.{Run, first_run, ran_on, AreHeard, after_heard, HoldsRun}
+use Rattle.dsec_course.specs.Justified.{IsEnd, CourseStepSound}
+use Rattle.dsec_course.proofs.AskingLaws.{groups_stay}
+use Rattle.dsec_course.proofs.BeginningLaws.{begun_waits, begun_refused, refused_alone}
+use Rattle.dsec_course.proofs.RunLaws.{run_begins, run_asks, run_ends, heard_holds}
+use Rattle.dsec_serve.specs.Outside.{Outside, replies_of, AreCounted, WasHeld, HoldsTable}
+use Rattle.dsec_serve.specs.Serving.{IsServing}
+use Rattle.dsec_serve.specs.Calls.{Verdict, WereHeard, IsAnswer, Says, AgreesWith, IsCall, count_of, most_questions}
+use Rattle.dsec_serve.proofs.CountLaws.{counted_lost, counted_none}
+use Rattle.dsec_serve.proofs.HoldingLaws.{held_of_table, holds_after}
+use Rattle.dsec_serve.proofs.ServingLaws.{serving_holds}
+
+-- where all that was held and heard is of a table, so is all that is held
+held_so : (w : World) (most : ℕ) (message : List ℕ) (table : Option Table) (before now : Outside) (r : Run) (replies : Replies)
+    → IsServing w most message table before now r → HoldsTable w replies before.held → AskedOf replies (asked_in r.course)
+    → HoldsTable w replies now.held
+held_so w most message table before now r replies s h asked =
+    holds_after w replies before.held now.held r.puts s.holds_more h
+    ((serving_holds w most message table before now r s).traced.of_table replies (held_of_table w replies before.held h) asked)
+
+-- and the end is what the recursion comes to
+end_so : (w : World) (most : ℕ) (message : List ℕ) (table : Option Table) (before now : Outside) (r : Run) (replies : Replies) (x : Result Outcome Refusal)
+    → IsServing w most message table before now r → r.step ≡ end_with x → HoldsTable w replies before.held → AskedOf replies (asked_in r.course)
+    → x ≡ alone w most replies message
+end_so w most message table before now r replies x s e h asked =
+    run_ends w most message (WasHeld w.accepts before.held) r replies x (serving_holds w most message table before now r s)
+    (held_of_table w replies before.held h) asked e
+
+pub were_heard : (w : World) (most : ℕ) (message : List ℕ) (table : Option Table) (before now : Outside) (r : Run)
+    → IsServing w most message table before now r → WereHeard w most message (WasHeld w.accepts before.held) (asked_in r.course)
+were_heard w most message table before now r s = record {
+  course = s.course;
+  begins = s.begins;
+  inputs = s.inputs;
+  heard = s.heard;
+  are = ap (λ (x : Run). asked_in x.course) (sym s.comes_to);
+}
+
+-- the end of a run is sound
+sound_end : (w : World) (most : ℕ) (message : List ℕ) (table : Option Table) (before now : Outside) (r : Run) (x : Result Outcome Refusal)
+    → IsServing w most message table before now r → r.step ≡ end_with x → IsEnd w most message x
+sound_end w most message table before now r x s e =
+    subst (λ (y : CourseStep). CourseStepSound w most message y r.course.waits) e (serving_holds w most message table before now r s).sound.1
+
+-- an outcome at the end
+pub ends_ok : (w : World) (most : ℕ) (message : List ℕ) (table : Option Table) (before now : Outside) (r : Run) (o : Outcome)
+    → IsServing w most message table before now r → r.step ≡ end_with (Ok o)
+    → IsCall w most message table before now (Ok (record { outcome = o; questions = length (asked_in r.course) }))
+ends_ok w most message table before now r o s e = record {
+  asked = asked_in r.course;
+  lost = 0;
+  counted = s.counted;
+  few = refl;
+  in_turn = inr (were_heard w most message table before now r s);
+  so = (refl, sound_end w most message table before now r (Ok o) s e);
+  agrees = λ replies h asked. record {
+    says = sym (end_so w most message table before now r replies (Ok o) s e h asked);
+    holds = held_so w most message table before now r replies s h asked;
+  };
+}
+
+-- a refusal at the end
+pub ends_refused : (w : World) (most : ℕ) (message : List ℕ) (table : Option Table) (before now : Outside) (r : Run)
+    → IsServing w most message table before now r → r.step ≡ end_with (Err not_one_question) → IsCall w most message table before now (Err FormError)
+ends_refused w most message table before now r s e = record {
+  asked = asked_in r.course;
+  lost = 0;
+  counted = s.counted;
+  few = refl;
+  in_turn = inr (were_heard w most message table before now r s);
+  so = (sound_end w most message table before now r (Err not_one_question) s e).1;
+  agrees = λ replies h asked. record {
+    says = ap answer_of (sym (end_so w most message table before now r replies (Err not_one_question) s e h asked));
+    holds = held_so w most message table before now r replies s h asked;
+  };
+}
+
+-- no memory, at any step
+pub ends_without_memory : (w : World) (most : ℕ) (message : List ℕ) (table : Option Table) (before now : Outside) (r : Run)
+    → IsServing w most message table before now r → IsCall w most message table before now (Err NoMemory)
+ends_without_memory w most message table before now r s = record {
+  asked = asked_in r.course;
+  lost = 0;
+  counted = s.counted;
+  few = omega arith;
+  in_turn = inr (were_heard w most message table before now r s);
+  so = tt;
+  agrees = λ replies h asked. record { says = tt; holds = held_so w most message table before now r replies s h asked };
+}
+
+-- a question found no memory
+pub ends_at_a_question : (w : World) (most : ℕ) (message : List ℕ) (table : Option Table) (before now next : Outside) (r : Run)
+    → IsServing w most message table before now r → next.held ≡ now.held → next.asked ≡ risen now.asked → next.faults ≡ now.faults
+    → IsCall w most message table before next (Err NoMemory)
+ends_at_a_question w most message table before now next r s same a f = record {
+  asked = asked_in r.course;
+  lost = 1;
+  counted = counted_lost table before now next (asked_in r.course) s.counted a f;
+  few = omega arith;
+  in_turn = inr (were_heard w most message table before now r s);
+  so = tt;
+  agrees = λ replies h asked. record {
+    says = tt;
+    holds = subst (HoldsTable w replies) (sym same) (held_so w most message table before now r replies s h asked);
+  };
+}
+
+-- a message that can't be read
+pub ends_unread : (w : World) (most : ℕ) (message : List ℕ) (table : Option Table) (before : Outside) → begun most message ≡ Err unreadable
+    → IsCall w most message table before before (Err ParseError)
+ends_unread w most message table before e = record {
+  asked = [];
+  lost = 0;
+  counted = counted_none table before;
+  few = refl;
+  in_turn = inl refl;
+  so = ((begun_refused most message unreadable e).none, refl);
+  agrees = λ replies h asked. record { says = ap answer_of (refused_alone w most replies message unreadable e); holds = h };
+}
+
+-- no memory to begin
+pub ends_unbegun : (w : World) (most : ℕ) (message : List ℕ) (table : Option Table) (before : Outside)
+    → IsCall w most message table before before (Err NoMemory)
+ends_unbegun w most message table before = record {
+  asked = [];
+  lost = 0;
+  counted = counted_none table before;
+  few = omega arith;
+  in_turn = inl refl;
+  so = tt;
+  agrees = λ replies h asked. record { says = tt; holds = h };
+}
+
+-- what was heard leaves the groups as they are
+groups_after : (w : World) (held : Node → Type 0) (inputs : List Input) (r : Run) → AreHeard w held r inputs
+    → groups_in (after_heard w r inputs).course ≡ groups_in r.course
+groups_after w held [] r h = refl
+groups_after w held (i ∷ inputs) r h = groups_after w held inputs (ran_on w r i) h.2 ∙ groups_stay w r.course i h.0
+
+-- the questions that a message has heard are at most 255 for each of its groups
+pub heard_few : (w : World) (most : ℕ) (message : List ℕ) (held : Node → Type 0) (asked : List Asked) → ((n : Node) → held n → Kept w.accepts n)
+    → WereHeard w most message held asked → length asked ≤ most_questions most message
+heard_few w most message held asked kept t =
+    let r = after_heard w (first_run w t.course) t.inputs in
+    let h : HoldsRun w most message held r = heard_holds w most message held t.inputs (first_run w t.course) kept (run_begins w most message held t.course kept t.begins) t.heard in
+    let same : groups_in r.course ≡ groups_in t.course =
+    groups_after w held t.inputs (first_run w t.course) t.heard ∙ groups_stay w t.course begin (begun_waits most message t.course t.begins).begins in
+    let lengths : length (groups_in r.course) ≡ length (groups_in t.course) = ap length same in
+    let counts : count_of (begun most message) ≡ length (groups_in t.course) = ap count_of t.begins in
+    let are : length asked ≡ length (asked_in r.course) = ap length t.are in
+    omega (arith, run_asks w most message held r h, lengths, counts, are)
+
+-- A verdict's questions are at most 255 for each group of its message
+pub call_few : (w : World) (most : ℕ) (message : List ℕ) (table : Option Table) (before after : Outside) (answer : Result Verdict Error)
+    → IsCall w most message table before after answer → IfOk answer (λ v. v.questions ≤ most_questions most message)
+call_few w most message table before after (Err e) c = tt
+call_few w most message table before after (Ok v) c = elim c.in_turn [
+  | inl none ↦ let l : length c.asked ≡ 0 = ap length none in omega (arith, l, c.so.0)
+  | inr heard ↦ omega (arith, c.so.0, heard_few w most message (WasHeld w.accepts before.held) c.asked (λ n x. x.0) heard)
+]
+
+-- Where the upstream tells its table, and all that was held is of it, the answer is that of the table
+pub call_told : (w : World) (most : ℕ) (message : List ℕ) (table : Option Table) (before after : Outside) (answer : Result Verdict Error)
+    → IsCall w most message table before after answer
+    → IfSome table (λ t. HoldsTable w (replies_of t) before.held → AgreesWith w most message after answer (replies_of t))
+call_told w most message None before after answer c = tt
+call_told w most message (Some t) before after answer c = λ h. c.agrees (replies_of t) h c.counted.told
+
+-- An outcome is justified
+pub call_sound : (w : World) (most : ℕ) (message : List ℕ) (table : Option Table) (before after : Outside) (answer : Result Verdict Error)
+    → IsCall w most message table before after answer → IfOk answer (λ v. IsJustified w most message v.outcome v.outcome.state)
+call_sound w most message table before after (Err e) c = tt
+call_sound w most message table before after (Ok v) c = c.so.1

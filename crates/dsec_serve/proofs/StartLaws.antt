@@ -1,0 +1,87 @@
+-- What the start of judging a message says of the call.
+use Rattle.std.proofs.Common.{◌≡◌, ℕ, List, Option, Result, Ok, Err, refl, sym, ap, ◌∙◌, subst}
+use Rattle.std.specs.Bool.{OnFalse}
+use Rattle.dsec_spec.specs.Accepts.{Accepts}
+use Rattle.dsec_spec.specs.Outside.{Table}
+use Rattle.dsec_spec.specs.Records.{Record}
+use Rattle.dsec_nodes.specs.World.{World}
+use Rattle.dsec_nodes.specs.Alone.{Refusal, unreadable, not_one_question}
+use Rattle.dsec_node.specs.Configs.{Settings}
+use Rattle.dsec_node.specs.Views.{bounds_of, world_of}
+use Rattle.dsec_found.specs.declared.error.Error.{Error}
+use Rattle.dsec_found.specs.declared.error.Error.TheVariants.{FormError, ParseError, NoMemory}
+use Rattle.dsec_found.specs.Errors.{wants_memory, refusal_of}
+use Rattle.dsec_course.specs.Course.{Course}
+use Rattle.dsec_course.specs.Advancing.{begun}
+use Rattle.dsec_course.proofs.BeginningLaws.{begun_refused}
+use Rattle.dsec_core.specs.Validating.{Validating, begun_as, most_of, world_by}
+use Rattle.dsec_serve.specs.Outside.{Outside}
+use Rattle.dsec_serve.specs.Calls.{Verdict, IsCall}
+use Rattle.dsec_serve.proofs.CallLaws.{ends_unread, ends_unbegun}
+
+-- what was started has these parts, and is begun
+pub record IsStarted (anchors : List Record) (config : Settings) (moment : ℕ) (message : List ℕ) (it : Validating) : Type 0 where
+  pub begins : begun config.max_cname_dname message ≡ Ok it.course
+  pub same_anchors : it.anchors ≡ anchors
+  pub same_config : it.config ≡ config
+  pub same_moment : it.moment ≡ moment
+
+pub started : (anchors : List Record) (config : Settings) (moment : ℕ) (message : List ℕ) (it : Validating)
+    → begun_as anchors config moment (begun config.max_cname_dname message) ≡ Ok it → IsStarted anchors config moment message it
+started anchors config moment message it e = by (begun config.max_cname_dname message) refl e
+  where
+    by : (r : Result Course Refusal) → begun config.max_cname_dname message ≡ r → begun_as anchors config moment r ≡ Ok it
+        → IsStarted anchors config moment message it
+    by (Err x) f g = absurd cc
+    by (Ok c) f g =
+        let same : record { anchors = anchors; config = config; moment = moment; course = c } ≡ it = cc in
+        record {
+          begins = f ∙ ap (λ (v : Validating). Ok v.course) same;
+          same_anchors = sym (ap (λ (v : Validating). v.anchors) same);
+          same_config = sym (ap (λ (v : Validating). v.config) same);
+          same_moment = sym (ap (λ (v : Validating). v.moment) same);
+        }
+
+-- so a call over what was started is one over its parts
+pub started_call : (accepts : Accepts) (anchors : List Record) (config : Settings) (moment : ℕ) (message : List ℕ) (it : Validating) (table : Option Table)
+    (before after : Outside) (answer : Result Verdict Error) → IsStarted anchors config moment message it
+    → IsCall (world_by accepts it) (most_of it) message table before after answer
+    → IsCall (world_of accepts anchors (bounds_of config) moment) config.max_cname_dname message table before after answer
+started_call accepts anchors config moment message it table before after answer s c =
+    subst (λ (x : ℕ). IsCall (world_of accepts anchors (bounds_of config) x) config.max_cname_dname message table before after answer) s.same_moment
+    (subst (λ (x : List Record). IsCall (world_of accepts x (bounds_of config) it.moment) config.max_cname_dname message table before after answer) s.same_anchors
+    (subst (λ (x : Settings). IsCall (world_of accepts it.anchors (bounds_of x) it.moment) x.max_cname_dname message table before after answer) s.same_config c))
+
+-- with the anchors that these are
+pub started_from : (own anchors : List Record) (config : Settings) (moment : ℕ) (message : List ℕ) (it : Validating) → own ≡ anchors
+    → IsStarted own config moment message it → IsStarted anchors config moment message it
+started_from own anchors config moment message it e s =
+    record { begins = s.begins; same_anchors = s.same_anchors ∙ e; same_config = s.same_config; same_moment = s.same_moment }
+
+-- what was started has begun by its own settings
+pub started_begins : (anchors : List Record) (config : Settings) (moment : ℕ) (message : List ℕ) (it : Validating)
+    → IsStarted anchors config moment message it → begun (most_of it) message ≡ Ok it.course
+started_begins anchors config moment message it s =
+    subst (λ (x : Settings). begun x.max_cname_dname message ≡ Ok it.course) (sym s.same_config) s.begins
+
+-- a message that wasn't started
+pub unstarted : (w : World) (anchors : List Record) (config : Settings) (moment : ℕ) (message : List ℕ) (table : Option Table) (before : Outside) (e : Error)
+    → OnFalse (wants_memory e) (begun_as anchors config moment (begun config.max_cname_dname message) ≡ Err e)
+    → IsCall w config.max_cname_dname message table before before (Err e)
+unstarted w anchors config moment message table before NoMemory h = ends_unbegun w config.max_cname_dname message table before
+unstarted w anchors config moment message table before ParseError h =
+    by (begun config.max_cname_dname message) refl h
+  where
+    by : (r : Result Course Refusal) → begun config.max_cname_dname message ≡ r → begun_as anchors config moment r ≡ Err ParseError
+        → IsCall w config.max_cname_dname message table before before (Err ParseError)
+    by (Ok c) f g = absurd cc
+    by (Err unreadable) f g = ends_unread w config.max_cname_dname message table before f
+    by (Err not_one_question) f g = absurd cc
+unstarted w anchors config moment message table before FormError h =
+    by (begun config.max_cname_dname message) refl h
+  where
+    by : (r : Result Course Refusal) → begun config.max_cname_dname message ≡ r → begun_as anchors config moment r ≡ Err FormError
+        → IsCall w config.max_cname_dname message table before before (Err FormError)
+    by (Ok c) f g = absurd cc
+    by (Err unreadable) f g = absurd cc
+    by (Err not_one_question) f g = let u = (begun_refused config.max_cname_dname message not_one_question f).refusal in absurd cc

@@ -1,0 +1,100 @@
+-- One step of a message leads on, or the call ends.
+use Rattle.std.proofs.Common.{◌≡◌, ◌<◌, ℕ, Bool, true, false, List, Option, Some, None, IfOk, Result, Ok, Err, refl, sym, ap, ◌∙◌, subst}
+use Rattle.std.proofs.lemmas.Bool.{false≢true, true≢false}
+use Rattle.dsec_spec.specs.Accepts.{Accepts}
+use Rattle.dsec_spec.specs.Outside.{Table, risen}
+use Rattle.dsec_nodes.specs.World.{World}
+use Rattle.dsec_nodes.specs.Nodes.{Node}
+use Rattle.dsec_nodes.specs.Machine.{Input, begin, node, stored, reply}
+use Rattle.dsec_nodes.specs.Alone.{not_one_question}
+use Rattle.dsec_found.specs.declared.error.Error.{Error}
+use Rattle.dsec_found.specs.declared.error.Error.TheVariants.{FormError, ParseError, NoMemory}
+use Rattle.dsec_course.specs.Course.{Waiting, Course, CourseStep, get_node, put_node, ask_for, end_with, CourseAnswers, Awaits}
+use Rattle.dsec_course.specs.Advancing.{begun, course_advanced}
+use Rattle.dsec_course.specs.Hearing.{Run, first_run, ran_on}
+use Rattle.dsec_course.specs.Ending.{steps_left}
+use Rattle.dsec_course.specs.Justified.{SoundCourse}
+use Rattle.dsec_course.proofs.EndingLaws.{course_nearer}
+use Rattle.dsec_core.specs.declared.step.Step.{Step}
+use Rattle.dsec_core.specs.Validating.{AdvancesTo}
+use Rattle.dsec_core.specs.Views.{step_view}
+use Rattle.dsec_serve.specs.Outside.{Outside, IsServed}
+use Rattle.dsec_serve.specs.Serving.{IsServing}
+use Rattle.dsec_serve.specs.Calls.{IsCall}
+use Rattle.dsec_serve.specs.Turns.{ends, IsAt, ComesTo}
+use Rattle.dsec_serve.proofs.ServingLaws.{serving_begins, serving_goes_on, serving_holds}
+use Rattle.dsec_serve.proofs.CallLaws.{ends_refused, ends_without_memory, ends_at_a_question}
+
+-- what serves a step answers what is waited for
+pub served_answers : (accepts : Accepts) (table : Option Table) (before after : Outside) (step : CourseStep) (waits : Waiting) (i : Input)
+    → IsServed accepts table before after step i → Awaits step waits → CourseAnswers waits i
+served_answers accepts table before after (get_node name) waits (node o) s a = a o
+served_answers accepts table before after (put_node name n) waits stored s a = a
+served_answers accepts table before after (ask_for name rtype) waits (reply octets) s a = (a octets).0
+served_answers accepts table before after (get_node name) waits begin s a = absurd s
+served_answers accepts table before after (get_node name) waits stored s a = absurd s
+served_answers accepts table before after (get_node name) waits (reply octets) s a = absurd s
+served_answers accepts table before after (put_node name n) waits begin s a = absurd s
+served_answers accepts table before after (put_node name n) waits (node o) s a = absurd s
+served_answers accepts table before after (put_node name n) waits (reply octets) s a = absurd s
+served_answers accepts table before after (ask_for name rtype) waits begin s a = absurd s
+served_answers accepts table before after (ask_for name rtype) waits (node o) s a = absurd s
+served_answers accepts table before after (ask_for name rtype) waits stored s a = absurd s
+served_answers accepts table before after (end_with r) waits i s a = absurd s
+
+-- what a run comes to by an answer
+comes_by : {V : Type 0} (w : World) (most : ℕ) (message : List ℕ) (table : Option Table) (before now : Outside) (r : Run) (course : Course)
+    (result : Result (Step V) Error) → IsServing w most message table before now r → AdvancesTo (r.course, r.step) course result
+    → ComesTo w most message table before now course result
+comes_by w most message table before now r course (Ok step) s e = (r, ap (λ (p : Course × CourseStep). p.0) (sym e), ap (λ (p : Course × CourseStep). p.1) (sym e), s)
+comes_by w most message table before now r course (Err FormError) s e =
+    ends_refused w most message table before now r s (ap (λ (p : Course × CourseStep). p.1) (sym e))
+comes_by w most message table before now r course (Err ParseError) s e = absurd e
+comes_by w most message table before now r course (Err NoMemory) s e = ends_without_memory w most message table before now r s
+
+-- a step that was answered
+pub turned : {V : Type 0} (w : World) (most : ℕ) (message : List ℕ) (table : Option Table) (before now next : Outside) (old new : Course)
+    (step : CourseStep) (i : Input) (result : Result (Step V) Error) → IsAt w most message table before now old step
+    → IsServed w.accepts table now next step i → AdvancesTo (course_advanced w old i) new result
+    → ComesTo w most message table before next new result
+turned w most message table before now next old new step i result (r, at, its, s) served e =
+    comes_by w most message table before next (ran_on w r i) new result
+    (serving_goes_on w most message table before now next r i s (subst (λ (x : CourseStep). IsServed w.accepts table now next x i) (sym its) served))
+    (subst (λ (c : Course). AdvancesTo (course_advanced w c i) new result) (sym at) e)
+
+-- a question that found no memory
+pub unanswered : (w : World) (most : ℕ) (message : List ℕ) (table : Option Table) (before now next : Outside) (old : Course) (step : CourseStep)
+    → IsAt w most message table before now old step → next.held ≡ now.held → next.asked ≡ risen now.asked → next.faults ≡ now.faults
+    → IsCall w most message table before next (Err NoMemory)
+unanswered w most message table before now next old step (r, at, its, s) same a f = ends_at_a_question w most message table before now next r s same a f
+
+-- the beginning
+pub first_turned : {V : Type 0} (w : World) (most : ℕ) (message : List ℕ) (table : Option Table) (before : Outside) (old new : Course)
+    (result : Result (Step V) Error) → begun most message ≡ Ok old → AdvancesTo (course_advanced w old begin) new result
+    → ComesTo w most message table before before new result
+first_turned w most message table before old new result e f =
+    comes_by w most message table before before (first_run w old) new result (serving_begins w most message table before old e) f
+
+-- where it has come to, it waits for what answers its step
+pub at_awaits : (w : World) (most : ℕ) (message : List ℕ) (table : Option Table) (before now : Outside) (course : Course) (step : CourseStep)
+    → IsAt w most message table before now course step → Awaits step course.waits
+at_awaits w most message table before now course step (r, at, its, s) =
+    subst (λ (x : CourseStep). Awaits x course.waits) its (subst (λ (c : Course). Awaits r.step c.waits) at (serving_holds w most message table before now r s).awaits)
+
+-- and each answer brings it nearer to its end
+pub turned_nearer : {V : Type 0} (w : World) (most : ℕ) (message : List ℕ) (table : Option Table) (before now next : Outside) (old new : Course)
+    (step : CourseStep) (i : Input) (result : Result (Step V) Error) → IsAt w most message table before now old step
+    → IsServed w.accepts table now next step i → AdvancesTo (course_advanced w old i) new result
+    → IfOk result (λ x. steps_left w new < steps_left w old)
+turned_nearer w most message table before now next old new step i (Err e) at served a = tt
+turned_nearer w most message table before now next old new step i (Ok x) (r, at, its, s) served a =
+    let h = serving_holds w most message table before now r s in
+    let answers = served_answers w.accepts table now next step old.waits i served (at_awaits w most message table before now old step (r, at, its, s)) in
+    let same : new ≡ (course_advanced w old i).0 = ap (λ (p : Course × CourseStep). p.0) a in
+    subst (λ (c : Course). steps_left w c < steps_left w old) (sym same)
+    (course_nearer w most message old i (subst (SoundCourse w most message) at h.sound.0) answers)
+
+-- what follows by one world and table follows by the same
+pub carried : (P Q : World → Option Table → Type 0) (v w : World) (s t : Option Table) → v ≡ w → s ≡ t → (P v s → Q v s) → P w t → Q w t
+carried P Q v w s t e f h p =
+    subst (λ (x : World). Q x t) e (subst (Q v) f (h (subst (P v) (sym f) (subst (λ (x : World). P x t) (sym e) p))))

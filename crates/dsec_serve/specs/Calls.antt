@@ -1,0 +1,77 @@
+-- What a call promises that judges a message over caches and an upstream (RFC 4033 5, RFC 4035 4.3, 4.5, 5).
+use Rattle.std.specs.Prelude.{◌≡◌, ◌⊎◌, ◌≤◌, ◌*◌, ℕ, List, [], ◌∷◌, length, Option, Some, None, Result, Ok, Err}
+use Rattle.dsec_spec.specs.Outside.{Table}
+use Rattle.dsec_spec.specs.Messages.{Question, questions_of}
+use Rattle.dsec_nodes.specs.World.{World, Replies}
+use Rattle.dsec_nodes.specs.Nodes.{Node}
+use Rattle.dsec_nodes.specs.Machine.{Question as Asked, Input}
+use Rattle.dsec_nodes.specs.InStep.{AskedOf}
+use Rattle.dsec_nodes.specs.Outcomes.{Outcome}
+use Rattle.dsec_nodes.specs.SoundOutcomes.{IsJustified}
+use Rattle.dsec_nodes.specs.Alone.{Refusal, sections_of, alone}
+use Rattle.dsec_found.specs.declared.error.Error.{Error}
+use Rattle.dsec_found.specs.declared.error.Error.TheVariants.{FormError, ParseError, NoMemory}
+use Rattle.dsec_found.specs.Errors.{answer_of}
+use Rattle.dsec_course.specs.Course.{Course, groups_in, asked_in}
+use Rattle.dsec_course.specs.Advancing.{begun}
+use Rattle.dsec_course.specs.Hearing.{first_run, AreHeard, after_heard}
+pub use Rattle.dsec_serve.specs.Verdicts.{Verdict}
+use Rattle.dsec_serve.specs.Outside.{Outside, AreCounted, WasHeld, HoldsTable}
+
+-- The questions are those of the message judged a step at a time, with their replies: it heard inputs, whose nodes were held when the call
+-- began or were put on the way (RFC 4035 4.3)
+pub record WereHeard (w : World) (most : ℕ) (message : List ℕ) (held : Node → Type 0) (asked : List Asked) : Type 0 where
+  pub course : Course
+  pub begins : begun most message ≡ Ok course
+  pub inputs : List Input
+  pub heard : AreHeard w held (first_run w course) inputs
+  pub are : asked ≡ asked_in (after_heard w (first_run w course) inputs).course
+
+-- at most one question finds no memory, and then neither does the call
+abbrev pub IsLost : Result Verdict Error → ℕ → Type 0
+IsLost (Ok v) lost = lost ≡ 0
+IsLost (Err NoMemory) lost = lost ≤ 1
+IsLost (Err FormError) lost = lost ≡ 0
+IsLost (Err ParseError) lost = lost ≡ 0
+
+-- An outcome is justified, and its questions are told; FormError comes only where there isn't one question; ParseError only where the sections
+-- can't be read, and then nothing is asked (RFC 4033 5, RFC 1035 4.1)
+abbrev pub IsAnswer : World → ℕ → List ℕ → List Asked → Result Verdict Error → Type 0
+IsAnswer w most message asked (Ok v) = (v.questions ≡ length asked) × IsJustified w most message v.outcome v.outcome.state
+IsAnswer w most message asked (Err FormError) = (question : Question) (rest : ℕ) → questions_of message ≡ Some (question ∷ [], rest) → ⊥
+IsAnswer w most message asked (Err ParseError) = (sections_of message ≡ None) × (asked ≡ [])
+IsAnswer w most message asked (Err NoMemory) = Unit {0}
+
+-- the answer is this outcome or refusal; want of memory may come in its place
+abbrev pub Says : Result Outcome Refusal → Result Verdict Error → Type 0
+Says r (Ok v) = r ≡ Ok v.outcome
+Says r (Err FormError) = answer_of r ≡ Err FormError
+Says r (Err ParseError) = answer_of r ≡ Err ParseError
+Says r (Err NoMemory) = Unit {0}
+
+-- by a table of which is all that was held and heard the answer is that of the recursion, and all that is held afterwards is of it
+-- (RFC 4033 5, RFC 4035 4.5)
+pub record AgreesWith (w : World) (most : ℕ) (message : List ℕ) (after : Outside) (answer : Result Verdict Error) (replies : Replies) : Type 0 where
+  pub says : Says (alone w most replies message) answer
+  pub holds : HoldsTable w replies after.held
+
+-- What a call promises: there is a list of its questions with their replies. They are counted, they are those of the message judged a step at a
+-- time, the answer is so by them, and where all that was held and heard is of one table the answer is that of the table (RFC 4033 5,
+-- RFC 4035 4.3, 4.5)
+pub record IsCall (w : World) (most : ℕ) (message : List ℕ) (table : Option Table) (before after : Outside) (answer : Result Verdict Error) : Type 0 where
+  pub asked : List Asked
+  pub lost : ℕ
+  pub counted : AreCounted table before after asked lost
+  pub few : IsLost answer lost
+  pub in_turn : (asked ≡ []) ⊎ WereHeard w most message (WasHeld w.accepts before.held) asked
+  pub so : IsAnswer w most message asked answer
+  pub agrees : (replies : Replies) → HoldsTable w replies before.held → AskedOf replies asked → AgreesWith w most message after answer replies
+
+-- how many groups a message has that are to be judged (RFC 2181 5)
+abbrev pub count_of : Result Course Refusal → ℕ
+count_of (Ok c) = length (groups_in c)
+count_of (Err e) = 0
+
+-- how many questions a message takes at most: 255 for each of its groups (RFC 1035 2.3.4, RFC 4035 5.2)
+abbrev pub most_questions : ℕ → List ℕ → ℕ
+most_questions most message = 255 * count_of (begun most message)

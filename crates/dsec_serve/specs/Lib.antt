@@ -1,0 +1,6 @@
+pub mod Verdicts
+pub mod Outside
+pub mod Serving
+pub mod Calls
+pub mod Turns
+pub mod PlainAnswers

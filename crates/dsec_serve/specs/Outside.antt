@@ -1,0 +1,76 @@
+-- What a call sees of the outside: the nodes that caches hold, and the counts of questions and of failures (RFC 4035 4.3, 4.5).
+use Rattle.std.specs.Prelude.{◌≡◌, ◌⊎◌, ℕ, zero, suc, ◌+◌, ◌==◌, ◌&&◌, List, length, filter, find, is_none, Contains, Option, Some, None, IfSome, if◌then◌else◌}
+use Rattle.dsec_spec.specs.Names.{Place, place, same_place}
+use Rattle.dsec_spec.specs.Accepts.{Accepts}
+use Rattle.dsec_spec.specs.Outside.{Table, reply_of, risen}
+use Rattle.dsec_nodes.specs.World.{World, Replies}
+use Rattle.dsec_nodes.specs.Nodes.{Node, Kept}
+use Rattle.dsec_nodes.specs.Machine.{Question as Asked, Input, node, stored, reply}
+use Rattle.dsec_nodes.specs.InStep.{AskedOf}
+use Rattle.dsec_node.specs.Caches.{Held, IsHeld, Keeps, Adds}
+use Rattle.dsec_course.specs.Course.{CourseStep, get_node, put_node, ask_for}
+use Rattle.dsec_course.specs.Hearing.{IsOfTable}
+
+-- the replies of an upstream's table (RFC 1035 4.1)
+abbrev pub replies_of : Table → Replies
+replies_of table p rtype = reply_of (find (λ entry. same_place (place entry.name) p && (entry.rtype == rtype)) table)
+
+-- a count that rose by so many, or stands at its last value
+abbrev pub risen_by : ℕ → ℕ → ℕ
+risen_by before zero = before
+risen_by before (suc more) = risen (risen_by before more)
+
+-- what a call sees of the outside: which nodes are held, where that is told, and how many questions were asked and have failed
+pub record Outside : Type 0 where
+  pub held : Option Held
+  pub asked : ℕ
+  pub faults : ℕ
+
+-- how many of these questions have failed
+abbrev pub failures : List Asked → ℕ
+failures asked = length (filter (λ q. is_none q.reply) asked)
+
+-- These questions were asked, each with the reply that the upstream's table has to it, where that is told, and so many more, which found no
+-- memory: the counts rose by them, and by those that failed (RFC 1035 4.1)
+pub record AreCounted (table : Option Table) (before after : Outside) (asked : List Asked) (lost : ℕ) : Type 0 where
+  pub questions : after.asked ≡ risen_by before.asked (length asked + lost)
+  pub faults : after.faults ≡ risen_by before.faults (failures asked)
+  pub told : IfSome table (λ t. AskedOf (replies_of t) asked)
+
+-- a node stands among those that are held; where it isn't told which are, any may
+abbrev pub IsAmong : Option Held → Node → Type 0
+IsAmong None n = Unit {0}
+IsAmong (Some held) n = (p : Place) × (held p ≡ Some n)
+
+-- a node was held, and so is kept (RFC 4035 4.5)
+abbrev pub WasHeld : Accepts → Option Held → Node → Type 0
+WasHeld accepts told n = Kept accepts n × IsAmong told n
+
+-- each node that is held afterwards was held before, or has been put, and caches tell as before
+abbrev pub HoldsMore : Option Held → Option Held → List Node → Type 0
+HoldsMore None new puts = new ≡ None
+HoldsMore (Some old) None puts = ⊥
+HoldsMore (Some old) (Some new) puts = (p : Place) (n : Node) → new p ≡ Some n → (old p ≡ Some n) ⊎ Contains puts n
+
+-- it is told which nodes are held, and each is of a table
+abbrev pub HoldsTable : World → Replies → Option Held → Type 0
+HoldsTable w replies None = ⊥
+HoldsTable w replies (Some held) = (p : Place) (n : Node) → held p ≡ Some n → IsOfTable w replies n
+
+-- a question was asked, and failed or not: a failure counts as one
+abbrev pub faults_after : ℕ → Option (List ℕ) → ℕ
+faults_after before None = risen before
+faults_after before (Some octets) = before
+
+-- A step was served by this input: a node that is held for the name, or none; a node put, which may be forgotten; or the reply to the question,
+-- which the upstream's table has where that is told, and which counts
+abbrev pub IsServed : Accepts → Option Table → Outside → Outside → CourseStep → Input → Type 0
+IsServed accepts table before after (get_node name) (node o) =
+    Keeps before.held after.held × (after.asked ≡ before.asked) × (after.faults ≡ before.faults)
+    × IfSome o (λ n. Kept accepts n × IsHeld before.held name n)
+IsServed accepts table before after (put_node name n) stored =
+    Adds before.held after.held name n × (after.asked ≡ before.asked) × (after.faults ≡ before.faults)
+IsServed accepts table before after (ask_for name rtype) (reply octets) =
+    (after.held ≡ before.held) × (after.asked ≡ risen before.asked) × (after.faults ≡ faults_after before.faults octets)
+    × IfSome table (λ t. replies_of t name rtype ≡ octets)
+IsServed accepts table before after _ _ = ⊥

@@ -1,0 +1,12 @@
+//! Messages judged over caches of nodes, a memo and an upstream (RFC 4033 5, RFC 4035 4.3, 4.5).
+#![tactic(auto)]
+
+mod answering;
+mod serving;
+mod turn;
+mod validating;
+mod verdict;
+
+pub use dsec_found::Error;
+pub use validating::validate_in;
+pub use verdict::Verdict;

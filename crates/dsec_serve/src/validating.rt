@@ -1,0 +1,159 @@
+//! Messages judged over caches, a memo and an upstream (RFC 4033 5, RFC 4035 4.3, 4.5, 5).
+
+ghost use Rattle.std.specs.Prelude.{◌≡◌, ◌<◌, ◌≤◌, ℕ, List, length, Ok, IfOk, IfSome, true};
+ghost use Rattle.dsec_nodes.specs.SoundOutcomes.{IsJustified};
+ghost use Rattle.dsec_node.specs.Views.{bounds_of, world_of};
+ghost use Rattle.dsec_course.specs.Advancing.{begun};
+ghost use Rattle.dsec_course.specs.Course.{asked_in, end_with};
+ghost use Rattle.dsec_core.specs.Validating.{most_of, world_by};
+ghost use Rattle.dsec_core.specs.Views.{step_view};
+ghost use Rattle.dsec_serve.specs.Calls.{AgreesWith, IsCall, most_questions};
+ghost use Rattle.dsec_serve.specs.Outside.{replies_of, HoldsTable, Outside};
+ghost use Rattle.dsec_serve.specs.Turns.{ends, IsAt};
+
+use crate::serving::serve;
+use crate::verdict::Verdict;
+use dsec_anchors::TrustAnchors;
+use dsec_core::{Input, Step, Validation};
+use dsec_crypto::Verifier;
+use dsec_found::Error;
+use dsec_group::{Memo, Steps};
+use dsec_name::NoMemory;
+use dsec_node::{Caches, Config};
+use dsec_outside::Upstream;
+use dsec_wire::Message;
+use std::alloc::Global;
+use std::marker::Brand;
+use std::sync::ledger::{Blank, Ledger};
+
+/// The verdict on a message at a moment, in seconds since 1970, from these anchors. Nodes are got from the caches and put into them, and the
+/// upstream is asked for what they don't have. Where caches find no memory they are passed over; a question that fails has no reply.
+pub fn validate_in<V: Verifier, C: Caches<V>, M: Memo<V>, U: Upstream>(
+    alloc: Global,
+    anchors: &TrustAnchors,
+    config: &Config,
+    caches: &mut C,
+    memo: &mut M,
+    message: &Message,
+    upstream: &mut U,
+    now: u64,
+) -> Result<Verdict<V>, Error>
+    ensures call { IsCall (world_of V.accepts anchors.now (bounds_of config.now) now) config.now.max_cname_dname message.now (U.table upstream.old)
+        (record { held = C.held caches.old; asked = U.asked upstream.old; faults = U.faults upstream.old })
+        (record { held = C.held caches.new; asked = U.asked upstream.new; faults = U.faults upstream.new }) result }
+    ensures sound { IfOk result (λ v. IsJustified (world_of V.accepts anchors.now (bounds_of config.now) now) config.now.max_cname_dname message.now v.outcome v.outcome.state) }
+    ensures told { IfSome (U.table upstream.old) (λ t. HoldsTable (world_of V.accepts anchors.now (bounds_of config.now) now) (replies_of t) (C.held caches.old)
+        → AgreesWith (world_of V.accepts anchors.now (bounds_of config.now) now) config.now.max_cname_dname message.now
+        (record { held = C.held caches.new; asked = U.asked upstream.new; faults = U.faults upstream.new }) result (replies_of t)) }
+    ensures few { IfOk result (λ v. v.questions ≤ most_questions config.now.max_cname_dname message.now) }
+    ensures same_table { U.table upstream.new ≡ U.table upstream.old }
+{
+    counted::<V, C, M, U, Brand>(alloc, anchors, config, caches, memo, message, upstream, now, Blank::new(1))
+}
+
+/// The same, on a ledger that the blank opens.
+fn counted<V: Verifier, C: Caches<V>, M: Memo<V>, U: Upstream, L: Ledger>(
+    alloc: Global,
+    anchors: &TrustAnchors,
+    config: &Config,
+    caches: &mut C,
+    memo: &mut M,
+    message: &Message,
+    upstream: &mut U,
+    now: u64,
+    blank: Blank,
+) -> Result<Verdict<V>, Error>
+    requires name { blank.name ≡ L.name }
+    requires parts { blank.parts ≡ L.parts }
+    requires shared { 0 < L.parts }
+    ensures call { IsCall (world_of V.accepts anchors.now (bounds_of config.now) now) config.now.max_cname_dname message.now (U.table upstream.old)
+        (record { held = C.held caches.old; asked = U.asked upstream.old; faults = U.faults upstream.old })
+        (record { held = C.held caches.new; asked = U.asked upstream.new; faults = U.faults upstream.new }) result }
+    ensures same_table { U.table upstream.new ≡ U.table upstream.old }
+{
+    let Ok(own) = anchors_copy(alloc, anchors) else {
+        return Err(Error::NoMemory);
+    };
+    let _ = most_asked(message);
+    let mut steps = Steps::<L>::begin(blank);
+    match Validation::start(alloc, own, *config, message, now) {
+        Ok(mut validation) => begin(alloc, &mut validation, caches, memo, upstream, &mut steps),
+        Err(error) => Err(error),
+    }
+}
+
+/// A copy of anchors.
+fn anchors_copy(alloc: Global, anchors: &TrustAnchors) -> Result<TrustAnchors, NoMemory>
+    ensures { IfOk result (λ copy. copy ≡ anchors.now) }
+{
+    Ok(TrustAnchors::from_vec(anchors.as_slice().to_vec(alloc)?))
+}
+
+/// How many questions a message takes at most: its header has two octets for the number of records of each section (RFC 1035 4.1.1).
+fn most_asked(message: &Message) -> u32
+    ensures enough { (most : ℕ) → most_questions most message.now ≤ result }
+    ensures few { result ≤ 33422850 }
+{
+    let header = message.header();
+    255 * (u32::from(header.ancount()) + u32::from(header.nscount()))
+}
+
+/// The verdict on a message that was begun.
+fn begin<V: Verifier, C: Caches<V>, M: Memo<V>, U: Upstream, L: Ledger>(
+    alloc: Global,
+    validation: &mut Validation<V>,
+    caches: &mut C,
+    memo: &mut M,
+    upstream: &mut U,
+    steps: &mut Steps<L>,
+) -> Result<Verdict<V>, Error>
+    requires begun { (message : List ℕ) × (begun (most_of validation.old) message ≡ Ok validation.old.course) × (most_questions (most_of validation.old) message ≤ 33422850) }
+    ensures call { (message : List ℕ) → begun (most_of validation.old) message ≡ Ok validation.old.course
+        → IsCall (world_by V.accepts validation.old) (most_of validation.old) message (U.table upstream.old)
+        (record { held = C.held caches.old; asked = U.asked upstream.old; faults = U.faults upstream.old })
+        (record { held = C.held caches.new; asked = U.asked upstream.new; faults = U.faults upstream.new }) result }
+    ensures same_table { U.table upstream.new ≡ U.table upstream.old }
+{
+    match validation.advance::<L>(alloc, Input::Begin, memo, steps) {
+        Ok(step) => finish(alloc, validation, caches, memo, upstream, steps, step),
+        Err(error) => Err(error),
+    }
+}
+
+/// The verdict on a message that has come to this step, and has asked nothing.
+fn finish<V: Verifier, C: Caches<V>, M: Memo<V>, U: Upstream, L: Ledger>(
+    alloc: Global,
+    validation: &mut Validation<V>,
+    caches: &mut C,
+    memo: &mut M,
+    upstream: &mut U,
+    steps: &mut Steps<L>,
+    step: Step<V>,
+) -> Result<Verdict<V>, Error>
+    requires unasked { length (asked_in validation.old.course) ≡ 0 }
+    requires at { (most : ℕ) × (message : List ℕ) × (before : Outside)
+        × IsAt (world_by V.accepts validation.old) most message (U.table upstream.old) before (record { held = C.held caches.old; asked = U.asked upstream.old; faults = U.faults upstream.old }) validation.old.course (step_view step) × (most_questions most message ≤ 33422850) }
+    ensures call { (most : ℕ) (message : List ℕ) (before : Outside)
+        → IsAt (world_by V.accepts validation.old) most message (U.table upstream.old) before (record { held = C.held caches.old; asked = U.asked upstream.old; faults = U.faults upstream.old }) validation.old.course (step_view step)
+        → IsCall (world_by V.accepts validation.old) most message (U.table upstream.old) before
+        (record { held = C.held caches.new; asked = U.asked upstream.new; faults = U.faults upstream.new }) result }
+    ensures same_table { U.table upstream.new ≡ U.table upstream.old }
+{
+    let mut questions = 0u32;
+    match serve(alloc, validation, caches, memo, upstream, steps, &mut questions, step) {
+        Ok(last) => Ok(verdict(last, questions)),
+        Err(error) => Err(error),
+    }
+}
+
+/// The verdict of the last step.
+fn verdict<V: Verifier>(last: Step<V>, questions: u32) -> Verdict<V>
+    requires { ends (step_view last) ≡ true }
+    ensures outcome { step_view last ≡ end_with (Ok result.outcome) }
+    ensures questions { result.questions ≡ questions }
+{
+    match last {
+        Step::Done(outcome) => Verdict::new(outcome, questions),
+        _ => unreachable!(),
+    }
+}
