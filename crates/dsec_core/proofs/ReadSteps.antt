@@ -1,0 +1,127 @@
+-- A message read: its sections, and its groups with CNAME records moved.
+use Rattle.std.proofs.Common.{◌≡◌, ℕ, ◌+◌, ◌<◌, Bool, true, false, cond, List, [], ◌∷◌, ◌++◌, length, take, get_or, Option, Some, None, refl, sym, ap, ◌∙◌, append_assoc, subst}
+use Rattle.std.proofs.lemmas.List.{take_more}
+use Rattle.std.specs.Prelude.{unwrap_or, Result, Ok, Err}
+use Rattle.std.specs.List.{list_any}
+use Rattle.std.specs.Option.{option_map}
+use Rattle.dsec_spec.specs.Reading.{◌>>=◌}
+use Rattle.dsec_spec.specs.Messages.{Question, questions_of, answers_of, authorities_of}
+use Rattle.dsec_spec.specs.Records.{Record}
+use Rattle.dsec_spec.specs.Groups.{Group, groups_of}
+use Rattle.dsec_spec.specs.Redirection.{has_too_many, is_bare, moved, staying_from}
+use Rattle.dsec_nodes.specs.Outcomes.{Outcome, by_nothing, bogus_by, not_built}
+use Rattle.dsec_nodes.specs.Alone.{Refusal, sections_of}
+use Rattle.dsec_course.specs.Course.{to_begin, to_end, Course}
+use Rattle.dsec_course.specs.Advancing.{beginning, begun, begun_by, begun_with}
+use Rattle.dsec_core.specs.Progress.{MovesOrEnds, read_as}
+use Rattle.dsec_cause.specs.declared.cause.Cause.{Cause}
+use Rattle.dsec_cause.specs.declared.cause.Cause.TheVariants.{NotBuilt, TooManyUnsignedCnames}
+use Rattle.dsec_wire.specs.MessageSections as wire
+use Rattle.dsec_wire.specs.declared.sections.Sections.{Sections}
+
+-- the three sections as they are read, by name
+abbrev pub parts : Sections → List Question × List Record × List Record
+parts s = (s.question, s.answer, s.authority)
+
+-- the sections, read from the first to the last
+abbrev in_order : Option (List Question × ℕ) → Option (List Record × ℕ) → Option (List Record × ℕ) → Option (Sections × ℕ)
+in_order q a r = do
+  questions ← q
+  answers ← a
+  authorities ← r
+  Some (record { question = questions.0; answer = answers.0; authority = authorities.0 }, authorities.1)
+
+-- the same, without the place after them
+abbrev by_name : Option (Sections × ℕ) → Option Sections
+by_name read = do
+  sections ← read
+  Some sections.0
+
+-- the sections, read from the last to the first
+abbrev backwards : Option (List Question × ℕ) → Option (List Record × ℕ) → Option (List Record × ℕ) → Option (List Question × List Record × List Record)
+backwards q a r = do
+  authorities ← r
+  answers ← a
+  questions ← q
+  Some (questions.0, answers.0, authorities.0)
+
+-- whichever section is read first
+pub sections_same : (message : List ℕ) → sections_of message ≡ option_map parts (wire.sections_of message)
+sections_same message = by (questions_of message) (answers_of message) (authorities_of message)
+  where
+    by : (q : Option (List Question × ℕ)) (a r : Option (List Record × ℕ)) → backwards q a r ≡ option_map parts (by_name (in_order q a r))
+    by None None None = refl
+    by None None (Some r) = refl
+    by None (Some a) None = refl
+    by None (Some a) (Some r) = refl
+    by (Some q) None None = refl
+    by (Some q) None (Some r) = refl
+    by (Some q) (Some a) None = refl
+    by (Some q) (Some a) (Some r) = refl
+
+-- a message read is what it begins with
+pub begun_read : (most : ℕ) (message octets : List ℕ) (s : Sections) (c : Course) → octets ≡ message → wire.sections_of message ≡ Some s
+    → Ok c ≡ begun_by most octets (Some (parts s)) → read_as (begun most message) ≡ Ok c
+begun_read most message octets s c same read h =
+    ap read_as (ap (begun_by most message) (sections_same message ∙ ap (option_map parts) read)
+    ∙ (ap (λ (m : List ℕ). begun_by most m (Some (parts s))) (sym same) ∙ sym h))
+
+-- with the code's word for a refusal it is the same where there is none
+pub read_so : (r : Result Course Refusal) (c : Course) → read_as r ≡ Ok c → r ≡ Ok c
+read_so (Ok d) c e = let same : d ≡ c = cc in ap (λ (x : Course). Ok x) same
+read_so (Err refusal) c e = absurd cc
+
+-- a bare CNAME record ends the message
+pub bare_ends : (most : ℕ) (before : List Group) → list_any is_bare before ≡ true → MovesOrEnds most before before (Some NotBuilt)
+bare_ends most before e message s same =
+    ap (λ (b : Bool). cond {A = Result Course Refusal} b (Ok (beginning message s.0 0 [] (to_end not_built))) (Ok (begun_with message s.0 (moved most (groups_of s.1)) (groups_of s.2))))
+    (ap (list_any is_bare) same ∙ e)
+
+-- without one, groups are moved, or there are too many to move
+pub moves_or_ends : (most : ℕ) (before after : List Group) (cause : Option Cause) → list_any is_bare before ≡ false
+    → cause ≡ cond (has_too_many most before) (Some TooManyUnsignedCnames) None → after ≡ unwrap_or (moved most before) before
+    → MovesOrEnds most before after cause
+moves_or_ends most before after cause e c m =
+    subst (MovesOrEnds most before after) (sym c) (by (has_too_many most before) refl m)
+  where
+    begins : (o : Option (List Group)) → moved most before ≡ o → (message : List ℕ) (s : List Question × List Record × List Record) → groups_of s.1 ≡ before
+        → begun_by most message (Some s) ≡ Ok (begun_with message s.0 o (groups_of s.2))
+    begins o f message s same =
+        ap (λ (b : Bool). cond {A = Result Course Refusal} b (Ok (beginning message s.0 0 [] (to_end not_built))) (Ok (begun_with message s.0 (moved most (groups_of s.1)) (groups_of s.2))))
+        (ap (list_any is_bare) same ∙ e)
+        ∙ ap (λ (x : Option (List Group)). Ok (begun_with message s.0 x (groups_of s.2))) (ap (moved most) same ∙ f)
+
+    moved_if : (b : Bool) → has_too_many most before ≡ b → moved most before ≡ cond b None (Some (staying_from before 0 before))
+    moved_if b f = ap (λ (x : Bool). cond x None (Some (staying_from before 0 before))) f
+
+    by : (b : Bool) → has_too_many most before ≡ b → after ≡ unwrap_or (moved most before) before → MovesOrEnds most before after (cond b (Some TooManyUnsignedCnames) None)
+    by true f h = begins None (moved_if true f)
+    by false f h =
+        begins (Some after) (moved_if false f ∙ ap (λ (gs : List Group). Some gs) (sym (h ∙ ap (λ (o : Option (List Group)). unwrap_or o before) (moved_if false f))))
+
+-- a message that ends at its beginning
+pub ends_so : (most : ℕ) (octets : List ℕ) (s : List Question × List Record × List Record) (before after : List Group) (cause : Cause) (c : Course)
+    (questions : List Question) (left : List Group) (o : Outcome) → MovesOrEnds most before after (Some cause) → before ≡ groups_of s.1
+    → c ≡ beginning octets questions 0 left (to_end o) → questions ≡ s.0 → left ≡ [] → o ≡ bogus_by cause by_nothing → Ok c ≡ begun_by most octets (Some s)
+ends_so most octets s before after cause c questions left o h same is qs ls os =
+    ap (λ (x : Course). Ok x)
+    (is ∙ (ap (λ (q : List Question). beginning octets q 0 left (to_end o)) qs
+    ∙ (ap (λ (l : List Group). beginning octets s.0 0 l (to_end o)) ls ∙ ap (λ (x : Outcome). beginning octets s.0 0 [] (to_end x)) os)))
+    ∙ sym (h octets s (sym same))
+
+-- one that begins
+pub begins_so : (most : ℕ) (octets : List ℕ) (s : List Question × List Record × List Record) (before after : List Group) (c : Course)
+    (questions : List Question) (count : ℕ) (left : List Group) → MovesOrEnds most before after None → before ≡ groups_of s.1
+    → c ≡ beginning octets questions count left to_begin → questions ≡ s.0 → count ≡ length after → left ≡ after ++ groups_of s.2 → Ok c ≡ begun_by most octets (Some s)
+begins_so most octets s before after c questions count left h same is qs ns ls =
+    ap (λ (x : Course). Ok x)
+    (is ∙ (ap (λ (q : List Question). beginning octets q count left to_begin) qs
+    ∙ (ap (λ (n : ℕ). beginning octets s.0 n left to_begin) ns ∙ ap (λ (l : List Group). beginning octets s.0 (length after) l to_begin) ls)))
+    ∙ sym (h octets s (sym same))
+
+-- copies of groups pushed one after the other
+pub pushed_one : (was now more groups : List Group) (i : ℕ) (item copy : Group) → now ≡ was ++ take i groups → more ≡ now ++ copy ∷ [] → copy ≡ item → i < length groups
+    → item ≡ get_or groups i item → more ≡ was ++ take (i + 1) groups
+pushed_one was now more groups i item copy so_far pushed same within is =
+    pushed ∙ (ap (λ (xs : List Group). xs ++ copy ∷ []) so_far
+    ∙ (append_assoc was (take i groups) (copy ∷ []) ∙ ap (λ (xs : List Group). was ++ xs) (ap (λ (g : Group). take i groups ++ g ∷ []) (same ∙ is) ∙ sym (take_more groups i item within))))

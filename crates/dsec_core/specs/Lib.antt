@@ -1,0 +1,3 @@
+pub mod Views
+pub mod Validating
+pub mod Progress

@@ -1,0 +1,60 @@
+-- A message being judged: what judging it goes by, and its course (RFC 4033 2, RFC 4035 4.3).
+use Rattle.std.specs.Prelude.{◌≡◌, ℕ, List, Result, Ok, Err}
+use Rattle.dsec_spec.specs.Accepts.{Accepts}
+use Rattle.dsec_spec.specs.Records.{Record}
+use Rattle.dsec_nodes.specs.World.{World}
+use Rattle.dsec_nodes.specs.Alone.{Refusal, not_one_question}
+use Rattle.dsec_node.specs.Configs.{Settings}
+use Rattle.dsec_node.specs.Views.{bounds_of, world_of}
+use Rattle.dsec_course.specs.Course.{Waiting, to_begin, to_end, for_walk, for_nothing, Course, CourseStep, end_with}
+use Rattle.dsec_course.specs.Justified.{SoundCourse}
+use Rattle.dsec_walk.specs.UnderWay.{IsInZone}
+use Rattle.dsec_found.specs.declared.error.Error.{Error}
+use Rattle.dsec_found.specs.declared.error.Error.TheVariants.{FormError, ParseError, NoMemory}
+use Rattle.dsec_found.specs.Errors.{refusal_of}
+use Rattle.dsec_core.specs.declared.step.Step.{Step}
+use Rattle.dsec_core.specs.Views.{step_view}
+
+-- a message being judged: the trust anchors, the settings, the moment in seconds since 1970, and how far judging it has come
+pub record Validating : Type 0 where
+  pub anchors : List Record
+  pub config : Settings
+  pub moment : ℕ
+  pub course : Course
+
+-- what judging it goes by, with the signatures that are accepted (RFC 4033 2)
+abbrev pub world_by : Accepts → Validating → World
+world_by accepts it = world_of accepts it.anchors (bounds_of it.config) it.moment
+
+-- how many bare CNAME records of it are followed (RFC 6672 3.1)
+abbrev pub most_of : Validating → ℕ
+most_of it = it.config.max_cname_dname
+
+-- the same message, with this course
+abbrev pub with_course : Validating → Course → Validating
+with_course it course = record { anchors = it.anchors; config = it.config; moment = it.moment; course = course }
+
+-- what a message begins with, with the code's word for a refusal (RFC 1035 4.1)
+abbrev pub begun_as : List Record → Settings → ℕ → Result Course Refusal → Result Validating Error
+begun_as anchors config moment (Ok course) = Ok (record { anchors = anchors; config = config; moment = moment; course = course })
+begun_as anchors config moment (Err refusal) = Err (refusal_of refusal)
+
+-- the course and the step, or the refusal of a message that hasn't one question; where memory is wanting nothing is waited for any more
+-- (RFC 1035 4.1.2)
+abbrev pub AdvancesTo : {V : Type 0} → Course × CourseStep → Course → Result (Step V) Error → Type 0
+AdvancesTo p course (Ok step) = (course, step_view step) ≡ p
+AdvancesTo p course (Err FormError) = (course, end_with (Err not_one_question)) ≡ p
+AdvancesTo p course (Err ParseError) = ⊥
+AdvancesTo p course (Err NoMemory) = course.waits ≡ for_nothing
+
+-- the last zone of the walk that is waited for counts (RFC 4035 5.2)
+abbrev pub IsInZoneAt : World → Waiting → Type 0
+IsInZoneAt w (for_walk group s) = IsInZone w s.reached
+IsInZoneAt w to_begin = Unit {0}
+IsInZoneAt w (to_end o) = Unit {0}
+IsInZoneAt w for_nothing = Unit {0}
+
+-- what has been judged is sound, and judging can go on (RFC 4033 5)
+pub record IsSoundBy (accepts : Accepts) (it : Validating) : Type 0 where
+  pub is_sound : SoundCourse (world_by accepts it) (most_of it) it.course.message it.course
+  pub in_zone : IsInZoneAt (world_by accepts it) it.course.waits

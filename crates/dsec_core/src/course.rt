@@ -1,0 +1,115 @@
+//! How far judging a message has come (RFC 4035 4.3).
+
+ghost use Rattle.std.specs.Prelude.{◌≡◌, IfOk};
+ghost use Rattle.dsec_nodes.specs.SoundSteps.{InputKept};
+ghost use Rattle.dsec_course.specs.Advancing.{course_advanced};
+ghost use Rattle.dsec_course.specs.Course as courses;
+ghost use Rattle.dsec_walk.specs.Views.{input_view, world_in};
+ghost use Rattle.dsec_core.specs.Progress.{IsUnderWayAt, given_up};
+ghost use Rattle.dsec_core.specs.Views.{next_view};
+
+mod ending;
+mod groups;
+mod reading;
+mod walks;
+
+use crate::step::{Next, Step};
+use dsec_crypto::Verifier;
+use dsec_found::{JudgedGroup, Outcome};
+use dsec_group::{Group, Memo, Steps};
+use dsec_name::NoMemory;
+use dsec_number::Rcode;
+use dsec_walk::{Input, Setting, Walk};
+use dsec_wire::Question;
+pub(crate) use reading::begun;
+use std::alloc::Global;
+use std::collections::VecDeque;
+use std::marker::Model;
+use std::mem;
+use std::sync::ledger::Ledger;
+
+/// What a message waits for.
+#[derive(Drop)]
+pub(crate) enum Waits<V: Verifier> {
+    /// To begin.
+    ToBegin,
+    /// To end with an outcome that was known when it was read.
+    ToEnd(Outcome<V>),
+    /// For a walk to the zone that is to have signed a group.
+    ForWalk(Group, Walk<V>),
+    /// For nothing.
+    ForNothing,
+}
+
+/// How far judging a message has come. The groups of its answer section, so many of which there are, come before those of its
+/// authority section.
+#[derive(Drop)]
+pub(crate) struct Course<V: Verifier> {
+    message: Vec<u8>,
+    rcode: Rcode,
+    questions: Vec<Question>,
+    answers: usize,
+    left: VecDeque<Group>,
+    judged: Vec<JudgedGroup<V>>,
+    walks: Vec<Walk<V>>,
+    waits: Waits<V>,
+}
+
+impl<V: Verifier> Model for Course<V> {
+    ghost use Rattle.std.specs.Prelude.{◌≡◌, Some};
+    ghost use Rattle.dsec_spec.specs.Messages.{rcode_of};
+    ghost use Rattle.dsec_course.specs.Course as courses;
+    ghost use Rattle.dsec_core.specs.Views.{waits_view};
+
+    ghost Value = { courses.Course };
+
+    ghost view = { λ it. record { message = it.message.items; questions = it.questions.items; answers = it.answers; left = it.left.items; judged = it.judged.items; walks = it.walks.items; waits = waits_view it.waits } };
+
+    ghost invariant = { λ it. rcode_of it.message.items ≡ Some it.rcode };
+}
+
+impl<V: Verifier> Course<V> {
+    /// The step after what answers the last one.
+    pub(crate) fn advanced<L: Ledger>(
+        &mut self,
+        alloc: Global,
+        setting: &Setting<'_>,
+        input: Input<V>,
+        memo: &mut impl Memo<V>,
+        steps: &mut Steps<L>,
+    ) -> Result<Next<V>, NoMemory>
+        requires under_way { IsUnderWayAt (world_in V.accepts setting.now) self.old.waits }
+        requires answers { courses.CourseAnswers self.old.waits (input_view input) }
+        ensures exact { IfOk result (λ n. (self.new, next_view n) ≡ course_advanced (world_in V.accepts setting.now) self.old (input_view input)) }
+        ensures kept { IfOk result (λ _. InputKept (world_in V.accepts setting.now) (input_view input)) }
+    {
+        rely_on(setting, &input);
+        match mem::replace(&mut self.waits, Waits::ForNothing) {
+            Waits::ToBegin => self.go_on::<L>(alloc, setting, memo, steps),
+            Waits::ToEnd(outcome) => Ok(Next::Says(Step::Done(outcome))),
+            Waits::ForWalk(group, walk) => {
+                self.walked::<L>(alloc, setting, group, walk, input, memo, steps)
+            }
+            Waits::ForNothing => unreachable!(),
+        }
+    }
+
+    /// Lets go of all that was judged and is still to be.
+    pub(crate) fn give_up(&mut self)
+        ensures { self.new ≡ given_up self.old }
+    {
+        self.left.clear();
+        self.judged.clear();
+        self.walks.clear();
+        self.waits = Waits::ForNothing;
+    }
+}
+
+/// What a node's type says of one that is given: it is kept (RFC 4035 4.5).
+fn rely_on<V: Verifier>(setting: &Setting<'_>, input: &Input<V>)
+    ensures { InputKept (world_in V.accepts setting.now) (input_view input.now) }
+{
+    if let Input::Node(Some(node)) = input {
+        let _ = node.standing();
+    }
+}

@@ -1,0 +1,105 @@
+//! What a message comes to where all its groups are judged (RFC 4033 5).
+
+ghost use Rattle.std.specs.Prelude.{◌≡◌, [], IfOk};
+ghost use Rattle.std.specs.Arc.{arc_value};
+ghost use Rattle.dsec_course.specs.Advancing.{at_last, going_on};
+ghost use Rattle.dsec_course.specs.Course as courses;
+ghost use Rattle.dsec_nodes.specs.Outcomes.{bogus_by, by_links};
+ghost use Rattle.dsec_walk.specs.Views.{world_in};
+ghost use Rattle.dsec_core.specs.Progress.{ended_by};
+ghost use Rattle.dsec_core.specs.Views.{next_view};
+
+use super::{Course, Waits};
+use crate::step::{Next, Step};
+use dsec_cause::Cause;
+use dsec_crypto::Verifier;
+use dsec_found::{AllJudged, Error, JudgedGroup, Outcome, and_next, on_judged, on_questions};
+use dsec_group::ValidationState;
+use dsec_name::NoMemory;
+use dsec_node::Node;
+use dsec_walk::Setting;
+use std::alloc::Global;
+use std::sync::Arc;
+
+impl<V: Verifier> Course<V> {
+    /// The end, where no group is left.
+    #[tactic(auto, using(dsec_course::proofs::GroupLaws::going_none))]
+    pub(super) fn end_all(
+        &mut self,
+        alloc: Global,
+        setting: &Setting<'_>,
+    ) -> Result<Next<V>, NoMemory>
+        requires { self.old.left ≡ [] }
+        ensures { IfOk result (λ n. (self.new, next_view n) ≡ going_on (world_in V.accepts setting.now) [] self.old) }
+    {
+        let next = self.last(alloc, setting)?;
+        self.waits = Waits::ForNothing;
+        Ok(next)
+    }
+
+    /// What the message comes to by its judged groups.
+    fn last(&self, alloc: Global, setting: &Setting<'_>) -> Result<Next<V>, NoMemory>
+        ensures { IfOk result (λ n. next_view n ≡ courses.end_with (at_last (world_in V.accepts setting.now) self.now)) }
+    {
+        let at = self.answers.min(self.judged.len());
+        let (answers, authorities) = self.judged.split_at(at);
+        match on_questions(
+            alloc,
+            setting.anchors,
+            self.rcode,
+            &self.questions,
+            answers,
+            authorities,
+        ) {
+            Ok(outcome) => Ok(Next::Says(Step::Done(outcome))),
+            Err(Error::NoMemory) => Err(NoMemory),
+            Err(_) => Ok(Next::Refuses),
+        }
+    }
+
+    /// What the message comes to by a judged group, if that is bogus.
+    pub(super) fn ended(
+        &self,
+        alloc: Global,
+        setting: &Setting<'_>,
+        judged: &JudgedGroup<V>,
+    ) -> Result<Option<Outcome<V>>, NoMemory>
+        ensures { IfOk result (λ outcome. outcome ≡ ended_by judged.now.finding) }
+    {
+        if judged.state() != ValidationState::Bogus {
+            return Ok(None);
+        }
+        match and_next(Vec::new(alloc), judged.clone()?)? {
+            AllJudged::OneBogus(cause, node) => {
+                Ok(Some(self.bogus(alloc, setting, cause, node)?))
+            }
+            AllJudged::All(_) => Ok(None),
+        }
+    }
+
+    /// What the message comes to by a bogus group, with its cause and the node whose keys were tried with it.
+    fn bogus(
+        &self,
+        alloc: Global,
+        setting: &Setting<'_>,
+        cause: Cause,
+        node: Arc<Node<V>>,
+    ) -> Result<Outcome<V>, NoMemory>
+        ensures { IfOk result (λ outcome. outcome ≡ bogus_by cause (by_links (arc_value node).links)) }
+    {
+        let bogus = AllJudged::OneBogus(cause, node);
+        let others = AllJudged::All(Vec::new(alloc));
+        match on_judged(
+            alloc,
+            setting.anchors,
+            self.rcode,
+            &self.questions,
+            &bogus,
+            &others,
+        ) {
+            Ok(outcome) => Ok(outcome),
+            // A message with a bogus group is never refused.
+            Err(_) => Err(NoMemory),
+        }
+    }
+}

@@ -1,0 +1,154 @@
+//! A message read: its groups, which are still to be judged (RFC 1035 4.1, RFC 6672 3.1).
+
+ghost use Rattle.std.specs.Prelude.{◌≡◌, ◌++◌, IfOk, OnOk, Some, Ok};
+ghost use Rattle.std.specs.List.{list_any};
+ghost use Rattle.dsec_spec.specs.Messages.{rcode_of};
+ghost use Rattle.dsec_spec.specs.Reading.{Gives};
+ghost use Rattle.dsec_spec.specs.Redirection.{is_bare as bare};
+ghost use Rattle.dsec_course.specs.Advancing.{beginning as beginning_of, begun as begun_of, begun_by};
+ghost use Rattle.dsec_found.specs.Errors.{wants_memory};
+ghost use Rattle.dsec_core.specs.Progress.{MovesOrEnds, read_as};
+ghost use Rattle.dsec_core.specs.Views.{waits_view};
+
+use super::{Course, Waits};
+use dsec_cause::Cause;
+use dsec_crypto::Verifier;
+use dsec_found::{Error, Outcome};
+use dsec_group::{Group, GroupSet, Seed, groups};
+use dsec_name::NoMemory;
+use dsec_number::{Rcode, Rtype};
+use dsec_wire::{Message, Question, Sections};
+use std::alloc::Global;
+use std::collections::VecDeque;
+
+/// A message read, of which so many bare CNAME records are followed.
+pub(crate) fn begun<V: Verifier>(
+    alloc: Global,
+    most: u8,
+    message: &Message,
+) -> Result<Course<V>, Error>
+    ensures { Gives wants_memory (λ course. course) result (read_as (begun_of most message.now)) }
+{
+    let (sections, rcode) = message.sections_and_rcode(alloc)?;
+    let octets = octets_of(alloc, message)?;
+    let seed = Seed::of_message(message);
+    Ok(by_sections(alloc, most, octets, rcode, seed, sections)?)
+}
+
+/// The same by the sections.
+fn by_sections<V: Verifier>(
+    alloc: Global,
+    most: u8,
+    octets: Vec<u8>,
+    rcode: Rcode,
+    seed: Seed,
+    sections: Sections,
+) -> Result<Course<V>, NoMemory>
+    requires { rcode_of octets.items ≡ Some rcode }
+    ensures { IfOk result (λ course. Ok course ≡ begun_by most octets.items (Some (sections.question, sections.answer, sections.authority))) }
+{
+    let Sections {
+        question,
+        answer,
+        authority,
+    } = sections;
+    let questions = question.into_vec();
+    let mut answers = groups(alloc, answer, seed)?;
+    match moved_or_ended(most, &mut answers)? {
+        Some(cause) => {
+            let waits = Waits::ToEnd(Outcome::bogus(cause));
+            Ok(beginning(alloc, octets, rcode, questions, 0, Vec::new(alloc), waits))
+        }
+        None => {
+            let authorities = groups(alloc, authority, seed)?;
+            let left = copies(alloc, answers.as_slice(), authorities.as_slice())?;
+            let count = answers.len();
+            Ok(beginning(alloc, octets, rcode, questions, count, left, Waits::ToBegin))
+        }
+    }
+}
+
+/// The bare CNAME records of the answer section's groups are moved; or there are too many of them, or one is to be followed, which is
+/// left out, and the message ends for this cause.
+#[tactic(auto, using(crate::proofs::ReadSteps::bare_ends, crate::proofs::ReadSteps::moves_or_ends))]
+fn moved_or_ended(most: u8, answers: &mut GroupSet) -> Result<Option<Cause>, NoMemory>
+    ensures { IfOk result (λ cause. MovesOrEnds most answers.old answers.new cause) }
+{
+    if is_any_bare(answers.as_slice()) {
+        return Ok(Some(Cause::NotBuilt));
+    }
+    answers.move_redundant_cnames(most)
+}
+
+/// A course with nothing behind it.
+fn beginning<V: Verifier>(
+    alloc: Global,
+    message: Vec<u8>,
+    rcode: Rcode,
+    questions: Vec<Question>,
+    answers: usize,
+    left: Vec<Group>,
+    waits: Waits<V>,
+) -> Course<V>
+    requires { rcode_of message.items ≡ Some rcode }
+    ensures { result ≡ beginning_of message.items questions.items answers left.items (waits_view waits) }
+{
+    Course {
+        message,
+        rcode,
+        questions,
+        answers,
+        left: VecDeque::from_vec(left),
+        judged: Vec::new(alloc),
+        walks: Vec::new(alloc),
+        waits,
+    }
+}
+
+/// Copies of the groups of both sections, in order.
+fn copies(alloc: Global, answers: &[Group], authorities: &[Group]) -> Result<Vec<Group>, NoMemory>
+    ensures { IfOk result (λ all. all.items ≡ answers.now ++ authorities.now) }
+{
+    let mut all = Vec::new(alloc);
+    add_copies(&mut all, answers)?;
+    add_copies(&mut all, authorities)?;
+    Ok(all)
+}
+
+/// Whether any group is a bare CNAME record.
+fn is_any_bare(groups: &[Group]) -> bool
+    ensures { result ≡ list_any bare groups.now }
+{
+    groups.iter().any(is_bare)
+}
+
+/// Whether a group is one CNAME record without a signature.
+fn is_bare(group: &Group) -> bool
+    ensures { result ≡ bare group.now }
+{
+    group.rtype() == Rtype::CNAME && group.rr_set().len() == 1 && group.sig_set_len() == 0
+}
+
+/// Adds copies of groups at the end.
+fn add_copies(all: &mut Vec<Group>, groups: &[Group]) -> Result<(), NoMemory>
+    ensures { OnOk result (all.new.items ≡ all.old.items ++ groups.now) }
+{
+    for group in groups {
+        all.push(copied(group)?)?;
+    }
+    Ok(())
+}
+
+/// A copy of a group.
+fn copied(group: &Group) -> Result<Group, NoMemory>
+    ensures { IfOk result (λ copy. copy ≡ group.now) }
+{
+    group.clone()
+}
+
+/// A copy of a message's octets.
+fn octets_of(alloc: Global, message: &Message) -> Result<Vec<u8>, NoMemory>
+    ensures { IfOk result (λ octets. octets.items ≡ message.now) }
+{
+    Ok(message.as_slice().to_vec(alloc)?)
+}

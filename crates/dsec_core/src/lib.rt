@@ -1,0 +1,11 @@
+//! A message judged a step at a time, without waiting (RFC 4033 5, RFC 4035 4.3, 5).
+#![tactic(auto)]
+
+mod begun;
+mod course;
+mod step;
+mod validation;
+
+pub use dsec_walk::Input;
+pub use step::Step;
+pub use validation::Validation;
