@@ -1,6 +1,6 @@
 //! How far judging a message has come (RFC 4035 4.3).
 
-ghost use Rattle.std.specs.Prelude.{◌≡◌, IfOk};
+ghost use Rattle.std.specs.Prelude.{◌≡◌, ◌↔◌, IfOk, IsTrue};
 ghost use Rattle.dsec_nodes.specs.SoundSteps.{InputKept};
 ghost use Rattle.dsec_course.specs.Advancing.{course_advanced};
 ghost use Rattle.dsec_course.specs.Course as courses;
@@ -92,6 +92,39 @@ impl<V: Verifier> Course<V> {
             }
             Waits::ForNothing => unreachable!(),
         }
+    }
+
+    /// Whether an input answers what is waited for.
+    pub(crate) fn awaits(&self, input: &Input<V>) -> bool
+        ensures { IsTrue result ↔ courses.CourseAnswers self.now.waits (input_view input.now) }
+    {
+        match (&self.waits, input) {
+            (Waits::ToBegin, Input::Begin) => true,
+            (Waits::ToEnd(_), Input::Begin) => true,
+            (Waits::ForWalk(_, walk), input) => walk.awaits(input),
+            _ => false,
+        }
+    }
+
+    /// Whether nothing is waited for.
+    pub(crate) fn is_done(&self) -> bool
+        ensures { IsTrue result ↔ (self.now.waits ≡ courses.for_nothing) }
+    {
+        matches!(self.waits, Waits::ForNothing)
+    }
+
+    /// The judged groups, in order.
+    pub(crate) fn judged(&self) -> &[JudgedGroup<V>]
+        ensures { result.now ≡ self.now.judged }
+    {
+        &self.judged
+    }
+
+    /// How many of the groups are the answer section's.
+    pub(crate) fn answers(&self) -> usize
+        ensures { result ≡ self.now.answers }
+    {
+        self.answers
     }
 
     /// Lets go of all that was judged and is still to be.

@@ -1,5 +1,5 @@
 use Rattle.std.proofs.Common.{◌≡◌, sym, ap, ◌∙◌, subst}
-use Rattle.dsec_course.specs.Course.{Course, CourseStep}
+use Rattle.dsec_course.specs.Course.{Course}
 use Rattle.dsec_course.specs.Advancing.{course_advanced}
 use Rattle.dsec_walk.specs.Views.{input_view, world_in}
 use Rattle.dsec_core.specs.Views.{next_view, waits_view}
