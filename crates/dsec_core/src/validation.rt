@@ -1,6 +1,6 @@
 //! A message judged a step at a time (RFC 4035 4.3, 5).
 
-ghost use Rattle.std.specs.Prelude.{◌≡◌, ◌↔◌, ◌<◌, IfOk, IsTrue, OnErr, drop, take};
+ghost use Rattle.std.specs.Prelude.{◌≡◌, ◌↔◌, ◌<◌, ◌≤◌, ◌+◌, ◌*◌, IfOk, IsTrue, OnErr, drop, take};
 ghost use Rattle.std.specs.List.{AllByRecursion};
 ghost use Rattle.dsec_spec.specs.Reading.{Gives};
 ghost use Rattle.dsec_course.specs.Advancing.{begun as begun_of, course_advanced};
@@ -10,7 +10,7 @@ ghost use Rattle.dsec_course.specs.Ending.{steps_left};
 ghost use Rattle.dsec_course.specs.Justified.{IsFound, SoundCourse, SoundGoing};
 ghost use Rattle.dsec_found.specs.Errors.{wants_memory};
 ghost use Rattle.dsec_walk.specs.Views.{input_view};
-ghost use Rattle.dsec_core.specs.Validating.{AdvancesTo, begun_as, most_of, with_course, world_by};
+ghost use Rattle.dsec_core.specs.Validating.{AdvancesTo, begun_as, most_checked_at, most_of, with_course, world_by};
 ghost use Rattle.dsec_core.specs.Views.{step_view};
 
 use crate::course::{Course, begun};
@@ -85,6 +85,7 @@ impl<V: Verifier> Validation<V> {
         ensures awaits { IfOk result (λ step. courses.Awaits (step_view step) self.new.course.waits) }
         ensures err { OnErr result (self.new.course.waits ≡ courses.for_nothing) }
         ensures nearer { steps_left (world_by V.accepts self.old) self.new.course < steps_left (world_by V.accepts self.old) self.old.course }
+        ensures bound { steps.new ≤ steps.old + most_checked_at self.old.course.waits (input_view input) * (self.old.config.max_bad_signatures + 1) }
     {
         let setting = Setting {
             anchors: self.anchors.as_slice(),
