@@ -1,5 +1,4 @@
-pub mod VerdictLaws
-pub mod OutcomeLaws
 pub mod AnswerLoop
+pub mod LineLaws
+pub mod OutcomeLaws
 pub mod Top
-pub mod PlainExample
