@@ -5,7 +5,7 @@ use Rattle.dsec_answer.specs.Told.{Outcome}
 use Rattle.dsec_answer.specs.Texts.{outcome_text}
 use Rattle.dsec_answer.specs.Outcomes.{texts_from}
 
-texts_append : (index : ℕ) (xs ys : List Outcome) → texts_from index (xs ++ ys) ≡ texts_from index xs ++ texts_from (index + length xs) ys
+pub texts_append : (index : ℕ) (xs ys : List Outcome) → texts_from index (xs ++ ys) ≡ texts_from index xs ++ texts_from (index + length xs) ys
 unfolding texts_from
 texts_append index [] ys =
     let n : index ≡ index + 0 = omega arith in
@@ -16,7 +16,7 @@ texts_append index (x ∷ xs) ys =
     ∙ (sym (append_assoc (outcome_text index x) (texts_from (index + 1) xs) _)
     ∙ ap (λ k. (outcome_text index x ++ texts_from (index + 1) xs) ++ texts_from k ys) n)
 
-one_text : (index : ℕ) (x : Outcome) → texts_from index (x ∷ []) ≡ outcome_text index x
+pub one_text : (index : ℕ) (x : Outcome) → texts_from index (x ∷ []) ≡ outcome_text index x
 unfolding texts_from
 one_text index x = append-nil (outcome_text index x)
 
