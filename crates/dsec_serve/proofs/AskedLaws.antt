@@ -1,5 +1,5 @@
 -- The questions of a message are counted step by step, and are few.
-use Rattle.std.proofs.Common.{◌≡◌, ◌+◌, ◌≤◌, ◌∷◌, ◌++◌, [], ℕ, List, length, Option, Some, None, IfOk, Result, Ok, Err, refl, sym, ap, ◌∙◌, subst, arith}
+use Rattle.std.proofs.Common.{◌≡◌, ◌+◌, ◌≤◌, ◌∷◌, ◌++◌, [], ℕ, List, length, Option, None, IfOk, Result, Ok, Err, sym, ap, ◌∙◌, subst, arith}
 use Rattle.std.proofs.lemmas.List.{length-append}
 use Rattle.dsec_spec.specs.Names.{Place}
 use Rattle.dsec_spec.specs.Outside.{Table}
@@ -10,13 +10,12 @@ use Rattle.dsec_nodes.specs.Outcomes.{Outcome}
 use Rattle.dsec_found.specs.declared.error.Error.{Error}
 use Rattle.dsec_course.specs.Course.{Course, CourseStep, get_node, put_node, ask_for, end_with, CourseAnswers, Awaits, asked_in}
 use Rattle.dsec_course.specs.Advancing.{begun, course_advanced}
-use Rattle.dsec_course.specs.Hearing.{Run, first_run, ran_on, after_heard}
+use Rattle.dsec_course.specs.Hearing.{Run, first_run, ran_on}
 use Rattle.dsec_course.proofs.RunLaws.{run_asked, run_got, run_put, heard_more, after_more}
 use Rattle.dsec_core.specs.declared.step.Step.{Step}
 use Rattle.dsec_core.specs.Validating.{AdvancesTo}
 use Rattle.dsec_core.specs.Views.{step_view}
 use Rattle.dsec_serve.specs.Outside.{Outside, WasHeld, IsServed}
-use Rattle.dsec_serve.specs.Serving.{IsServing}
 use Rattle.dsec_serve.specs.Calls.{WereHeard, IsCall, most_questions}
 use Rattle.dsec_serve.specs.Turns.{asks, IsAt}
 use Rattle.dsec_serve.proofs.ServingLaws.{serving_holds, begins_unasked}

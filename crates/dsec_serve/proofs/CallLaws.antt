@@ -1,8 +1,5 @@
 -- What a call promises where judging a message ends, by how far it has come.
-use Rattle.std.proofs.Common.{◌≡◌, ◌⊎◌, ℕ, ◌*◌, ◌≤◌, List, [], ◌∷◌, length, Option, Some, None, IfSome, Result, Ok, Err, IfOk, refl, sym, ap, ◌∙◌, subst, inl, inr, arith}
-use Rattle.std.specs.Prelude.{Contains}
-use Rattle.dsec_spec.specs.Messages.{Question, questions_of}
-use Rattle.dsec_spec.specs.Groups.{Group}
+use Rattle.std.proofs.Common.{◌≡◌, ℕ, ◌≤◌, List, [], ◌∷◌, length, Option, Some, None, IfSome, Result, Ok, Err, IfOk, refl, sym, ap, ◌∙◌, subst, inl, inr, arith}
 use Rattle.dsec_spec.specs.Outside.{Table, risen}
 use Rattle.dsec_nodes.specs.World.{World, Replies}
 use Rattle.dsec_nodes.specs.Nodes.{Node, Kept}
@@ -14,16 +11,16 @@ use Rattle.dsec_nodes.specs.Alone.{Refusal, unreadable, not_one_question, alone}
 use Rattle.dsec_found.specs.declared.error.Error.{Error}
 use Rattle.dsec_found.specs.declared.error.Error.TheVariants.{FormError, ParseError, NoMemory}
 use Rattle.dsec_found.specs.Errors.{answer_of}
-use Rattle.dsec_course.specs.Course.{Waiting, Course, CourseStep, end_with, groups_in, asked_in}
-use Rattle.dsec_course.specs.Advancing.{begun, course_advanced}
+use Rattle.dsec_course.specs.Course.{CourseStep, end_with, groups_in, asked_in}
+use Rattle.dsec_course.specs.Advancing.{begun}
 use Rattle.dsec_course.specs.Hearing.{Run, first_run, ran_on, AreHeard, after_heard, HoldsRun}
 use Rattle.dsec_course.specs.Justified.{IsEnd, CourseStepSound}
 use Rattle.dsec_course.proofs.AskingLaws.{groups_stay}
 use Rattle.dsec_course.proofs.BeginningLaws.{begun_waits, begun_refused, refused_alone}
 use Rattle.dsec_course.proofs.RunLaws.{run_begins, run_asks, run_ends, heard_holds}
-use Rattle.dsec_serve.specs.Outside.{Outside, replies_of, AreCounted, WasHeld, HoldsTable}
+use Rattle.dsec_serve.specs.Outside.{Outside, replies_of, WasHeld, HoldsTable}
 use Rattle.dsec_serve.specs.Serving.{IsServing}
-use Rattle.dsec_serve.specs.Calls.{Verdict, WereHeard, IsAnswer, Says, AgreesWith, IsCall, count_of, most_questions}
+use Rattle.dsec_serve.specs.Calls.{Verdict, WereHeard, AgreesWith, IsCall, count_of, most_questions}
 use Rattle.dsec_serve.proofs.CountLaws.{counted_lost, counted_none}
 use Rattle.dsec_serve.proofs.HoldingLaws.{held_of_table, holds_after}
 use Rattle.dsec_serve.proofs.ServingLaws.{serving_holds}

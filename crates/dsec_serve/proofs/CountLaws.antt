@@ -1,12 +1,10 @@
 -- Questions are counted one by one.
-use Rattle.std.proofs.Common.{◌≡◌, ℕ, zero, suc, ◌+◌, List, [], ◌∷◌, ◌++◌, length, Option, Some, None, IfSome, refl, sym, ap, ◌∙◌, arith}
+use Rattle.std.proofs.Common.{◌≡◌, ℕ, suc, ◌+◌, List, [], ◌∷◌, ◌++◌, length, Option, Some, None, IfSome, refl, ap, ◌∙◌, arith}
 use Rattle.std.specs.Prelude.{filter, is_none}
-use Rattle.std.specs.List.{AllByRecursion}
 use Rattle.std.proofs.lemmas.List.{length-append}
 use Rattle.std.proofs.lemmas.List.Elements.{filter-append}
 use Rattle.dsec_spec.specs.Names.{Place}
 use Rattle.dsec_spec.specs.Outside.{Table, risen}
-use Rattle.dsec_nodes.specs.World.{Replies}
 use Rattle.dsec_nodes.specs.Machine.{Question as Asked}
 use Rattle.dsec_nodes.specs.InStep.{AskedOf}
 use Rattle.dsec_course.proofs.Lists.{all_both}

@@ -1,18 +1,18 @@
 -- How many groups a message has: no more than its header says records.
-use Rattle.std.proofs.Common.{◌≡◌, ℕ, zero, suc, ◌+◌, ◌≤◌, Bool, true, false, cond, List, [], ◌∷◌, ◌++◌, length, map, Option, Some, None, Result, Ok, Err, refl, sym, ap, ◌∙◌, subst, arith}
+use Rattle.std.proofs.Common.{◌≡◌, ℕ, zero, suc, ◌+◌, ◌≤◌, Bool, true, false, cond, List, [], ◌∷◌, ◌++◌, length, Option, Some, None, Result, Ok, Err, refl, sym, ap, ◌∙◌, subst, arith}
 use Rattle.std.specs.Prelude.{filter, is_some}
 use Rattle.std.specs.List.{list_any}
 use Rattle.std.proofs.Math.Bool.{not}
 use Rattle.std.proofs.lemmas.List.{length-append, length-map}
-use Rattle.dsec_spec.specs.Reading.{◌>>=◌, many_of}
+use Rattle.dsec_spec.specs.Reading.{many_of}
 use Rattle.dsec_spec.specs.Records.{Record}
 use Rattle.dsec_spec.specs.Messages.{Question, Header, header_of, questions_of, answers_of, authorities_of, record_at}
 use Rattle.dsec_spec.specs.Groups.{Group, firsts, of_one_group, groups_of}
-use Rattle.dsec_spec.specs.Redirection.{is_bare, followed, followers, with_followers, stays, staying_from, has_too_many, moved}
+use Rattle.dsec_spec.specs.Redirection.{is_bare, followed, followers, with_followers, staying_from, has_too_many, moved}
 use Rattle.dsec_spec.proofs.ReadingLemmas.{from_bind}
 use Rattle.dsec_nodes.specs.Outcomes.{not_built}
 use Rattle.dsec_nodes.specs.Alone.{Refusal, sections_of}
-use Rattle.dsec_course.specs.Course.{to_end, Course, groups_in}
+use Rattle.dsec_course.specs.Course.{to_end, Course}
 use Rattle.dsec_course.specs.Advancing.{beginning, begun_with, begun_by, begun}
 use Rattle.dsec_course.proofs.BeginningLaws.{begun_waits}
 use Rattle.dsec_serve.specs.Calls.{count_of}

@@ -1,5 +1,5 @@
 -- What caches hold after gets and puts was held before, or was put.
-use Rattle.std.proofs.Common.{◌≡◌, ◌⊎◌, ℕ, List, [], ◌∷◌, ◌++◌, Option, Some, None, refl, sym, ◌∙◌, subst, inl, inr}
+use Rattle.std.proofs.Common.{◌≡◌, ◌⊎◌, List, [], ◌++◌, Option, Some, None, refl, sym, subst, inl, inr}
 use Rattle.std.specs.Prelude.{Contains}
 use Rattle.dsec_spec.specs.Names.{Place}
 use Rattle.dsec_spec.specs.Accepts.{Accepts}
@@ -8,7 +8,7 @@ use Rattle.dsec_nodes.specs.World.{World, Replies}
 use Rattle.dsec_nodes.specs.Nodes.{Node, Kept}
 use Rattle.dsec_node.specs.Caches.{Held, IsHeld, Keeps, Adds}
 use Rattle.dsec_course.specs.Hearing.{IsOfTable}
-use Rattle.dsec_serve.specs.Outside.{IsAmong, WasHeld, HoldsMore, HoldsTable}
+use Rattle.dsec_serve.specs.Outside.{WasHeld, HoldsMore, HoldsTable}
 
 pub more_none : (held : Option Held) → HoldsMore held held []
 more_none None = refl

@@ -1,5 +1,5 @@
 -- A message goes on by each step that is served, and keeps what it promises.
-use Rattle.std.proofs.Common.{◌≡◌, ◌⊎◌, ℕ, List, [], ◌∷◌, ◌++◌, length, Option, Some, None, IfSome, Result, Ok, Err, refl, sym, ap, ◌∙◌, subst, append-nil}
+use Rattle.std.proofs.Common.{◌≡◌, ℕ, List, [], ◌∷◌, ◌++◌, Option, Some, None, IfSome, Ok, refl, sym, ap, ◌∙◌, subst, append-nil}
 use Rattle.std.specs.Prelude.{Contains}
 use Rattle.std.specs.List.{flat_map}
 use Rattle.dsec_spec.specs.Names.{Place}
@@ -10,8 +10,8 @@ use Rattle.dsec_nodes.specs.Nodes.{Node, Kept}
 use Rattle.dsec_nodes.specs.Machine.{Question as Asked, Walking, Input, begin, node, stored, reply}
 use Rattle.dsec_node.specs.Caches.{Held, IsHeld}
 use Rattle.dsec_course.specs.Course.{Waiting, to_begin, to_end, for_walk, for_nothing, Course, CourseStep, get_node, put_node, ask_for, end_with, CourseAnswers, Awaits, asked_in, asked_by}
-use Rattle.dsec_course.specs.Advancing.{begun, course_advanced}
-use Rattle.dsec_course.specs.Hearing.{Run, put_by, first_run, ran_on, GivenFrom, AreHeard, after_heard, HoldsRun}
+use Rattle.dsec_course.specs.Advancing.{begun}
+use Rattle.dsec_course.specs.Hearing.{Run, put_by, first_run, ran_on, GivenFrom, after_heard, HoldsRun}
 use Rattle.dsec_course.proofs.BeginningLaws.{begun_sound, begun_waits}
 use Rattle.dsec_course.proofs.RunLaws.{run_begins, run_asked, run_got, run_put, heard_holds, heard_more, after_more}
 use Rattle.dsec_course.proofs.StepLaws.{asked_grows}

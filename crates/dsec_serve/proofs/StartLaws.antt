@@ -10,7 +10,7 @@ use Rattle.dsec_node.specs.Configs.{Settings}
 use Rattle.dsec_node.specs.Views.{bounds_of, world_of}
 use Rattle.dsec_found.specs.declared.error.Error.{Error}
 use Rattle.dsec_found.specs.declared.error.Error.TheVariants.{FormError, ParseError, NoMemory}
-use Rattle.dsec_found.specs.Errors.{wants_memory, refusal_of}
+use Rattle.dsec_found.specs.Errors.{wants_memory}
 use Rattle.dsec_course.specs.Course.{Course}
 use Rattle.dsec_course.specs.Advancing.{begun}
 use Rattle.dsec_course.proofs.BeginningLaws.{begun_refused}

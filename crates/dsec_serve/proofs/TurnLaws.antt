@@ -1,12 +1,9 @@
 -- One step of a message leads on, or the call ends.
-use Rattle.std.proofs.Common.{◌≡◌, ◌<◌, ℕ, Bool, true, false, List, Option, Some, None, IfOk, Result, Ok, Err, refl, sym, ap, ◌∙◌, subst}
-use Rattle.std.proofs.lemmas.Bool.{false≢true, true≢false}
+use Rattle.std.proofs.Common.{◌≡◌, ◌<◌, ℕ, List, Option, IfOk, Result, Ok, Err, sym, ap, subst}
 use Rattle.dsec_spec.specs.Accepts.{Accepts}
 use Rattle.dsec_spec.specs.Outside.{Table, risen}
 use Rattle.dsec_nodes.specs.World.{World}
-use Rattle.dsec_nodes.specs.Nodes.{Node}
 use Rattle.dsec_nodes.specs.Machine.{Input, begin, node, stored, reply}
-use Rattle.dsec_nodes.specs.Alone.{not_one_question}
 use Rattle.dsec_found.specs.declared.error.Error.{Error}
 use Rattle.dsec_found.specs.declared.error.Error.TheVariants.{FormError, ParseError, NoMemory}
 use Rattle.dsec_course.specs.Course.{Waiting, Course, CourseStep, get_node, put_node, ask_for, end_with, CourseAnswers, Awaits}
@@ -17,11 +14,10 @@ use Rattle.dsec_course.specs.Justified.{SoundCourse}
 use Rattle.dsec_course.proofs.EndingLaws.{course_nearer}
 use Rattle.dsec_core.specs.declared.step.Step.{Step}
 use Rattle.dsec_core.specs.Validating.{AdvancesTo}
-use Rattle.dsec_core.specs.Views.{step_view}
 use Rattle.dsec_serve.specs.Outside.{Outside, IsServed}
 use Rattle.dsec_serve.specs.Serving.{IsServing}
 use Rattle.dsec_serve.specs.Calls.{IsCall}
-use Rattle.dsec_serve.specs.Turns.{ends, IsAt, ComesTo}
+use Rattle.dsec_serve.specs.Turns.{IsAt, ComesTo}
 use Rattle.dsec_serve.proofs.ServingLaws.{serving_begins, serving_goes_on, serving_holds}
 use Rattle.dsec_serve.proofs.CallLaws.{ends_refused, ends_without_memory, ends_at_a_question}
 

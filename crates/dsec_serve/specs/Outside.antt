@@ -1,5 +1,5 @@
 -- What a call sees of the outside: the nodes that caches hold, and the counts of questions and of failures (RFC 4035 4.3, 4.5).
-use Rattle.std.specs.Prelude.{◌≡◌, ◌⊎◌, ℕ, zero, suc, ◌+◌, ◌==◌, ◌&&◌, List, length, filter, find, is_none, Contains, Option, Some, None, IfSome, if◌then◌else◌}
+use Rattle.std.specs.Prelude.{◌≡◌, ◌⊎◌, ℕ, zero, suc, ◌+◌, ◌==◌, ◌&&◌, List, length, filter, find, is_none, Contains, Option, Some, None, IfSome}
 use Rattle.dsec_spec.specs.Names.{Place, place, same_place}
 use Rattle.dsec_spec.specs.Accepts.{Accepts}
 use Rattle.dsec_spec.specs.Outside.{Table, reply_of, risen}

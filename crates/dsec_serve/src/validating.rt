@@ -48,7 +48,17 @@ pub fn validate_in<V: Verifier, C: Caches<V>, M: Memo<V>, U: Upstream>(
     ensures few { IfOk result (λ v. v.questions ≤ most_questions config.now.max_cname_dname message.now) }
     ensures same_table { U.table upstream.new ≡ U.table upstream.old }
 {
-    counted::<V, C, M, U, Brand>(alloc, anchors, config, caches, memo, message, upstream, now, Blank::new(1))
+    counted::<V, C, M, U, Brand>(
+        alloc,
+        anchors,
+        config,
+        caches,
+        memo,
+        message,
+        upstream,
+        now,
+        Blank::new(1),
+    )
 }
 
 /// The same, on a ledger that the blank opens.
@@ -140,7 +150,16 @@ fn finish<V: Verifier, C: Caches<V>, M: Memo<V>, U: Upstream, L: Ledger>(
     ensures same_table { U.table upstream.new ≡ U.table upstream.old }
 {
     let mut questions = 0u32;
-    match serve(alloc, validation, caches, memo, upstream, steps, &mut questions, step) {
+    match serve(
+        alloc,
+        validation,
+        caches,
+        memo,
+        upstream,
+        steps,
+        &mut questions,
+        step,
+    ) {
         Ok(last) => Ok(verdict(last, questions)),
         Err(error) => Err(error),
     }

@@ -46,14 +46,14 @@ loop-alloc-preserved g c =
           (g.U.Upstream.table c.loop-alloc.upstream) (g.U.Upstream.table c.args.upstream.now)
           (ap (world_by g.V.Verifier.accepts) inv.0) inv.1 (c.in-Ok.ensures.comes most message before) (inv.2 most message before at),
       (let begun = c.requires.at in
-      let asked : length (asked_in c.turn.new.validation.course) ≡ length (asked_in c.loop-alloc.validation.course) + asks (step_view c.loop-alloc.last) =
-      carried (λ (w : World) (t : Option Table). IsAt w begun.0 begun.1 t begun.2 now c.loop-alloc.validation.course (step_view c.loop-alloc.last))
-      (λ (w : World) (t : Option Table). length (asked_in c.turn.new.validation.course) ≡ length (asked_in c.loop-alloc.validation.course) + asks (step_view c.loop-alloc.last))
-      (world_by g.V.Verifier.accepts c.loop-alloc.validation) (world_by g.V.Verifier.accepts c.args.validation.now)
-      (g.U.Upstream.table c.loop-alloc.upstream) (g.U.Upstream.table c.args.upstream.now)
-      (ap (world_by g.V.Verifier.accepts) inv.0) inv.1 (c.in-Ok.ensures.asked begun.0 begun.1 begun.2)
-      (inv.2 begun.0 begun.1 begun.2 begun.3) in
-      omega (arith, inv.3, asked, c.questions_in.ensures)),
+          let asked : length (asked_in c.turn.new.validation.course) ≡ length (asked_in c.loop-alloc.validation.course) + asks (step_view c.loop-alloc.last) =
+          carried (λ (w : World) (t : Option Table). IsAt w begun.0 begun.1 t begun.2 now c.loop-alloc.validation.course (step_view c.loop-alloc.last))
+          (λ (w : World) (t : Option Table). length (asked_in c.turn.new.validation.course) ≡ length (asked_in c.loop-alloc.validation.course) + asks (step_view c.loop-alloc.last))
+          (world_by g.V.Verifier.accepts c.loop-alloc.validation) (world_by g.V.Verifier.accepts c.args.validation.now)
+          (g.U.Upstream.table c.loop-alloc.upstream) (g.U.Upstream.table c.args.upstream.now)
+          (ap (world_by g.V.Verifier.accepts) inv.0) inv.1 (c.in-Ok.ensures.asked begun.0 begun.1 begun.2)
+          (inv.2 begun.0 begun.1 begun.2 begun.3) in
+          omega (arith, inv.3, asked, c.questions_in.ensures)),
     )
 
 pub overflow_add-questions : goal.overflow_add-questions

@@ -20,12 +20,16 @@ pub finish-requires-clause-at : goal.finish-requires-clause-at
 finish-requires-clause-at g c =
     let begun = c.requires.begun in
     let most = most_of c.args.validation.now in
-    let before : Outside = record { held = g.C.Caches.held c.args.caches.now; asked = g.U.Upstream.asked c.args.upstream.now; faults = g.U.Upstream.faults c.args.upstream.now } in
-    (most, begun.0, before,
-    subst (λ (w : World). IsAt w most begun.0 (g.U.Upstream.table c.args.upstream.now) before before c.advance.new.self.course (step_view c.in-Ok.step))
-    (sym (ap (world_by g.V.Verifier.accepts) c.advance.ensures.same))
-    (first_turned (world_by g.V.Verifier.accepts c.args.validation.now) most begun.0 (g.U.Upstream.table c.args.upstream.now) before c.args.validation.now.course
-    c.advance.new.self.course (Ok c.in-Ok.step) begun.1 c.in-Ok.ensures.exact), begun.2)
+    let before : Outside = record { held = g.C.Caches.held c.args.caches.now; asked = g.U.Upstream.asked c.args.upstream.now; faults = g.U.Upstream.faults c.args.upstream.now } in (
+      most,
+      begun.0,
+      before,
+      subst (λ (w : World). IsAt w most begun.0 (g.U.Upstream.table c.args.upstream.now) before before c.advance.new.self.course (step_view c.in-Ok.step))
+          (sym (ap (world_by g.V.Verifier.accepts) c.advance.ensures.same))
+          (first_turned (world_by g.V.Verifier.accepts c.args.validation.now) most begun.0 (g.U.Upstream.table c.args.upstream.now) before c.args.validation.now.course
+          c.advance.new.self.course (Ok c.in-Ok.step) begun.1 c.in-Ok.ensures.exact),
+      begun.2,
+    )
 
 pub returns-in-Ok-clause-call : goal.returns-in-Ok-clause-call
 returns-in-Ok-clause-call g c = λ message begins.

@@ -1,8 +1,6 @@
 use Rattle.std.proofs.Common.{arith}
 use Rattle.dsec_node.specs.Views.{bounds_of, world_of}
-use Rattle.dsec_core.specs.Validating.{most_of, world_by}
-use Rattle.dsec_serve.specs.Outside.{Outside}
-use Rattle.dsec_serve.specs.Calls.{most_questions}
+use Rattle.dsec_core.specs.Validating.{most_of}
 use Rattle.dsec_serve.proofs.CallLaws.{ends_unbegun}
 use Rattle.dsec_serve.proofs.StartLaws.{started, started_begins, started_call, started_from, unstarted}
 use Rattle.dsec_serve.proofs.validating.counted.Goals as goal

@@ -1,5 +1,5 @@
 use Rattle.dsec_node.specs.Views.{bounds_of, world_of}
-use Rattle.dsec_serve.proofs.CallLaws.{call_few, call_sound, call_told}
+use Rattle.dsec_serve.proofs.CallLaws.{call_few, call_told}
 use Rattle.dsec_serve.proofs.validating.validate_in.Goals as goal
 
 pub returns-clause-told : goal.returns-clause-told
