@@ -68,7 +68,7 @@ fn push_one<V: Verifier>(
     ensures same_config { context.new.config ≡ context.old.config }
     ensures same_table { upstream.new.replies ≡ upstream.old.replies }
 {
-    if item.seconds != moment {
+    if item.opens || item.seconds != moment {
         context.forget();
     }
     let outcome = judge_one(alloc, context, upstream, item)?;

@@ -3,4 +3,5 @@ pub mod WaySteps
 pub mod GroupSteps
 pub mod EndSteps
 pub mod BeginLaws
+pub mod BoundSteps
 pub mod StepLaws

@@ -1,22 +1,24 @@
 -- What holds of a message being judged stays so with each step.
-use Rattle.std.proofs.Common.{◌≡◌, ℕ, List, [], ◌∷◌, refl, sym, ap, ◌∙◌, subst}
+use Rattle.std.proofs.Common.{◌≡◌, ℕ, List, [], ◌∷◌, refl, sym, ap, ◌∙◌, subst, ◌<◌, arith}
+use Rattle.std.specs.List.{AllByRecursion}
 use Rattle.dsec_spec.specs.Accepts.{Accepts}
-use Rattle.dsec_spec.specs.Names.{Place}
 use Rattle.dsec_spec.specs.Groups.{Group}
 use Rattle.dsec_spec.specs.Records.{Record}
 use Rattle.dsec_nodes.specs.World.{World}
-use Rattle.dsec_nodes.specs.Nodes.{Node}
 use Rattle.dsec_nodes.specs.SoundSteps.{InputKept}
-use Rattle.dsec_nodes.specs.Machine.{Walking, Step, node_get, node_put, ask, done, Input, begin, node, stored, reply, gets, in_phase, started, advanced}
-use Rattle.dsec_nodes.specs.Judging.{Finding, is_shown, has_no_set, is_insecure, is_bogus, is_indeterminate, by_node, target_of}
+use Rattle.dsec_nodes.specs.Machine.{Walking, Step, node_get, node_put, ask, done, Input, begin, node, stored, reply, advanced}
+use Rattle.dsec_nodes.specs.Judging.{Finding, is_shown, has_no_set, is_insecure, is_bogus, is_indeterminate, by_node}
 use Rattle.dsec_node.specs.Views.{bounds_of, world_of}
-use Rattle.dsec_course.specs.Course.{Waiting, to_begin, to_end, for_walk, for_nothing, Course, CourseStep, CourseAnswers, Way, at_once, by_walk, way_of}
+use Rattle.dsec_course.specs.Course.{Waiting, to_begin, to_end, for_walk, for_nothing, Course, CourseStep, CourseAnswers, Awaits, Way, at_once, by_walk, way_of}
 use Rattle.dsec_course.specs.Advancing.{with_judged, with_walk, by_way, going_on, by_found, by_step, by_waiting, course_advanced}
 use Rattle.dsec_course.specs.Agreeing.{CourseGoes, CourseInStep}
-use Rattle.dsec_course.specs.Justified.{SoundCourse, SoundCourseAt, SoundGoing}
+use Rattle.dsec_course.specs.Justified.{IsFound, SoundCourse, SoundCourseAt, SoundGoing}
+use Rattle.dsec_course.specs.Ending.{steps_left}
 use Rattle.dsec_course.proofs.AgreeingLaws.{course_goes}
+use Rattle.dsec_course.proofs.EndingLaws.{course_nearer}
 use Rattle.dsec_course.proofs.SoundLaws.{course_sound}
-use Rattle.dsec_walk.specs.UnderWay.{IsInZone, IsUnderWay}
+use Rattle.dsec_course.proofs.StepLaws.{course_awaits}
+use Rattle.dsec_walk.specs.UnderWay.{IsInZone}
 use Rattle.dsec_walk.proofs.UnderWayLaws.{advanced_under_way}
 use Rattle.dsec_core.specs.Progress.{IsUnderWayAt, given_up}
 use Rattle.dsec_core.specs.Validating.{IsInZoneAt, IsSoundBy, Validating, most_of, with_course, world_by}
@@ -139,9 +141,34 @@ module _ (accepts : Accepts) (it : Validating) (anchors : List Record) (same : a
         (zone_stays (world_by accepts it) (most_of it) it.course.message it.course h.is_sound h.in_zone i a kept);
   }
 
+  pub after_awaits : Awaits p.1 p.0.waits
+  after_awaits = subst (λ (q : Course × CourseStep). Awaits q.1 q.0.waits) (sym is)
+      (course_awaits (world_by accepts it) (most_of it) it.course.message it.course i h.is_sound a)
+
+  pub after_nearer : steps_left (world_by accepts it) p.0 < steps_left (world_by accepts it) it.course
+  after_nearer = subst (λ (q : Course × CourseStep). steps_left (world_by accepts it) q.0 < steps_left (world_by accepts it) it.course) (sym is)
+      (course_nearer (world_by accepts it) (most_of it) it.course.message it.course i h.is_sound a)
+
 -- where memory is wanting
 pub given_up_sound : (accepts : Accepts) (it : Validating) (c d : Course) → d ≡ given_up c → IsSoundBy accepts (with_course it d)
 given_up_sound accepts it c d e = subst (λ (x : Course). IsSoundBy accepts (with_course it x)) (sym e) (record {
   is_sound = (tt, record { routes = refl; counted = tt });
   in_zone = tt;
 })
+
+pub given_up_nearer : (accepts : Accepts) (it : Validating) (i : Input) (c d : Course) → IsSoundBy accepts it → CourseAnswers it.course.waits i → d ≡ given_up c
+    → steps_left (world_by accepts it) d < steps_left (world_by accepts it) it.course
+given_up_nearer accepts it i c d h a e =
+    let near = course_nearer (world_by accepts it) (most_of it) it.course.message it.course i h.is_sound a in
+    subst (λ (x : Course). steps_left (world_by accepts it) x < steps_left (world_by accepts it) it.course) (sym e) (omega (arith, near))
+
+-- each judged group is what was found of it
+pub judged_found : (accepts : Accepts) (it : Validating) → IsSoundBy accepts it → AllByRecursion (IsFound (world_by accepts it)) it.course.judged
+judged_found accepts it h = by it.course.waits h.is_sound
+  where
+    by : (x : Waiting) → SoundCourseAt (world_by accepts it) (most_of it) it.course.message it.course x
+        → AllByRecursion (IsFound (world_by accepts it)) it.course.judged
+    by to_begin g = g.found
+    by (to_end o) g = subst (AllByRecursion (IsFound (world_by accepts it))) (sym g.1) tt
+    by (for_walk group s) g = g.0.found
+    by for_nothing g = g.0

@@ -1,5 +1,5 @@
 -- Groups that are judged at once.
-use Rattle.std.proofs.Common.{◌≡◌, ◌⊎◌, inl, inr, ℕ, ◌==◌, Bool, true, false, cond, List, [], length, Option, Some, None, refl, sym, ap, ◌∙◌}
+use Rattle.std.proofs.Common.{◌≡◌, ◌⊎◌, inl, inr, ◌==◌, Bool, true, false, cond, List, [], length, Option, Some, None, refl, ap, ◌∙◌}
 use Rattle.dsec_spec.specs.Names.{Place, place}
 use Rattle.dsec_spec.specs.Records.{Record, Key}
 use Rattle.dsec_spec.specs.Groups.{Group}

@@ -1,6 +1,6 @@
 -- What the code has between the parts of a step.
 use Rattle.std.specs.Prelude.{◌≡◌, ◌⊎◌, ◌++◌, ℕ, length, List, [], Option, Some, None, Result, Ok, Err}
-use Rattle.dsec_spec.specs.Names.{Place, place, IsAtOrBelow}
+use Rattle.dsec_spec.specs.Names.{place, IsAtOrBelow}
 use Rattle.dsec_spec.specs.Records.{Record}
 use Rattle.dsec_spec.specs.Messages.{Question}
 use Rattle.dsec_spec.specs.Groups.{Group, groups_of}

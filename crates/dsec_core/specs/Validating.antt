@@ -1,13 +1,15 @@
 -- A message being judged: what judging it goes by, and its course (RFC 4033 2, RFC 4035 4.3).
-use Rattle.std.specs.Prelude.{◌≡◌, ℕ, List, Result, Ok, Err}
+use Rattle.std.specs.Prelude.{◌≡◌, ◌+◌, ℕ, List, Result, Ok, Err}
 use Rattle.dsec_spec.specs.Accepts.{Accepts}
 use Rattle.dsec_spec.specs.Records.{Record}
 use Rattle.dsec_nodes.specs.World.{World}
+use Rattle.dsec_nodes.specs.Machine.{Input}
 use Rattle.dsec_nodes.specs.Alone.{Refusal, not_one_question}
 use Rattle.dsec_node.specs.Configs.{Settings}
 use Rattle.dsec_node.specs.Views.{bounds_of, world_of}
 use Rattle.dsec_course.specs.Course.{Waiting, to_begin, to_end, for_walk, for_nothing, Course, CourseStep, end_with}
 use Rattle.dsec_course.specs.Justified.{SoundCourse}
+use Rattle.dsec_walk.specs.Checks.{most_checked_by}
 use Rattle.dsec_walk.specs.UnderWay.{IsInZone}
 use Rattle.dsec_found.specs.declared.error.Error.{Error}
 use Rattle.dsec_found.specs.declared.error.Error.TheVariants.{FormError, ParseError, NoMemory}
@@ -46,6 +48,14 @@ AdvancesTo p course (Ok step) = (course, step_view step) ≡ p
 AdvancesTo p course (Err FormError) = (course, end_with (Err not_one_question)) ≡ p
 AdvancesTo p course (Err ParseError) = ⊥
 AdvancesTo p course (Err NoMemory) = course.waits ≡ for_nothing
+
+-- how many sets are checked at most for what answers a step: those for the step of the walk that is waited for, and the group that is judged by
+-- the node to which it comes (RFC 4035 5.2, 5.3)
+abbrev pub most_checked_at : Waiting → Input → ℕ
+most_checked_at (for_walk group s) i = most_checked_by i s.phase s.reached + 1
+most_checked_at to_begin i = 0
+most_checked_at (to_end o) i = 0
+most_checked_at for_nothing i = 0
 
 -- the last zone of the walk that is waited for counts (RFC 4035 5.2)
 abbrev pub IsInZoneAt : World → Waiting → Type 0

@@ -1,11 +1,12 @@
 //! How far judging a message has come (RFC 4035 4.3).
 
-ghost use Rattle.std.specs.Prelude.{◌≡◌, IfOk};
+ghost use Rattle.std.specs.Prelude.{◌≡◌, ◌↔◌, ◌≤◌, ◌+◌, ◌*◌, IfOk, IsTrue};
 ghost use Rattle.dsec_nodes.specs.SoundSteps.{InputKept};
 ghost use Rattle.dsec_course.specs.Advancing.{course_advanced};
 ghost use Rattle.dsec_course.specs.Course as courses;
 ghost use Rattle.dsec_walk.specs.Views.{input_view, world_in};
 ghost use Rattle.dsec_core.specs.Progress.{IsUnderWayAt, given_up};
+ghost use Rattle.dsec_core.specs.Validating.{most_checked_at};
 ghost use Rattle.dsec_core.specs.Views.{next_view};
 
 mod ending;
@@ -82,6 +83,7 @@ impl<V: Verifier> Course<V> {
         requires answers { courses.CourseAnswers self.old.waits (input_view input) }
         ensures exact { IfOk result (λ n. (self.new, next_view n) ≡ course_advanced (world_in V.accepts setting.now) self.old (input_view input)) }
         ensures kept { IfOk result (λ _. InputKept (world_in V.accepts setting.now) (input_view input)) }
+        ensures bound { steps.new ≤ steps.old + most_checked_at self.old.waits (input_view input) * (setting.now.config.now.max_bad_signatures + 1) }
     {
         rely_on(setting, &input);
         match mem::replace(&mut self.waits, Waits::ForNothing) {
@@ -92,6 +94,39 @@ impl<V: Verifier> Course<V> {
             }
             Waits::ForNothing => unreachable!(),
         }
+    }
+
+    /// Whether an input answers what is waited for.
+    pub(crate) fn awaits(&self, input: &Input<V>) -> bool
+        ensures { IsTrue result ↔ courses.CourseAnswers self.now.waits (input_view input.now) }
+    {
+        match (&self.waits, input) {
+            (Waits::ToBegin, Input::Begin) => true,
+            (Waits::ToEnd(_), Input::Begin) => true,
+            (Waits::ForWalk(_, walk), input) => walk.awaits(input),
+            _ => false,
+        }
+    }
+
+    /// Whether nothing is waited for.
+    pub(crate) fn is_done(&self) -> bool
+        ensures { IsTrue result ↔ (self.now.waits ≡ courses.for_nothing) }
+    {
+        matches!(self.waits, Waits::ForNothing)
+    }
+
+    /// The judged groups, in order.
+    pub(crate) fn judged(&self) -> &[JudgedGroup<V>]
+        ensures { result.now ≡ self.now.judged }
+    {
+        &self.judged
+    }
+
+    /// How many of the groups are the answer section's.
+    pub(crate) fn answers(&self) -> usize
+        ensures { result ≡ self.now.answers }
+    {
+        self.answers
     }
 
     /// Lets go of all that was judged and is still to be.

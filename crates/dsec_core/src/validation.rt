@@ -1,14 +1,16 @@
 //! A message judged a step at a time (RFC 4035 4.3, 5).
 
-ghost use Rattle.std.specs.Prelude.{◌≡◌, ◌↔◌, IfOk, IsTrue};
+ghost use Rattle.std.specs.Prelude.{◌≡◌, ◌↔◌, ◌<◌, ◌≤◌, ◌+◌, ◌*◌, IfOk, IsTrue, OnErr, drop, take};
+ghost use Rattle.std.specs.List.{AllByRecursion};
 ghost use Rattle.dsec_spec.specs.Reading.{Gives};
 ghost use Rattle.dsec_course.specs.Advancing.{begun as begun_of, course_advanced};
 ghost use Rattle.dsec_course.specs.Agreeing.{CourseGoes, CourseInStep};
 ghost use Rattle.dsec_course.specs.Course as courses;
-ghost use Rattle.dsec_course.specs.Justified.{SoundCourse, SoundGoing};
+ghost use Rattle.dsec_course.specs.Ending.{steps_left};
+ghost use Rattle.dsec_course.specs.Justified.{IsFound, SoundCourse, SoundGoing};
 ghost use Rattle.dsec_found.specs.Errors.{wants_memory};
 ghost use Rattle.dsec_walk.specs.Views.{input_view};
-ghost use Rattle.dsec_core.specs.Validating.{AdvancesTo, begun_as, most_of, with_course, world_by};
+ghost use Rattle.dsec_core.specs.Validating.{AdvancesTo, begun_as, most_checked_at, most_of, with_course, world_by};
 ghost use Rattle.dsec_core.specs.Views.{step_view};
 
 use crate::course::{Course, begun};
@@ -80,6 +82,10 @@ impl<V: Verifier> Validation<V> {
             → IfOk result (λ step. CourseGoes (world_by V.accepts self.old) (most_of self.old) self.old.course.message (self.new.course, step_view step)) }
         ensures sound { IfOk result (λ step. SoundGoing (world_by V.accepts self.old) (most_of self.old) self.old.course.message (self.new.course, step_view step)) }
         ensures same { self.new ≡ with_course self.old self.new.course }
+        ensures awaits { IfOk result (λ step. courses.Awaits (step_view step) self.new.course.waits) }
+        ensures err { OnErr result (self.new.course.waits ≡ courses.for_nothing) }
+        ensures nearer { steps_left (world_by V.accepts self.old) self.new.course < steps_left (world_by V.accepts self.old) self.old.course }
+        ensures bound { steps.new ≤ steps.old + most_checked_at self.old.course.waits (input_view input) * (self.old.config.max_bad_signatures + 1) }
     {
         let setting = Setting {
             anchors: self.anchors.as_slice(),
@@ -97,5 +103,38 @@ impl<V: Verifier> Validation<V> {
                 Err(Error::NoMemory)
             }
         }
+    }
+
+    /// Whether an input answers what is waited for.
+    pub fn awaits(&self, input: &Input<V>) -> bool
+        ensures { IsTrue result ↔ courses.CourseAnswers self.now.course.waits (input_view input.now) }
+    {
+        self.course.awaits(input)
+    }
+
+    /// Whether nothing is waited for: after `Step::Done`, and after every error.
+    pub fn is_done(&self) -> bool
+        ensures done { IsTrue result ↔ (self.now.course.waits ≡ courses.for_nothing) }
+        ensures sound { SoundCourse (world_by V.accepts self.now) (most_of self.now) self.now.course.message self.now.course }
+    {
+        self.course.is_done()
+    }
+
+    /// The groups that are judged, in order. Where the message has ended by a bogus group, that is the last one; after want of memory
+    /// there are none.
+    pub fn judged(&self) -> &[JudgedGroup<V>]
+        ensures judged { result.now ≡ self.now.course.judged }
+        ensures found { AllByRecursion (IsFound (world_by V.accepts self.now)) result.now }
+    {
+        self.course.judged()
+    }
+
+    /// The groups that are judged, in order: first those of the answer section, and then those of the authority section.
+    pub fn groups(&self) -> (&[JudgedGroup<V>], &[JudgedGroup<V>])
+        ensures answers { result.0.now ≡ take self.now.course.answers self.now.course.judged }
+        ensures authorities { result.1.now ≡ drop self.now.course.answers self.now.course.judged }
+    {
+        let judged = self.course.judged();
+        judged.split_at(self.course.answers().min(judged.len()))
     }
 }

@@ -1,6 +1,6 @@
 //! The groups of a message one after the other, to the first that needs a walk (RFC 4035 4.3).
 
-ghost use Rattle.std.specs.Prelude.{◌≡◌, IfOk};
+ghost use Rattle.std.specs.Prelude.{◌≡◌, ◌≤◌, IfOk};
 ghost use Rattle.dsec_course.specs.Advancing.{going_on};
 ghost use Rattle.dsec_walk.specs.Views.{world_in};
 ghost use Rattle.dsec_core.specs.Progress.{Passes};
@@ -25,7 +25,8 @@ impl<V: Verifier> Course<V> {
         memo: &mut impl Memo<V>,
         steps: &mut Steps<L>,
     ) -> Result<Next<V>, NoMemory>
-        ensures { IfOk result (λ n. (self.new, next_view n) ≡ going_on (world_in V.accepts setting.now) self.old.left self.old) }
+        ensures exact { IfOk result (λ n. (self.new, next_view n) ≡ going_on (world_in V.accepts setting.now) self.old.left self.old) }
+        ensures bound { steps.new ≤ steps.old }
     {
         while let Some(group) = self.left.pop_front() {
             match self.passed::<L>(alloc, setting, group, memo, steps)? {
@@ -45,7 +46,8 @@ impl<V: Verifier> Course<V> {
         memo: &mut impl Memo<V>,
         steps: &mut Steps<L>,
     ) -> Result<Option<Next<V>>, NoMemory>
-        ensures { IfOk result (λ next. Passes (world_in V.accepts setting.now) group self.old self.new next) }
+        ensures passes { IfOk result (λ next. Passes (world_in V.accepts setting.now) group self.old self.new next) }
+        ensures bound { steps.new ≤ steps.old }
     {
         match way_of(alloc, setting, group)? {
             Way::AtOnce(judged) => {

@@ -1,10 +1,11 @@
 //! Steps of the walk that a message waits for, and the group judged by the node that it comes to (RFC 4035 5).
 
-ghost use Rattle.std.specs.Prelude.{◌≡◌, IfOk};
+ghost use Rattle.std.specs.Prelude.{◌≡◌, ◌≤◌, ◌+◌, ◌*◌, IfOk};
 ghost use Rattle.std.specs.Arc.{arc_value};
 ghost use Rattle.dsec_spec.specs.Names.{IsAtOrBelow, place};
 ghost use Rattle.dsec_nodes.specs.Machine as machine;
 ghost use Rattle.dsec_course.specs.Advancing.{by_step, setting_out};
+ghost use Rattle.dsec_walk.specs.Checks.{most_checked_by};
 ghost use Rattle.dsec_walk.specs.UnderWay.{IsUnderWay};
 ghost use Rattle.dsec_walk.specs.Views as walks;
 ghost use Rattle.dsec_walk.specs.Views.{input_view, world_in};
@@ -35,7 +36,8 @@ impl<V: Verifier> Course<V> {
         steps: &mut Steps<L>,
     ) -> Result<Next<V>, NoMemory>
         requires { IsAtOrBelow (place zone) (place top) }
-        ensures { IfOk result (λ n. (self.new, next_view n) ≡ setting_out self.old group self.old.left (machine.started (place top) (place zone))) }
+        ensures out { IfOk result (λ n. (self.new, next_view n) ≡ setting_out self.old group self.old.left (machine.started (place top) (place zone))) }
+        ensures bound { steps.new ≤ steps.old }
     {
         let mut walk = Walk::start(alloc, top, zone);
         match walk.advance::<L>(alloc, setting, Input::Begin, memo, steps)? {
@@ -48,6 +50,7 @@ impl<V: Verifier> Course<V> {
     }
 
     /// The step after what answers the last one of a walk for a group.
+    #[tactic(auto, using(crate::proofs::BoundSteps::one_set_more))]
     pub(super) fn walked<L: Ledger>(
         &mut self,
         alloc: Global,
@@ -60,8 +63,9 @@ impl<V: Verifier> Course<V> {
     ) -> Result<Next<V>, NoMemory>
         requires under_way { IsUnderWay (world_in V.accepts setting.now) walk }
         requires answers { machine.Answers walk.phase (input_view input) }
-        ensures { IfOk result (λ n. (self.new, next_view n) ≡ by_step (world_in V.accepts setting.now) self.old group
+        ensures step { IfOk result (λ n. (self.new, next_view n) ≡ by_step (world_in V.accepts setting.now) self.old group
             (machine.advanced (world_in V.accepts setting.now) walk (input_view input)).0 (machine.advanced (world_in V.accepts setting.now) walk (input_view input)).1) }
+        ensures bound { steps.new ≤ steps.old + (most_checked_by (input_view input) walk.phase walk.reached + 1) * (setting.now.config.now.max_bad_signatures + 1) }
     {
         let mut walk = walk;
         let step = walk.advance::<L>(alloc, setting, input, memo, steps)?;
@@ -79,7 +83,8 @@ impl<V: Verifier> Course<V> {
         memo: &mut impl Memo<V>,
         steps: &mut Steps<L>,
     ) -> Result<Next<V>, NoMemory>
-        ensures { IfOk result (λ n. (self.new, next_view n) ≡ by_step (world_in V.accepts setting.now) self.old group walk (walks.step_view step)) }
+        ensures step { IfOk result (λ n. (self.new, next_view n) ≡ by_step (world_in V.accepts setting.now) self.old group walk (walks.step_view step)) }
+        ensures bound { steps.new ≤ steps.old + (setting.now.config.now.max_bad_signatures + 1) }
     {
         let next = match step {
             WalkStep::NodeGet(name) => Step::NodeGet(name),
@@ -104,7 +109,8 @@ impl<V: Verifier> Course<V> {
         memo: &mut impl Memo<V>,
         steps: &mut Steps<L>,
     ) -> Result<Next<V>, NoMemory>
-        ensures { IfOk result (λ n. (self.new, next_view n) ≡ by_step (world_in V.accepts setting.now) self.old group walk (machine.done (arc_value node))) }
+        ensures step { IfOk result (λ n. (self.new, next_view n) ≡ by_step (world_in V.accepts setting.now) self.old group walk (machine.done (arc_value node))) }
+        ensures bound { steps.new ≤ steps.old + (setting.now.config.now.max_bad_signatures + 1) }
     {
         let (config, moment) = (setting.config, setting.moment);
         let judged = judged_by_node::<V, L>(alloc, config, moment, group, node, memo, steps)?;

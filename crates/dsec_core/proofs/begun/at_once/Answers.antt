@@ -4,7 +4,7 @@ use Rattle.dsec_nodes.specs.Judging.{Judged}
 use Rattle.dsec_nodes.specs.Walk.{node_of}
 use Rattle.dsec_nodes.specs.World.{Replies}
 use Rattle.dsec_node.specs.Views.{bounds_of}
-use Rattle.dsec_course.specs.Course.{Way, at_once}
+use Rattle.dsec_course.specs.Course.{at_once}
 use Rattle.dsec_found.specs.Begun.{BeginsAs}
 use Rattle.dsec_walk.specs.Views.{world_in}
 use Rattle.dsec_core.proofs.WaySteps.{once_no_node, once_way}

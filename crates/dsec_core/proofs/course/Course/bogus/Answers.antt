@@ -1,4 +1,3 @@
-use Rattle.std.proofs.Common.{[]}
 use Rattle.std.specs.Arc.{arc_value}
 use Rattle.dsec_nodes.specs.Judging.{all}
 use Rattle.dsec_node.specs.Views.{bounds_of}
