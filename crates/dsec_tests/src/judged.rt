@@ -109,12 +109,11 @@ type Turn = (Option<Cause>, u32);
 type Row = (u8, &'static str, &'static [u64], &'static [Turn]);
 
 #[rattlefmt::skip]
-const ROWS: [Row; 6] = [
+const ROWS: [Row; 5] = [
     (1, GOOD, &[], &[(None, 1), (None, 0)]),
     (1, GOOD, &[0], &[(Some(Cause::NoDnskeyForAnchor), 1), (None, 1), (None, 0)]),
     (1, FOUR, &[], &[(Some(Cause::TooManyBadSignatures), 1)]),
     (2, FOUR, &[], &[(None, 1)]),
-    (0, ONE_BAD, &[], &[(Some(Cause::TooManyBadSignatures), 1)]),
     (1, ONE_BAD, &[], &[(None, 1)]),
 ];
 
