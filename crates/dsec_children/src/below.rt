@@ -1,0 +1,86 @@
+//! The node of a name below a zone, by the replies of a script (RFC 4035 5.2).
+
+ghost use Rattle.std.specs.Prelude.{◌≡◌, ◌↔◌, ◌≤◌, ◌+◌, [], List, ℕ, IsTrue};
+ghost use Rattle.dsec_spec.specs.Names.{IsStrictlyBelow, place};
+ghost use Rattle.dsec_nodes.specs.Held.{IsPending};
+ghost use Rattle.dsec_nodes.specs.Nodes.{apex};
+ghost use Rattle.dsec_node.specs.Views.{bounds_of, world_of};
+
+use crate::replies::reply_to;
+use dsec_chain::is_strictly_below;
+use dsec_child::{Below, by_ds_reply, by_keys};
+use dsec_crypto::Verifier;
+use dsec_group::{NoMemo, Steps};
+use dsec_name::{Name, NoMemory};
+use dsec_node::{Config, Node, Pending};
+use dsec_number::Rtype;
+use dsec_script::Script;
+use std::alloc::Global;
+use std::sync::ledger::Ledger;
+
+/// The node of a name below a zone; none where the zone's node is no zone that counts above it.
+pub(crate) fn node_below<V: Verifier, L: Ledger>(
+    alloc: Global,
+    script: &Script,
+    now: u64,
+    zone: &Node<V>,
+    name: &Name,
+    steps: &mut Steps<L>,
+) -> Result<Option<Node<V>>, NoMemory> {
+    if zone.apex_keys().is_none() || zone.expired(now) || !is_under(name, zone) {
+        return Ok(None);
+    }
+    let node = below_zone::<V, L>(alloc, script, now, zone, name, steps)?;
+    Ok(Some(node))
+}
+
+/// Whether a name is strictly below a zone.
+#[tactic(auto, using(dsec_spec::proofs::SignedTests::strictly_below_decides))]
+fn is_under<V: Verifier>(name: &Name, zone: &Node<V>) -> bool
+    ensures { IsTrue result ↔ IsStrictlyBelow (place name.now) zone.now.signer }
+{
+    is_strictly_below(name, zone.signer_name())
+}
+
+/// The node of a name strictly below a zone that counts.
+fn below_zone<V: Verifier, L: Ledger>(
+    alloc: Global,
+    script: &Script,
+    now: u64,
+    zone: &Node<V>,
+    name: &Name,
+    steps: &mut Steps<L>,
+) -> Result<Node<V>, NoMemory>
+    requires begins { (keys : List (List ℕ)) × (zone.now.standing ≡ apex keys) }
+    requires made { zone.now.made ≤ now }
+    requires counts { now ≤ zone.now.made + zone.now.valid_for }
+    requires under { IsStrictlyBelow (place name.now) zone.now.signer }
+{
+    let config = Config::new();
+    let reply = reply_to(alloc, script, name, Rtype::DS)?;
+    let below = by_ds_reply::<V, L>(alloc, &config, now, zone, name, reply, &mut NoMemo, steps)?;
+    match below {
+        Below::Made(node) => Ok(node),
+        Below::Asks(pending) => {
+            by_key_reply::<V, L>(alloc, script, &config, now, zone, &pending, steps)
+        }
+    }
+}
+
+/// The node of a name, by the DS set for it that the zone has signed.
+fn by_key_reply<V: Verifier, L: Ledger>(
+    alloc: Global,
+    script: &Script,
+    config: &Config,
+    now: u64,
+    zone: &Node<V>,
+    pending: &Pending,
+    steps: &mut Steps<L>,
+) -> Result<Node<V>, NoMemory>
+    requires ready { (keys : List (List ℕ)) × (zone.now.standing ≡ apex keys) × IsPending (world_of V.accepts [] (bounds_of config.now) now) zone.now keys pending.now }
+    requires made { zone.now.made ≤ now }
+    requires counts { now ≤ zone.now.made + zone.now.valid_for }
+{
+    let reply = reply_to(alloc, script, pending.name(), Rtype::DNSKEY)?;
+    by_keys::<V, L>(alloc, config, now, zone, pending, reply, &mut NoMemo, steps)
+}
