@@ -4,4 +4,5 @@ pub mod GroupSteps
 pub mod EndSteps
 pub mod BeginLaws
 pub mod BoundSteps
+pub mod CountSteps
 pub mod StepLaws

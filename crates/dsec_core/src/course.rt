@@ -9,6 +9,7 @@ ghost use Rattle.dsec_core.specs.Progress.{IsUnderWayAt, given_up};
 ghost use Rattle.dsec_core.specs.Validating.{most_checked_at};
 ghost use Rattle.dsec_core.specs.Views.{next_view};
 
+mod counting;
 mod ending;
 mod groups;
 mod reading;

@@ -1,6 +1,6 @@
 //! A message judged a step at a time (RFC 4035 4.3, 5).
 
-ghost use Rattle.std.specs.Prelude.{◌≡◌, ◌↔◌, ◌<◌, ◌≤◌, ◌+◌, ◌*◌, IfOk, IsTrue, OnErr, drop, take};
+ghost use Rattle.std.specs.Prelude.{◌≡◌, ◌↔◌, ◌<◌, ◌≤◌, ◌+◌, ◌*◌, IfOk, IsTrue, OnErr, drop, length, take};
 ghost use Rattle.std.specs.List.{AllByRecursion};
 ghost use Rattle.dsec_spec.specs.Reading.{Gives};
 ghost use Rattle.dsec_course.specs.Advancing.{begun as begun_of, course_advanced};
@@ -136,5 +136,12 @@ impl<V: Verifier> Validation<V> {
     {
         let judged = self.course.judged();
         judged.split_at(self.course.answers().min(judged.len()))
+    }
+
+    /// How many questions were asked.
+    pub fn questions(&self) -> u128
+        ensures { result ≡ length (courses.asked_in self.now.course) }
+    {
+        self.course.questions()
     }
 }
