@@ -109,6 +109,27 @@ pub(crate) fn keys(alloc: Global, lines: &[&str]) -> Option<Vec<SigningKey<Stand
     Some(made)
 }
 
+/// A zone with its apex, and keys that sign for `example.`.
+#[derive(Drop)]
+pub(crate) struct Case {
+    pub(crate) apex: Name,
+    pub(crate) zone: SortedRecords,
+    pub(crate) keys: Vec<SigningKey<StandInKey>>,
+}
+
+/// The same of a name and lines.
+pub(crate) fn case_of(
+    alloc: Global,
+    apex: &str,
+    lines: &[&str],
+    key_lines: &[&str],
+) -> Option<Case> {
+    let apex = name(alloc, apex)?;
+    let zone = zone(alloc, lines)?;
+    let keys = keys(alloc, key_lines)?;
+    Some(Case { apex, zone, keys })
+}
+
 /// Whether two records are the same, in everything but the letters of their owners.
 pub(crate) fn is_same(found: &Record, want: &Record) -> bool {
     found.owner() == want.owner()
