@@ -24,11 +24,11 @@ def record(owner, rtype, data):
     return owner + number(rtype, 2) + number(1, 2) + number(3600, 4) + number(len(data), 2) + data
 
 
-def signature(rtype, labels, records, tag=TAG, good=True):
+def signature(rtype, labels, records, tag=TAG, good=True, zone=ZONE, key=KEY):
     """The data of a signature over a set in canonical form."""
     head = (number(rtype, 2) + bytes([13, labels]) + number(3600, 4) + number(1000, 4) + number(0, 4)
-            + number(tag, 2) + ZONE)
-    return head + (hashlib.sha256(KEY + head + b"".join(records)).digest() if good else bytes(32))
+            + number(tag, 2) + zone)
+    return head + (hashlib.sha256(key + head + b"".join(records)).digest() if good else bytes(32))
 
 
 def message(name, rtype, answers, additionals=()):
@@ -63,12 +63,13 @@ def long():
                    + [record(owner, 46, data) for data in signatures])
 
 
-def many_keys(count):
-    """The key set with so many more keys, which have signed nothing; owners are pointers."""
-    datas = [KEY] + [bytes.fromhex("01010308") + number(other, 3) for other in range(count)]
-    whole = [record(ZONE, 48, data) for data in sorted(datas)]
+def many_keys(count, zone=ZONE, key=KEY):
+    """The key set of a zone with so many more keys, which have signed nothing; owners are pointers."""
+    datas = [key] + [bytes.fromhex("01010308") + number(other, 3) for other in range(count)]
+    whole = [record(zone, 48, data) for data in sorted(datas)]
     answers = [record(b"\xc0\x0c", 48, data) for data in datas]
-    return message(ZONE, 48, answers + [record(b"\xc0\x0c", 46, signature(48, 1, whole))])
+    signed_by = signature(48, label_count(zone), whole, tag_of(key), True, zone, key)
+    return message(zone, 48, answers + [record(b"\xc0\x0c", 46, signed_by)])
 
 
 def many_groups(count):
@@ -127,12 +128,59 @@ def many_mailboxes(count):
                                         for index in range(count)])
 
 
-def write_script(path, octets, count, reply=None):
+def tag_of(key):
+    """The tag of a key (RFC 4034 B)."""
+    total = sum(octet << (8 if place % 2 == 0 else 0) for place, octet in enumerate(key))
+    return (total + (total >> 16)) & 0xFFFF
+
+
+# The zones below the anchor's, each below the one before, with their keys.
+BELOW = [(b"\x01b" + ZONE, bytes.fromhex("0101030d0304")),
+         (b"\x01c\x01b" + ZONE, bytes.fromhex("0101030d0506")),
+         (b"\x01d\x01c\x01b" + ZONE, bytes.fromhex("0101030d0708"))]
+
+
+def signed(owner, rtype, datas, zone, key):
+    """A set and its signature by a zone's key."""
+    own = [record(owner, rtype, data) for data in sorted(datas)]
+    return own + [record(owner, 46, signature(rtype, label_count(owner), own, tag_of(key), True, zone, key))]
+
+
+def zone_ds(index):
+    """The reply for the DS set of a zone below, which the zone above it has signed."""
+    zone, key = BELOW[index]
+    data = number(tag_of(key), 2) + bytes([13, 2]) + hashlib.sha256(zone + key).digest()
+    return message(zone, 43, signed(zone, 43, [data], *(BELOW[index - 1] if index > 0 else (ZONE, KEY))))
+
+
+def text_of(name):
+    return "".join(label.decode() + "." for label in labels_of(name))
+
+
+def replies_below(count=3):
+    """The replies for the anchor's keys, and for the DS sets and keys of so many zones below."""
+    replies = [("example.", "DNSKEY", keys())]
+    for index, (zone, key) in enumerate(BELOW[:count]):
+        replies += [(text_of(zone), "DS", zone_ds(index)), (text_of(zone), "DNSKEY", many_keys(0, zone, key))]
+    return replies
+
+
+def address(label, zone, key):
+    """A message of one address of a zone, and its signature."""
+    owner = bytes([len(label)]) + label + zone
+    return message(owner, 1, signed(owner, 1, [bytes([192, 0, 2, 1])], zone, key))
+
+
+def write_script(path, messages, count, replies=None, moments=False):
+    """So many messages, of the given ones in turn; where moments are asked for, each has its own, and begins without nodes."""
     with open(path, "w") as out:
         out.write("now 500\nanchor example. 3600 IN DNSKEY 257 3 13 AQI=\n")
-        out.write("reply example. DNSKEY %s\n" % (reply or keys()).hex())
-        for _ in range(count):
-            out.write("message %s\n" % octets.hex())
+        for name, rtype, octets in replies or [("example.", "DNSKEY", keys())]:
+            out.write("reply %s %s %s\n" % (name, rtype, octets.hex()))
+        for index in range(count):
+            if moments:
+                out.write("now 500\n")
+            out.write("message %s\n" % messages[index % len(messages)].hex())
 
 
 def cpu(words, source=os.devnull):
@@ -165,7 +213,7 @@ def outcomes(program, source):
 
 def measure(program, script, yard, name, octets, count, before):
     """Measures a script of so many messages; gives the time and the count."""
-    write_script(script, octets, count)
+    write_script(script, [octets], count)
     size = os.path.getsize(script)
     if outcomes(program, script) != count:
         sys.exit("not all messages are secure")
@@ -178,30 +226,71 @@ def measure(program, script, yard, name, octets, count, before):
     return time, count
 
 
+def asked(program, source):
+    """How many questions each message of a script asked, all of which are to be secure."""
+    with open(source, "rb") as stdin:
+        out = subprocess.run([program, "validate"], stdin=stdin, stdout=subprocess.PIPE, check=True).stdout
+    heads = [line for line in out.split(b"\n") if line[:1].isdigit()]
+    if not all(b' Secure - "" questions=' in line for line in heads):
+        sys.exit("not all messages are secure")
+    return [int(line.rsplit(b"=", 1)[1]) for line in heads]
+
+
+# A message three zones down may take so many times as long as one at the anchor: over nodes that are kept, and without any.
+KEPT_AIM, EMPTY_AIM = 3, 8
+
+
+def measure_zones(program, script, yard, count):
+    """Messages at the anchor and three zones down, in one moment and each in its own. Gives whether they keep to the aims."""
+    within = True
+    lowest = BELOW[-1]
+    for moments, aim, name in ((False, KEPT_AIM, "one moment"), (True, EMPTY_AIM, "a moment each")):
+        before = None
+        for place, zone, questions in (("at the anchor", (ZONE, KEY), 1), ("three zones down", lowest, 7)):
+            write_script(script, [address(b"www", *zone), address(b"mail", *zone)], count, replies_below(), moments)
+            if asked(program, script) != [questions] + [questions if moments else 0] * (count - 1):
+                sys.exit("%s, %s: other questions than %d for each that finds no nodes, else none" % (place, name, questions))
+            time, noise = cpu([program, "validate"], script)
+            times = "" if before is None else ", %.2f times one at the anchor, aim %d%s" % (
+                time / before, aim, "" if time <= aim * before else ", PASSED")
+            print("%s, %s, %d messages: %.3f s CPU (noise %.2f), %.1f us a message, %.2f of the yardstick%s" % (
+                place, name, count, time, noise, 1e6 * time / count, time / yard, times))
+            within = within and (before is None or time <= aim * before)
+            before = time
+    return within
+
+
 def hostile():
-    """Messages that are made to take memory, each with the reply of the key set and the state of its verdict."""
-    return (("601 good groups under 3001 keys", many_groups(601), many_keys(3000), b"Secure"),
-            ("a good set of 4000 at one long name", one_set(4000), keys(), b"Secure"),
-            ("3400 long names", many_names(3400), keys(), b"Bogus"),
-            ("a small message under a reply of 3400 long names", small(), many_names(3400), b"Bogus"),
-            ("a set of 4000 under a reply of 3400 long names", one_set(4000), many_names(3400), b"Bogus"),
-            ("3200 mailboxes at one long name", many_mailboxes(3200), keys(), b"Bogus"),
-            ("the same under a reply of these", many_mailboxes(3200), many_mailboxes(3200), b"Bogus"),
-            ("5400 types at one long name", many_types(5400), keys(), b"Bogus"))
+    """Messages that are made to take memory, each with its replies and the state of its verdict."""
+    def at_anchor(octets):
+        return [("example.", "DNSKEY", octets)]
+    below = address(b"www", *BELOW[0])
+    name = text_of(BELOW[0][0])
+    return (("601 good groups under 3001 keys", many_groups(601), at_anchor(many_keys(3000)), b"Secure"),
+            ("a good set of 4000 at one long name", one_set(4000), at_anchor(keys()), b"Secure"),
+            ("3400 long names", many_names(3400), at_anchor(keys()), b"Bogus"),
+            ("a small message under a reply of 3400 long names", small(), at_anchor(many_names(3400)), b"Bogus"),
+            ("a set of 4000 under a reply of 3400 long names", one_set(4000), at_anchor(many_names(3400)), b"Bogus"),
+            ("3200 mailboxes at one long name", many_mailboxes(3200), at_anchor(keys()), b"Bogus"),
+            ("the same under a reply of these", many_mailboxes(3200), at_anchor(many_mailboxes(3200)), b"Bogus"),
+            ("5400 types at one long name", many_types(5400), at_anchor(keys()), b"Bogus"),
+            ("a zone below with 3001 keys", below, replies_below(1)[:2] + [(name, "DNSKEY", many_keys(3000, *BELOW[0]))], b"Secure"),
+            ("a reply of 3400 long names for a DS set", below, replies_below(1)[:1] + [(name, "DS", many_names(3400))], b"Bogus"))
 
 
-def measure_hostile(program, script, name, octets, reply, state):
-    """One message under a reply: its memory against the bound. Gives whether it keeps to that."""
-    write_script(script, octets, 1, reply)
+def measure_hostile(program, script, name, octets, replies, state):
+    """One message under its replies: its memory against the bound. Gives whether it keeps to that."""
+    write_script(script, [octets], 1, replies)
     with open(script, "rb") as stdin:
         out = subprocess.run([program, "validate"], stdin=stdin, stdout=subprocess.PIPE, check=True).stdout
     if not out.startswith(b"0 " + state + b" "):
         sys.exit("hostile, %s: not %s" % (name, state.decode()))
     time, noise = cpu([program, "validate"], script)
     most = memory([program, "validate"], script)
-    bound = 16 * (len(octets) + len(reply)) + 4000000
+    replied = sum(len(reply) for _, _, reply in replies)
+    bound = 16 * (len(octets) + replied) + 4000000
     print("hostile, %s: %d and %d octets, %.3f s CPU (noise %.2f), %d octets of memory, bound %d%s" % (
-        name, len(octets), len(reply), time, noise, most, bound, "" if most <= bound else ", PASSED"))
+        name, len(octets), replied, time, noise, most, bound, "" if most <= bound else ", PASSED"))
     return most <= bound
 
 
@@ -219,8 +308,11 @@ def main(program):
             before = None
             for count in counts:
                 before = measure(program, script, yard, name, octets, count, before)
+        within = measure_zones(program, script, yard, 10000)
         if not all([measure_hostile(program, script, *case) for case in hostile()]):
             sys.exit("a hostile message takes more memory than the bound")
+        if not within:
+            sys.exit("a message three zones down takes more time than the aim")
 
 
 main(sys.argv[1])

@@ -1,5 +1,5 @@
-pub mod VerdictLaws
-pub mod OutcomeLaws
 pub mod AnswerLoop
+pub mod LineLaws
+pub mod OutcomeLaws
+pub mod SendingLaws
 pub mod Top
-pub mod PlainExample

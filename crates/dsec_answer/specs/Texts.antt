@@ -1,22 +1,22 @@
 -- What is written for an outcome: a line of its own, and a line for each link of what shows it.
 use Rattle.std.specs.Prelude.{ℕ, List, [], ◌∷◌, ◌++◌, codes, decimal, Option, Some, None, Ok, Err}
 use Rattle.std.specs.List.{flat_map}
-use Rattle.dsec_spec.specs.Sound.{Why}
+use Rattle.dsec_spec.specs.Chain.{Link}
 use Rattle.dsec_link.specs.LinkTexts.{link_line}
 use Rattle.dsec_cause.specs.Causes.{code_of, text_of}
 use Rattle.dsec_cause.specs.declared.cause.Cause.{Cause}
-use Rattle.dsec_group.specs.declared.state.ValidationState.{ValidationState}
-use Rattle.dsec_group.specs.declared.state.ValidationState.TheVariants.{Secure, Insecure, Bogus, Indeterminate}
-use Rattle.dsec_judge.specs.declared.error.Error.{Error}
-use Rattle.dsec_judge.specs.declared.error.Error.TheVariants.{FormError, ParseError, ShortMessage, NoMemory}
+use Rattle.dsec_nodes.specs.Judging.{Finding, is_shown, has_no_set, is_insecure, is_bogus, is_indeterminate, Judged}
+use Rattle.dsec_nodes.specs.Outcomes.{State, secure, insecure, bogus, indeterminate, Why, by_groups, by_cause, by_links, by_nothing}
+use Rattle.dsec_answer.specs.declared.outcome.Unjudged.{Unjudged}
+use Rattle.dsec_answer.specs.declared.outcome.Unjudged.TheVariants.{ShortMessage, FormError, ParseError}
 use Rattle.dsec_answer.specs.Told.{Outcome}
 
 -- the words of the security statuses (RFC 4033 5)
-abbrev pub state_text : ValidationState → List ℕ
-state_text Secure = codes "Secure"
-state_text Insecure = codes "Insecure"
-state_text Bogus = codes "Bogus"
-state_text Indeterminate = codes "Indeterminate"
+abbrev pub state_text : State → List ℕ
+state_text secure = codes "Secure"
+state_text insecure = codes "Insecure"
+state_text bogus = codes "Bogus"
+state_text indeterminate = codes "Indeterminate"
 
 -- a cause as its code and, in quotes, its text; `-` and no text where there is none (RFC 8914 4)
 abbrev pub cause_text : Option Cause → List ℕ
@@ -24,30 +24,50 @@ cause_text None = codes "- \"\""
 cause_text (Some cause) = decimal (code_of cause) ++ codes " \"" ++ text_of cause ++ codes "\""
 
 -- the front of a verdict's line: the message's index and the status
-unfoldable pub status_text : ℕ → ValidationState → List ℕ
+unfoldable pub status_text : ℕ → State → List ℕ
 status_text index state = decimal index ++ codes " " ++ state_text state ++ codes " "
 
 -- the line of a verdict, with its cause and the number of questions
-unfoldable pub verdict_line : ℕ → ValidationState → Option Cause → ℕ → List ℕ
+unfoldable pub verdict_line : ℕ → State → Option Cause → ℕ → List ℕ
 verdict_line index state ede questions = status_text index state ++ cause_text ede ++ codes " questions=" ++ decimal questions ++ 10 ∷ []
 
--- the names of the errors; want of memory is no outcome of a message
-abbrev pub error_text : Error → List ℕ
+-- the names of what a message has no verdict for
+abbrev pub error_text : Unjudged → List ℕ
+error_text ShortMessage = codes "ShortMessage"
 error_text FormError = codes "FormError"
 error_text ParseError = codes "ParseError"
-error_text ShortMessage = codes "ShortMessage"
-error_text NoMemory = codes "NoMemory"
 
--- the line of an error
-unfoldable pub error_line : ℕ → Error → List ℕ
-error_line index error = decimal index ++ codes " error:" ++ error_text error ++ 10 ∷ []
+-- the line of a message without a verdict
+unfoldable pub error_line : ℕ → Unjudged → List ℕ
+error_line index why = decimal index ++ codes " error:" ++ error_text why ++ 10 ∷ []
 
--- the lines of what shows a verdict, the anchor's link first
-abbrev pub why_lines : ℕ → Option Why → List ℕ
-why_lines index None = []
-why_lines index (Some why) = flat_map (λ link. link_line index link) why.links
+-- the links of a judged group that is shown: those to its zone, and its own set's; any other has none (RFC 4033 2, authentication chain)
+abbrev pub links_in : Finding → List Link
+links_in (is_shown links last signature) = links ++ last ∷ []
+links_in has_no_set = []
+links_in (is_insecure cause signed) = []
+links_in (is_bogus cause links) = []
+links_in is_indeterminate = []
+
+-- the lines of a judged group, the anchor's link first
+abbrev pub group_lines : ℕ → Judged → List ℕ
+group_lines index j = flat_map (λ link. link_line index link) (links_in j.finding)
+
+-- the lines of judged groups
+abbrev pub lines_by : ℕ → Why → List ℕ
+lines_by index (by_groups judged) = flat_map (λ j. group_lines index j) judged
+lines_by index (by_cause signed) = []
+lines_by index (by_links links) = []
+lines_by index by_nothing = []
+
+-- the lines of what shows a Secure outcome; any other has none
+abbrev pub why_lines : ℕ → State → Why → List ℕ
+why_lines index secure why = lines_by index why
+why_lines index insecure why = []
+why_lines index bogus why = []
+why_lines index indeterminate why = []
 
 -- what is written for an outcome
 abbrev pub outcome_text : ℕ → Outcome → List ℕ
-outcome_text index (Ok told) = verdict_line index told.state told.ede told.questions ++ why_lines index told.why
-outcome_text index (Err error) = error_line index error
+outcome_text index (Ok v) = verdict_line index v.outcome.state v.outcome.cause v.questions ++ why_lines index v.outcome.state v.outcome.why
+outcome_text index (Err why) = error_line index why

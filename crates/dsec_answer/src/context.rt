@@ -1,30 +1,29 @@
-//! Contexts: what messages are judged by.
+//! Contexts: what messages are judged by, and the nodes that are kept between them.
 
-ghost use Rattle.std.specs.Prelude.{◌≡◌, ◌≤◌, ◌∷◌, [], ⊤, Some, IfOk, IfSome};
-ghost use Rattle.std.specs.Option.{option_map};
-ghost use Rattle.dsec_spec.specs.Messages as messages;
-ghost use Rattle.dsec_wire.specs.declared.sections.Sections.{Sections};
-ghost use Rattle.dsec_wire.specs.MessageSections.{sections_of};
-ghost use Rattle.dsec_group.specs.declared.state.ValidationState.TheVariants.{Secure};
-ghost use Rattle.dsec_judge.specs.Judged.{JudgedAs, SoundIfSecure, key_reply, reason, risen_by, told_by, world_of};
-ghost use Rattle.dsec_judge.specs.PlainAnswers.{IsPlainAnswer};
-ghost use Rattle.dsec_answer.specs.Setting.{OkOrNoMemory, default_limits};
+ghost use Rattle.std.specs.Prelude.{◌≡◌, ◌≤◌, [], Some, IfOk, IfSome};
+ghost use Rattle.dsec_nodes.specs.SoundOutcomes.{IsJustified};
+ghost use Rattle.dsec_node.specs.Caches.{held_in};
+ghost use Rattle.dsec_node.specs.Configs.{default_settings};
+ghost use Rattle.dsec_serve.specs.Calls.{AgreesWith, IsCall, most_questions};
+ghost use Rattle.dsec_serve.specs.Outside.{replies_of, HoldsTable};
+ghost use Rattle.dsec_answer.specs.Setting.{world_at};
 
 use dsec_anchors::TrustAnchors;
-use dsec_crypto::{By, Verifier};
-use dsec_group::Limits;
-use dsec_judge::{Error, Verdict, judge};
+use dsec_crypto::Verifier;
+use dsec_group::NoMemo;
+use dsec_node::{Config, OwnedCaches};
 use dsec_outside::Upstream;
+use dsec_serve::{Error, Verdict, validate_in};
 use dsec_wire::Message;
 use std::alloc::Global;
 use std::marker::Model;
 
-/// Trust anchors and limits, by which messages are judged.
+/// Trust anchors and settings, by which messages are judged, and the nodes that are kept of what was found out.
 #[derive(Drop)]
 pub struct ValidationContext<V: Verifier> {
     anchors: TrustAnchors,
-    limits: Limits,
-    by: By<V>,
+    config: Config,
+    caches: OwnedCaches<V>,
 }
 
 impl<V: Verifier> Model for ValidationContext<V> {
@@ -32,30 +31,37 @@ impl<V: Verifier> Model for ValidationContext<V> {
 
     ghost Value = { Setting };
 
-    ghost view = { λ it. record { anchors = it.anchors; limits = it.limits } };
+    ghost view = { λ it. record { anchors = it.anchors; config = it.config; nodes = it.caches } };
 }
 
 impl<V: Verifier> ValidationContext<V> {
-    /// A context with these anchors and the default limits.
-    pub fn new(anchors: TrustAnchors) -> Self
-        ensures { result ≡ record { anchors = anchors; limits = default_limits } }
+    /// A context with these anchors and the default settings, which keeps no node yet.
+    pub fn new(alloc: Global, anchors: TrustAnchors) -> Self
+        ensures { result ≡ record { anchors = anchors; config = default_settings; nodes = [] } }
     {
-        Self::with_limits(anchors, Limits::default())
+        Self::with_config(alloc, anchors, Config::new())
     }
 
-    /// A context with these anchors and limits.
-    pub fn with_limits(anchors: TrustAnchors, limits: Limits) -> Self
-        ensures { result ≡ record { anchors = anchors; limits = limits } }
+    /// A context with these anchors and settings, which keeps no node yet.
+    pub fn with_config(alloc: Global, anchors: TrustAnchors, config: Config) -> Self
+        ensures { result ≡ record { anchors = anchors; config = config; nodes = [] } }
     {
         ValidationContext {
             anchors,
-            limits,
-            by: By::new(),
+            config,
+            caches: OwnedCaches::new(alloc),
         }
     }
 
-    /// The verdict on a message at a moment, in seconds since 1970 (RFC 4033 5, RFC 4035 5). The upstream is asked for the
-    /// key sets of anchors.
+    /// Forgets all nodes.
+    pub fn forget(&mut self)
+        ensures { self.new ≡ record { anchors = self.old.anchors; config = self.old.config; nodes = [] } }
+    {
+        self.caches.clear();
+    }
+
+    /// The verdict on a message at a moment, in seconds since 1970 (RFC 4033 5, RFC 4035 5). The upstream is asked for what the context
+    /// doesn't keep.
     pub fn validate_msg<U: Upstream>(
         &mut self,
         alloc: Global,
@@ -63,20 +69,28 @@ impl<V: Verifier> ValidationContext<V> {
         upstream: &mut U,
         now: u64,
     ) -> Result<Verdict<V>, Error>
-        ensures judged { JudgedAs (U.table upstream.old) (world_of V.accepts self.old.anchors self.old.limits now) message.old
-            (λ verdict. told_by verdict.state verdict.ede (option_map (λ why. reason why.group why.shown) verdict.why) verdict.questions) result }
-        ensures sound { IfOk result (λ verdict. SoundIfSecure V.accepts self.old.anchors now message.old
-            (told_by verdict.state verdict.ede (option_map (λ why. reason why.group why.shown) verdict.why) verdict.questions)) }
-        ensures complete { IfSome (U.table upstream.old) (λ table. IsPlainAnswer (world_of V.accepts self.old.anchors self.old.limits now (key_reply table)) message.old
-            → OkOrNoMemory (λ verdict. verdict.state ≡ Secure) result) }
-        ensures readable { (sections : Sections) (question : messages.Question) → sections_of message.old ≡ Some sections → sections.question ≡ question ∷ []
-            → OkOrNoMemory (λ _. ⊤) result }
-        ensures counted { IfOk result (λ verdict. U.asked upstream.new ≡ risen_by (U.asked upstream.old) verdict.questions) }
-        ensures later { U.faults upstream.old ≤ U.faults upstream.new }
+        ensures call { IsCall (world_at V.accepts self.old.anchors self.old.config now) self.old.config.max_cname_dname message.old (U.table upstream.old)
+            (record { held = Some (held_in self.old.nodes); asked = U.asked upstream.old; faults = U.faults upstream.old })
+            (record { held = Some (held_in self.new.nodes); asked = U.asked upstream.new; faults = U.faults upstream.new }) result }
+        ensures sound { IfOk result (λ v. IsJustified (world_at V.accepts self.old.anchors self.old.config now) self.old.config.max_cname_dname message.old v.outcome v.outcome.state) }
+        ensures told { IfSome (U.table upstream.old) (λ t. HoldsTable (world_at V.accepts self.old.anchors self.old.config now) (replies_of t) (Some (held_in self.old.nodes))
+            → AgreesWith (world_at V.accepts self.old.anchors self.old.config now) self.old.config.max_cname_dname message.old
+            (record { held = Some (held_in self.new.nodes); asked = U.asked upstream.new; faults = U.faults upstream.new }) result (replies_of t)) }
+        ensures few { IfOk result (λ v. v.questions ≤ most_questions self.old.config.max_cname_dname message.old) }
         ensures same_table { U.table upstream.new ≡ U.table upstream.old }
         ensures same_message { message.new ≡ message.old }
-        ensures same_context { self.new ≡ self.old }
+        ensures same_anchors { self.new.anchors ≡ self.old.anchors }
+        ensures same_config { self.new.config ≡ self.old.config }
     {
-        judge(alloc, &self.anchors, &self.limits, message, upstream, now)
+        validate_in(
+            alloc,
+            &self.anchors,
+            &self.config,
+            &mut self.caches,
+            &mut NoMemo,
+            message,
+            upstream,
+            now,
+        )
     }
 }

@@ -1,81 +1,102 @@
 //! Messages judged one after the other, and the texts of their outcomes sent.
 
-ghost use Rattle.std.specs.Prelude.{◌≡◌, ◌≤◌, ◌++◌, IfOk, OnOk, IsErrOf};
+ghost use Rattle.std.specs.Prelude.{◌≡◌, ◌≤◌, ◌++◌, [], ℕ, List, Some, IfOk, OnOk, IsErrOf};
 ghost use Rattle.std.specs.Io.KnownBytes.{Appends};
 ghost use Rattle.dsec_spec.specs.Outside.{Rose, SentFront};
-ghost use Rattle.dsec_answer.specs.Texts.{outcome_text};
+ghost use Rattle.dsec_node.specs.Caches.{held_in};
+ghost use Rattle.dsec_node.specs.Configs.{default_settings};
 ghost use Rattle.dsec_outside.specs.Faults.{CountsWrites};
-ghost use Rattle.dsec_answer.specs.Outcomes.{answer_text, outcome_of};
+ghost use Rattle.dsec_serve.specs.Outside.{replies_of, HoldsTable};
+ghost use Rattle.dsec_answer.specs.Outcomes.{IsOutcome, IsText, world_of_script};
+ghost use Rattle.dsec_answer.specs.Texts.{outcome_text};
+ghost use Rattle.dsec_answer.specs.Told as outcomes;
 
 use crate::context::ValidationContext;
-use crate::outcome::Outcome;
+use crate::outcome::{Outcome, Unjudged};
 use crate::texts::push_text;
 use dsec_crypto::Verifier;
-use dsec_judge::Error;
 use dsec_name::NoMemory;
 use dsec_outside::{Halt, Sink, TableUpstream, send, send_block};
 use dsec_script::Item;
+use dsec_serve::Error;
 use dsec_wire::Message;
 use std::alloc::Global;
 
-/// What comes of a message at its moment.
+/// What comes of a message at its moment, over nodes of the table at this moment.
 fn judge_one<V: Verifier>(
     alloc: Global,
     context: &mut ValidationContext<V>,
     upstream: &mut TableUpstream,
-    item: Item,
+    item: &Item,
 ) -> Result<Outcome<V>, NoMemory>
-    ensures exact { IfOk result (λ outcome. outcome ≡ outcome_of V.accepts context.old.anchors context.old.limits upstream.old.replies item.seconds item.octets) }
-    ensures same_context { context.new ≡ context.old }
+    requires config { context.old.config ≡ default_settings }
+    requires holds { HoldsTable (world_of_script V.accepts context.old.anchors item.now.seconds) (replies_of upstream.old.replies) (Some (held_in context.old.nodes)) }
+    ensures outcome { IfOk result (λ outcome. IsOutcome V.accepts context.old.anchors upstream.old.replies item.now outcome) }
+    ensures holds { HoldsTable (world_of_script V.accepts context.old.anchors item.now.seconds) (replies_of upstream.old.replies) (Some (held_in context.new.nodes)) }
+    ensures same_anchors { context.new.anchors ≡ context.old.anchors }
+    ensures same_config { context.new.config ≡ context.old.config }
     ensures same_table { upstream.new.replies ≡ upstream.old.replies }
 {
-    let Ok(mut message) = Message::from_octets(item.octets.into_vec()) else {
-        return Ok(Outcome::refused(Error::ShortMessage));
+    let octets = item.octets.as_slice().to_vec(alloc)?;
+    let Ok(mut message) = Message::from_octets(octets) else {
+        return Ok(Outcome::refused(Unjudged::ShortMessage));
     };
     match context.validate_msg(alloc, &mut message, upstream, item.seconds) {
         Ok(verdict) => Ok(Outcome::judged(verdict)),
+        Err(Error::FormError) => Ok(Outcome::refused(Unjudged::FormError)),
+        Err(Error::ParseError) => Ok(Outcome::refused(Unjudged::ParseError)),
         Err(Error::NoMemory) => Err(NoMemory),
-        Err(Error::FormError) => Ok(Outcome::refused(Error::FormError)),
-        Err(Error::ParseError) => Ok(Outcome::refused(Error::ParseError)),
-        Err(Error::ShortMessage) => Ok(Outcome::refused(Error::ShortMessage)),
     }
 }
 
-/// Adds the text of what comes of a message at its moment.
+/// Adds the text of what comes of a message at its moment. Nodes of another moment are forgotten before.
 fn push_one<V: Verifier>(
     alloc: Global,
     context: &mut ValidationContext<V>,
     upstream: &mut TableUpstream,
+    moment: u64,
     index: u64,
-    item: Item,
+    item: &Item,
     out: &mut Vec<u8>,
 ) -> Result<(), NoMemory>
-    ensures exact { OnOk result (out.new.items ≡ out.old.items ++ outcome_text index (outcome_of V.accepts context.old.anchors context.old.limits upstream.old.replies item.seconds item.octets)) }
-    ensures same_context { context.new ≡ context.old }
+    requires config { context.old.config ≡ default_settings }
+    requires holds { HoldsTable (world_of_script V.accepts context.old.anchors moment) (replies_of upstream.old.replies) (Some (held_in context.old.nodes)) }
+    ensures text { OnOk result ((outcome : outcomes.Outcome) × IsOutcome V.accepts context.old.anchors upstream.old.replies item.now outcome
+        × (out.new.items ≡ out.old.items ++ outcome_text index outcome)) }
+    ensures holds { HoldsTable (world_of_script V.accepts context.old.anchors item.now.seconds) (replies_of upstream.old.replies) (Some (held_in context.new.nodes)) }
+    ensures same_anchors { context.new.anchors ≡ context.old.anchors }
+    ensures same_config { context.new.config ≡ context.old.config }
     ensures same_table { upstream.new.replies ≡ upstream.old.replies }
 {
+    if item.opens || item.seconds != moment {
+        context.forget();
+    }
     let outcome = judge_one(alloc, context, upstream, item)?;
-    push_text(out, index, &outcome)
+    push_text(alloc, out, index, &outcome)
 }
 
-/// Judges messages and sends the texts of their outcomes, in blocks.
+/// Judges messages and sends the texts of their outcomes, in blocks. The context keeps no node yet.
 pub fn judge_all<V: Verifier, K: Sink>(
     alloc: Global,
     context: &mut ValidationContext<V>,
     upstream: &mut TableUpstream,
-    items: Vec<Item>,
+    items: &[Item],
     sink: &mut K,
 ) -> Result<(), Halt>
+    requires config { context.old.config ≡ default_settings }
+    requires fresh { context.old.nodes ≡ [] }
     ensures later { K.faults sink.old ≤ K.faults sink.new }
     ensures write { IsErrOf result Halt.Write → Rose (K.faults sink.old) (K.faults sink.new) }
     ensures counts { CountsWrites (K.faults sink.old) (K.faults sink.new) result }
-    ensures sent { OnOk result (Appends (K.written sink.old) (K.written sink.new) (answer_text V.accepts context.old.anchors context.old.limits upstream.old.replies items.items)) }
-    ensures front { SentFront (K.written sink.old) (K.written sink.new) (answer_text V.accepts context.old.anchors context.old.limits upstream.old.replies items.items) }
+    ensures sent { OnOk result ((text : List ℕ) × IsText V.accepts context.old.anchors upstream.old.replies items.now text × Appends (K.written sink.old) (K.written sink.new) text) }
+    ensures front { (text : List ℕ) × IsText V.accepts context.old.anchors upstream.old.replies items.now text × SentFront (K.written sink.old) (K.written sink.new) text }
 {
     let mut gathered = Vec::new(alloc);
     let mut index = 0u64;
+    let mut moment = 0u64;
     for item in items {
-        push_one(alloc, context, upstream, index, item, &mut gathered)?;
+        push_one(alloc, context, upstream, moment, index, item, &mut gathered)?;
+        moment = item.seconds;
         send_block(sink, &mut gathered)?;
         index += 1;
     }

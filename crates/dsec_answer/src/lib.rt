@@ -11,6 +11,7 @@ mod validating;
 
 pub use command::{run, run_by};
 pub use context::ValidationContext;
-pub use outcome::Outcome;
+pub use dsec_serve::{Error, Verdict, validate_in};
+pub use outcome::{Outcome, Unjudged};
 pub use texts::text;
 pub use validating::validate;

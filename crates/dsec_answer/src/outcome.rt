@@ -1,54 +1,61 @@
 //! What comes of a message.
 
 ghost use Rattle.std.specs.Prelude.{◌≡◌, Ok, Err};
-ghost use Rattle.std.specs.Option.{option_map};
-ghost use Rattle.dsec_judge.specs.Judged.{reason, told_by};
 ghost use Rattle.dsec_answer.specs.Told as outcomes;
 
 use dsec_crypto::Verifier;
-use dsec_judge::{Error, Verdict};
+use dsec_serve::Verdict;
 use std::marker::Model;
+
+/// Why a message has no verdict.
+#[derive(Clone, Copy, Debug, PartialEq, Eq)]
+pub enum Unjudged {
+    /// It has fewer octets than a header (RFC 1035 4.1.1).
+    ShortMessage,
+    /// There isn't one question (RFC 1035 4.1.2).
+    FormError,
+    /// A question, or a record of the answer or authority section, can't be read (RFC 1035 4.1).
+    ParseError,
+}
 
 /// What came of a message: a verdict, or why there is none.
 #[derive(Drop)]
 pub struct Outcome<V: Verifier> {
-    answer: Result<Verdict<V>, Error>,
+    answer: Result<Verdict<V>, Unjudged>,
 }
 
 impl<V: Verifier> Model for Outcome<V> {
-    ghost use Rattle.std.specs.Option.{option_map};
-    ghost use Rattle.dsec_judge.specs.Judged.{reason, told_by};
     ghost use Rattle.dsec_answer.specs.Told as outcomes;
 
     ghost Value = { outcomes.Outcome };
 
-    ghost view = { λ it. outcomes.told_as (λ verdict. told_by verdict.state verdict.ede (option_map (λ why. reason why.group why.shown) verdict.why) verdict.questions) it.answer };
+    ghost view = { λ it. it.answer };
 }
 
 impl<V: Verifier> Outcome<V> {
     /// A verdict as the outcome.
     pub fn judged(verdict: Verdict<V>) -> Outcome<V>
-        ensures { result ≡ Ok (told_by verdict.state verdict.ede (option_map (λ why. reason why.group why.shown) verdict.why) verdict.questions) }
+        ensures { result ≡ Ok verdict }
     {
         Outcome {
             answer: Ok(verdict),
         }
     }
 
-    /// An error as the outcome.
-    pub fn refused(error: Error) -> Outcome<V>
-        ensures { result ≡ Err error }
+    /// A message without a verdict.
+    pub fn refused(why: Unjudged) -> Outcome<V>
+        ensures { result ≡ Err why }
     {
-        Outcome { answer: Err(error) }
+        Outcome { answer: Err(why) }
     }
 
     /// The verdict, or why there is none.
-    pub fn as_result(&self) -> Result<&Verdict<V>, Error>
-        ensures { self.now ≡ outcomes.told_as (λ verdict. told_by verdict.now.state verdict.now.ede (option_map (λ why. reason why.group why.shown) verdict.now.why) verdict.now.questions) result }
+    pub fn as_result(&self) -> Result<&Verdict<V>, Unjudged>
+        ensures { self.now ≡ outcomes.told_as (λ verdict. verdict.now) result }
     {
         match &self.answer {
             Ok(verdict) => Ok(verdict),
-            Err(error) => Err(*error),
+            Err(why) => Err(*why),
         }
     }
 }

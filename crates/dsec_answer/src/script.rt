@@ -1,12 +1,12 @@
 //! Scripts judged, or the first refused line of one named.
 
-ghost use Rattle.std.specs.Prelude.{◌≡◌, ◌≤◌, ◌⊎◌, IfOk, OnOk, IsErrOf};
+ghost use Rattle.std.specs.Prelude.{◌≡◌, ◌≤◌, ◌⊎◌, ℕ, List, IfOk, OnOk, IsErrOf};
 ghost use Rattle.std.specs.Io.KnownBytes.{Appends};
 ghost use Rattle.dsec_spec.specs.Outside.{Rose, SentFront};
 ghost use Rattle.dsec_outside.specs.Faults.{CountsWrites};
 ghost use Rattle.dsec_outside.specs.Statuses.{counted_at};
 ghost use Rattle.dsec_answer.specs.Headline.{Answered, RefusedAt, SentFor};
-ghost use Rattle.dsec_answer.specs.Outcomes.{script_text};
+ghost use Rattle.dsec_answer.specs.Outcomes.{IsAnswer};
 ghost use Rattle.dsec_answer.specs.Words.{refused_text, word_text};
 ghost use Rattle.dsec_script.specs.Place.{wants_memory};
 ghost use Rattle.dsec_script.specs.Script.{script_of};
@@ -30,18 +30,17 @@ fn judge_script<V: Verifier, K: Sink>(
     ensures later { K.faults sink.old ≤ K.faults sink.new }
     ensures write { IsErrOf result Halt.Write → Rose (K.faults sink.old) (K.faults sink.new) }
     ensures counts { CountsWrites (K.faults sink.old) (K.faults sink.new) result }
-    ensures sent { OnOk result (Appends (K.written sink.old) (K.written sink.new) (script_text V.accepts script)) }
-    ensures front { SentFront (K.written sink.old) (K.written sink.new) (script_text V.accepts script) }
+    ensures sent { OnOk result ((text : List ℕ) × IsAnswer V.accepts script text × Appends (K.written sink.old) (K.written sink.new) text) }
+    ensures front { (text : List ℕ) × IsAnswer V.accepts script text × SentFront (K.written sink.old) (K.written sink.new) text }
 {
-    let mut context = ValidationContext::<V>::new(TrustAnchors::from_vec(
-        script.anchors.into_vec(),
-    ));
+    let anchors = TrustAnchors::from_vec(script.anchors.into_vec());
+    let mut context = ValidationContext::<V>::new(alloc, anchors);
     let mut upstream = TableUpstream::new(script.replies);
     judge_all(
         alloc,
         &mut context,
         &mut upstream,
-        script.items.into_vec(),
+        script.items.as_slice(),
         sink,
     )
 }

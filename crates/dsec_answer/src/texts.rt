@@ -1,19 +1,19 @@
 //! What is written for an outcome.
 
-ghost use Rattle.std.specs.Prelude.{◌≡◌, ◌++◌, IfOk, OnOk, Ok};
+ghost use Rattle.std.specs.Prelude.{◌≡◌, ◌++◌, ◌∷◌, [], IfOk, OnOk, Ok};
 ghost use Rattle.std.specs.List.{flat_map};
-ghost use Rattle.std.specs.Option.{option_map};
+ghost use Rattle.dsec_found.specs.Outcomes.{state_view, why_view};
 ghost use Rattle.dsec_link.specs.LinkTexts.{link_line};
-ghost use Rattle.dsec_answer.specs.Texts.{cause_text, error_line, error_text, outcome_text, state_text, status_text, verdict_line, why_lines};
-ghost use Rattle.dsec_judge.specs.Judged.{reason, told_by};
+ghost use Rattle.dsec_answer.specs.Texts.{cause_text, error_line, error_text, group_lines, lines_by, outcome_text, state_text, status_text, verdict_line, why_lines};
 
-use crate::outcome::Outcome;
+use crate::outcome::{Outcome, Unjudged};
 use dsec_cause::Cause;
 use dsec_crypto::Verifier;
+use dsec_found::{JudgedGroup, Why};
 use dsec_group::ValidationState;
-use dsec_judge::{Error, Verdict, Why};
 use dsec_link::{Link, push_link};
 use dsec_name::NoMemory;
+use dsec_serve::Verdict;
 use dsec_word::push_number;
 use std::alloc::Global;
 
@@ -30,12 +30,13 @@ pub fn text<V: Verifier>(
     ensures { IfOk result (λ text. text.items ≡ outcome_text index outcome.now) }
 {
     let mut out = Vec::with_capacity(alloc, USUAL_TEXT)?;
-    push_text(&mut out, index, outcome)?;
+    push_text(alloc, &mut out, index, outcome)?;
     Ok(out)
 }
 
 /// Adds what is written for the outcome of the message of an index.
 pub(crate) fn push_text<V: Verifier>(
+    alloc: Global,
     out: &mut Vec<u8>,
     index: u64,
     outcome: &Outcome<V>,
@@ -43,21 +44,23 @@ pub(crate) fn push_text<V: Verifier>(
     ensures { OnOk result (out.new.items ≡ out.old.items ++ outcome_text index outcome.now) }
 {
     match outcome.as_result() {
-        Ok(verdict) => push_judged(out, index, verdict),
-        Err(error) => push_error(out, index, error),
+        Ok(verdict) => push_judged(alloc, out, index, verdict),
+        Err(why) => push_error(out, index, why),
     }
 }
 
 /// Adds what is written for a verdict.
 fn push_judged<V: Verifier>(
+    alloc: Global,
     out: &mut Vec<u8>,
     index: u64,
     verdict: &Verdict<V>,
 ) -> Result<(), NoMemory>
-    ensures { OnOk result (out.new.items ≡ out.old.items ++ outcome_text index (Ok (told_by verdict.now.state verdict.now.ede (option_map (λ why. reason why.group why.shown) verdict.now.why) verdict.now.questions))) }
+    ensures { OnOk result (out.new.items ≡ out.old.items ++ outcome_text index (Ok verdict.now)) }
 {
-    push_verdict(out, index, verdict.state, verdict.ede, verdict.questions)?;
-    push_why(out, index, &verdict.why)
+    let outcome = verdict.outcome();
+    push_verdict(out, index, outcome.state(), outcome.cause(), verdict.questions())?;
+    push_why(alloc, out, index, outcome.state(), outcome.why())
 }
 
 /// Adds the line of a verdict.
@@ -67,14 +70,14 @@ fn push_verdict(
     index: u64,
     state: ValidationState,
     ede: Option<Cause>,
-    questions: usize,
+    questions: u32,
 ) -> Result<(), NoMemory>
-    ensures { OnOk result (out.new.items ≡ out.old.items ++ verdict_line index state ede questions) }
+    ensures { OnOk result (out.new.items ≡ out.old.items ++ verdict_line index (state_view state) ede questions) }
 {
     push_status(out, index, state)?;
     push_cause(out, ede)?;
     out.extend_from_slice(b" questions=")?;
-    push_number(out, questions as u64)?;
+    push_number(out, u64::from(questions))?;
     out.push(b'\n')?;
     Ok(())
 }
@@ -82,7 +85,7 @@ fn push_verdict(
 /// Adds a message's index and status.
 #[tactic(auto, unfolding(crate::specs::Texts::status_text))]
 fn push_status(out: &mut Vec<u8>, index: u64, state: ValidationState) -> Result<(), NoMemory>
-    ensures { OnOk result (out.new.items ≡ out.old.items ++ status_text index state) }
+    ensures { OnOk result (out.new.items ≡ out.old.items ++ status_text index (state_view state)) }
 {
     push_number(out, index)?;
     out.extend_from_slice(b" ")?;
@@ -93,7 +96,7 @@ fn push_status(out: &mut Vec<u8>, index: u64, state: ValidationState) -> Result<
 
 /// The word of a security status.
 fn state_word(state: ValidationState) -> &'static str
-    ensures { result.now ≡ state_text state }
+    ensures { result.now ≡ state_text (state_view state) }
 {
     match state {
         ValidationState::Secure => "Secure",
@@ -118,18 +121,83 @@ fn push_cause(out: &mut Vec<u8>, ede: Option<Cause>) -> Result<(), NoMemory>
     Ok(())
 }
 
-/// Adds the lines of what shows a verdict, where something does.
+/// Adds the lines of what shows a Secure outcome.
 fn push_why<V: Verifier>(
+    alloc: Global,
     out: &mut Vec<u8>,
     index: u64,
-    why: &Option<Why<V>>,
+    state: ValidationState,
+    why: &Why<V>,
 ) -> Result<(), NoMemory>
-    ensures { OnOk result (out.new.items ≡ out.old.items ++ why_lines index (option_map (λ why. reason why.group why.shown) why.now)) }
+    ensures { OnOk result (out.new.items ≡ out.old.items ++ why_lines index (state_view state) (why_view why.now)) }
+{
+    match state {
+        ValidationState::Secure => push_reason(alloc, out, index, why),
+        ValidationState::Insecure => Ok(()),
+        ValidationState::Bogus => Ok(()),
+        ValidationState::Indeterminate => Ok(()),
+    }
+}
+
+/// Adds the lines of judged groups, if it is they.
+fn push_reason<V: Verifier>(
+    alloc: Global,
+    out: &mut Vec<u8>,
+    index: u64,
+    why: &Why<V>,
+) -> Result<(), NoMemory>
+    ensures { OnOk result (out.new.items ≡ out.old.items ++ lines_by index (why_view why.now)) }
 {
     match why {
-        Some(why) => push_links(out, index, why.shown.links().as_slice()),
-        None => Ok(()),
+        Why::ByGroups(judged) => push_groups(alloc, out, index, judged),
+        Why::ByCause(_) => Ok(()),
+        Why::ByLinks(_) => Ok(()),
+        Why::ByNothing => Ok(()),
     }
+}
+
+/// Adds the lines of judged groups.
+fn push_groups<V: Verifier>(
+    alloc: Global,
+    out: &mut Vec<u8>,
+    index: u64,
+    judged: &[JudgedGroup<V>],
+) -> Result<(), NoMemory>
+    ensures { OnOk result (out.new.items ≡ out.old.items ++ flat_map (λ j. group_lines index j) judged.now) }
+{
+    for one in judged {
+        push_group(alloc, out, index, one)?;
+    }
+    Ok(())
+}
+
+/// Adds the lines of a judged group, if it is shown: those of its zone's links, and of its own.
+fn push_group<V: Verifier>(
+    alloc: Global,
+    out: &mut Vec<u8>,
+    index: u64,
+    judged: &JudgedGroup<V>,
+) -> Result<(), NoMemory>
+    ensures { OnOk result (out.new.items ≡ out.old.items ++ group_lines index judged.now) }
+{
+    let last = judged.last_link(alloc)?;
+    match (judged.links(), last) {
+        (Some(links), Some(last)) => push_shown(out, index, links.as_slice(), &last),
+        _ => Ok(()),
+    }
+}
+
+/// Adds the lines of links, and of one more.
+fn push_shown(
+    out: &mut Vec<u8>,
+    index: u64,
+    links: &[Link],
+    last: &Link,
+) -> Result<(), NoMemory>
+    ensures { OnOk result (out.new.items ≡ out.old.items ++ flat_map (λ link. link_line index link) (links.now ++ last.now ∷ [])) }
+{
+    push_links(out, index, links)?;
+    push_link(out, index, last)
 }
 
 /// Adds the lines of links.
@@ -142,26 +210,25 @@ fn push_links(out: &mut Vec<u8>, index: u64, links: &[Link]) -> Result<(), NoMem
     Ok(())
 }
 
-/// Adds the line of an error.
+/// Adds the line of a message without a verdict.
 #[tactic(auto, unfolding(crate::specs::Texts::error_line))]
-fn push_error(out: &mut Vec<u8>, index: u64, error: Error) -> Result<(), NoMemory>
-    ensures { OnOk result (out.new.items ≡ out.old.items ++ error_line index error) }
+fn push_error(out: &mut Vec<u8>, index: u64, why: Unjudged) -> Result<(), NoMemory>
+    ensures { OnOk result (out.new.items ≡ out.old.items ++ error_line index why) }
 {
     push_number(out, index)?;
     out.extend_from_slice(b" error:")?;
-    out.extend_from_slice(error_name(error).as_bytes())?;
+    out.extend_from_slice(error_name(why).as_bytes())?;
     out.push(b'\n')?;
     Ok(())
 }
 
-/// The name of an error.
-fn error_name(error: Error) -> &'static str
-    ensures { result.now ≡ error_text error }
+/// The name of why a message has no verdict.
+fn error_name(why: Unjudged) -> &'static str
+    ensures { result.now ≡ error_text why }
 {
-    match error {
-        Error::FormError => "FormError",
-        Error::ParseError => "ParseError",
-        Error::ShortMessage => "ShortMessage",
-        Error::NoMemory => "NoMemory",
+    match why {
+        Unjudged::FormError => "FormError",
+        Unjudged::ParseError => "ParseError",
+        Unjudged::ShortMessage => "ShortMessage",
     }
 }

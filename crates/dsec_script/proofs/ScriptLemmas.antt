@@ -1,5 +1,5 @@
 -- What a script's lines say, put behind what was read.
-use Rattle.std.proofs.Common.{◌≡◌, ◌+◌, ℕ, List, [], ◌∷◌, ◌++◌, Result, Ok, Err, refl, sym, ap, ◌∙◌, append_assoc, append-nil, subst, ◌⊎◌, ⊎_elim}
+use Rattle.std.proofs.Common.{◌≡◌, ◌+◌, ℕ, List, [], ◌∷◌, ◌++◌, Result, Ok, Err, refl, sym, ap, ◌∙◌, append_assoc, append-nil, subst, ◌⊎◌, inl, inr}
 use Rattle.std.specs.Bool.{OnFalse}
 use Rattle.std.specs.List.{fold}
 use Rattle.dsec_spec.specs.Outside.{with_entry}
@@ -90,11 +90,12 @@ ends_early front n place rest all e none begins is inv =
     subst (λ (e : ScriptError). OnFalse (wants_memory e) (all ≡ Err e)) (sym is) (ends front n place rest all none inv ∙ ap (λ (p : Place). joined front (at_end n p)) begins)
 
 -- the end after `now`
-pub ends_late : (front : Script) (n : ℕ) (place : Place) → ((seconds : ℕ) × (place ≡ places.Head seconds)) ⊎ ((seconds : ℕ) × (place ≡ places.Body seconds)) → joined front (at_end n place) ≡ Ok front
-ends_late front n place seen = ⊎_elim
-    (λ h. ap (λ (p : Place). joined front (at_end n p)) h.1 ∙ whole front)
-    (λ h. ap (λ (p : Place). joined front (at_end n p)) h.1 ∙ whole front)
-    seen
+pub ends_late : (front : Script) (n : ℕ) (place : Place) → ((seconds : ℕ) × (place ≡ places.Head seconds)) ⊎ (((seconds : ℕ) × (place ≡ places.Turn seconds)) ⊎ ((seconds : ℕ) × (place ≡ places.Body seconds))) → joined front (at_end n place) ≡ Ok front
+ends_late front n place seen = elim seen [
+  | inl h ↦ ap (λ (p : Place). joined front (at_end n p)) h.1 ∙ whole front
+  | inr (inl h) ↦ ap (λ (p : Place). joined front (at_end n p)) h.1 ∙ whole front
+  | inr (inr h) ↦ ap (λ (p : Place). joined front (at_end n p)) h.1 ∙ whole front
+]
 
 -- a line that says something, by what is kept after it
 pub goes_on_with : (front added : Script) (n : ℕ) (place next : Place) (said : Line) (rest line following : List ℕ) (all : Result Script ScriptError)

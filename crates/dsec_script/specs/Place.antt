@@ -27,12 +27,15 @@ abbrev pub fits : Keyword → Place → Bool
 fits keywords.Now place = true
 fits keywords.Anchor places.Start = false
 fits keywords.Anchor (places.Head seconds) = true
+fits keywords.Anchor (places.Turn seconds) = false
 fits keywords.Anchor (places.Body seconds) = false
 fits keywords.Reply places.Start = false
 fits keywords.Reply (places.Head seconds) = true
+fits keywords.Reply (places.Turn seconds) = false
 fits keywords.Reply (places.Body seconds) = false
 fits keywords.Message places.Start = false
 fits keywords.Message (places.Head seconds) = true
+fits keywords.Message (places.Turn seconds) = true
 fits keywords.Message (places.Body seconds) = true
 
 -- the word for a line that is outside the grammar
@@ -72,16 +75,18 @@ is_comment (octet ∷ line) = octet == 35
 abbrev pub at_line : ℕ → Place → List ℕ → Result Line ScriptError
 at_line n place line = if is_comment line then Ok lines.Passed else at_word n place (first_word_of line)
 
--- after `now`: the first one opens the head, a later one the body
+-- after `now`: the first one opens the head, each later one a turn
 abbrev pub after_now : Place → ℕ → Place
 after_now places.Start seconds = places.Head seconds
-after_now (places.Head before) seconds = places.Body seconds
-after_now (places.Body before) seconds = places.Body seconds
+after_now (places.Head before) seconds = places.Turn seconds
+after_now (places.Turn before) seconds = places.Turn seconds
+after_now (places.Body before) seconds = places.Turn seconds
 
 -- after a message
 abbrev pub after_message : Place → Place
 after_message places.Start = places.Start
 after_message (places.Head seconds) = places.Body seconds
+after_message (places.Turn seconds) = places.Body seconds
 after_message (places.Body seconds) = places.Body seconds
 
 -- the place after a line
@@ -96,4 +101,12 @@ after place (lines.Message octets) = after_message place
 abbrev pub moment : Place → ℕ
 moment places.Start = 0
 moment (places.Head seconds) = seconds
+moment (places.Turn seconds) = seconds
 moment (places.Body seconds) = seconds
+
+-- whether a message here is the first one after a `now`
+abbrev pub opens : Place → Bool
+opens places.Start = false
+opens (places.Head seconds) = true
+opens (places.Turn seconds) = true
+opens (places.Body seconds) = false

@@ -11,7 +11,7 @@ use Rattle.dsec_script.specs.declared.place.Place.{Place}
 use Rattle.dsec_script.specs.declared.place.Place.TheVariants as places
 use Rattle.dsec_script.specs.declared.script.Parts.{Parts}
 use Rattle.dsec_script.specs.declared.script.Script.{Script}
-use Rattle.dsec_script.specs.Place.{after, at_line, moment, refused}
+use Rattle.dsec_script.specs.Place.{after, at_line, moment, opens, refused}
 use Rattle.dsec_script.specs.Text.{lines_of}
 
 -- what comes of one answer goes on; a refusal stays
@@ -30,12 +30,13 @@ with_line place lines.Passed script = script
 with_line place (lines.Now seconds) script = script
 with_line place (lines.Anchors anchors) script = record script { anchors = anchors ++ script.anchors }
 with_line place (lines.Reply name rtype kept) script = record script { replies = record { name = name; rtype = rtype; reply = kept } ∷ script.replies }
-with_line place (lines.Message octets) script = record script { items = record { seconds = moment place; octets = octets } ∷ script.items }
+with_line place (lines.Message octets) script = record script { items = record { seconds = moment place; opens = opens place; octets = octets } ∷ script.items }
 
 -- the end, which a script without `now` may not have
 abbrev pub at_end : ℕ → Place → Result Script ScriptError
 at_end n places.Start = refused n words.End
 at_end n (places.Head seconds) = Ok nothing
+at_end n (places.Turn seconds) = Ok nothing
 at_end n (places.Body seconds) = Ok nothing
 
 -- what the lines from this number and this place on say
@@ -70,4 +71,4 @@ plus script place lines.Passed = script
 plus script place (lines.Now seconds) = script
 plus script place (lines.Anchors anchors) = record script { anchors = script.anchors ++ anchors }
 plus script place (lines.Reply name rtype kept) = record script { replies = with_entry script.replies (record { name = name; rtype = rtype; reply = kept }) }
-plus script place (lines.Message octets) = record script { items = script.items ++ record { seconds = moment place; octets = octets } ∷ [] }
+plus script place (lines.Message octets) = record script { items = script.items ++ record { seconds = moment place; opens = opens place; octets = octets } ∷ [] }

@@ -10,6 +10,8 @@ use std::marker::Model;
 pub struct Item {
     /// The moment, in seconds since 1970.
     pub seconds: u64,
+    /// Whether it is the first one after a `now`.
+    pub opens: bool,
     /// The message, as it came.
     pub octets: Octets,
 }

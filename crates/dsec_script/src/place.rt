@@ -2,7 +2,7 @@
 
 ghost use Rattle.std.specs.Prelude.{◌≡◌};
 ghost use Rattle.dsec_spec.specs.Reading.{Gives};
-ghost use Rattle.dsec_script.specs.Place.{after as place_after, at_keyword, at_line, fits as fits_at, moment as moment_at, wants_memory, word_for};
+ghost use Rattle.dsec_script.specs.Place.{after as place_after, at_keyword, at_line, fits as fits_at, moment as moment_at, opens as opens_at, wants_memory, word_for};
 
 use crate::error::{Refused, ScriptError, Word};
 use crate::line::{Keyword, Line, read_keyword, read_rest};
@@ -17,7 +17,9 @@ pub enum Place {
     Start,
     /// After the first `now`, of this moment, where anchors and replies stand.
     Head(u64),
-    /// After a second `now` or a message; the moment is that of the last `now`.
+    /// After a later `now`, of this moment, and no message since.
+    Turn(u64),
+    /// After a message; the moment is that of the last `now`.
     Body(u64),
 }
 
@@ -30,11 +32,11 @@ impl Place {
             Keyword::Now => true,
             Keyword::Anchor | Keyword::Reply => match self {
                 Place::Head(_) => true,
-                Place::Start | Place::Body(_) => false,
+                Place::Start | Place::Turn(_) | Place::Body(_) => false,
             },
             Keyword::Message => match self {
                 Place::Start => false,
-                Place::Head(_) | Place::Body(_) => true,
+                Place::Head(_) | Place::Turn(_) | Place::Body(_) => true,
             },
         }
     }
@@ -45,7 +47,17 @@ impl Place {
     {
         match self {
             Place::Start => 0,
-            Place::Head(seconds) | Place::Body(seconds) => seconds,
+            Place::Head(seconds) | Place::Turn(seconds) | Place::Body(seconds) => seconds,
+        }
+    }
+
+    /// Whether a message here is the first one after a `now`.
+    pub fn opens(self) -> bool
+        ensures { result ≡ opens_at self }
+    {
+        match self {
+            Place::Head(_) | Place::Turn(_) => true,
+            Place::Start | Place::Body(_) => false,
         }
     }
 
@@ -57,11 +69,13 @@ impl Place {
             Line::Passed | Line::Anchors(_) | Line::Reply(_, _, _) => self,
             Line::Now(seconds) => match self {
                 Place::Start => Place::Head(*seconds),
-                Place::Head(_) | Place::Body(_) => Place::Body(*seconds),
+                Place::Head(_) | Place::Turn(_) | Place::Body(_) => Place::Turn(*seconds),
             },
             Line::Message(_) => match self {
                 Place::Start => Place::Start,
-                Place::Head(seconds) | Place::Body(seconds) => Place::Body(seconds),
+                Place::Head(seconds) | Place::Turn(seconds) | Place::Body(seconds) => Place::Body(
+                    seconds,
+                ),
             },
         }
     }

@@ -77,6 +77,7 @@ impl Parts {
             Line::Reply(name, rtype, kept) => self.replies.add(name, rtype, vector(kept))?,
             Line::Message(octets) => self.items.push(Item {
                 seconds: place.moment(),
+                opens: place.opens(),
                 octets,
             })?,
         }
@@ -114,6 +115,6 @@ fn read_lines(alloc: Global, text: &[u8]) -> Result<Parts, ScriptError>
     }
     match place {
         Place::Start => Err(refused(number, Word::End)),
-        Place::Head(_) | Place::Body(_) => Ok(parts),
+        Place::Head(_) | Place::Turn(_) | Place::Body(_) => Ok(parts),
     }
 }

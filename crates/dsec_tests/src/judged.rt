@@ -6,12 +6,14 @@ use dsec_anchors::TrustAnchors;
 use dsec_answer::ValidationContext;
 use dsec_cause::Cause;
 use dsec_crypto::{StandIn, Verifier};
-use dsec_group::{Limits, ValidationState};
-use dsec_judge::Verdict;
+use dsec_found::{JudgedGroup, Why};
+use dsec_group::ValidationState;
 use dsec_link::LinkKind;
 use dsec_name::Name;
+use dsec_node::Config;
 use dsec_number::Rtype;
 use dsec_outside::{FailingUpstream, Replies, TableUpstream};
+use dsec_serve::Verdict;
 use dsec_wire::Message;
 use std::alloc::Global;
 use std::process::Abort;
@@ -41,27 +43,41 @@ fn message(alloc: Global, text: &str) -> Option<Message> {
     }
 }
 
-/// Whether the first group is shown from the anchor's key.
-fn shows_first<V: Verifier>(verdict: &Verdict<V>) -> bool {
-    let Some(why) = &verdict.why else {
+/// Whether links lead from the anchor's key to a group's set.
+fn is_shown<V: Verifier>(alloc: Global, judged: &JudgedGroup<V>) -> bool {
+    let Some(links) = judged.links() else {
         return false;
     };
-    match why.shown.links().as_slice() {
-        [first, last] => {
-            why.group == 0 && first.kind() == LinkKind::AnchorKey && last.kind() == LinkKind::Set
-        }
+    let [first] = links.as_slice() else {
+        return false;
+    };
+    match judged.last_link(alloc) {
+        Ok(Some(last)) => first.kind() == LinkKind::AnchorKey && last.kind() == LinkKind::Set,
         _ => false,
     }
 }
 
-/// Whether a verdict after one question is bogus by this cause, or secure without one.
-fn is_said<V: Verifier>(verdict: &Verdict<V>, cause: Option<Cause>) -> bool {
+/// Whether one group is why, and shown so.
+fn shows_first<V: Verifier>(alloc: Global, why: &Why<V>) -> bool {
+    match why {
+        Why::ByGroups(groups) => match groups.as_slice() {
+            [one] => is_shown(alloc, one),
+            _ => false,
+        },
+        _ => false,
+    }
+}
+
+/// Whether a verdict after so many questions is bogus by this cause, or secure without one.
+fn is_said<V: Verifier>(alloc: Global, verdict: &Verdict<V>, turn: &Turn) -> bool {
+    let (cause, questions) = *turn;
+    let outcome = verdict.outcome();
     let is_so = if cause.is_none() {
-        verdict.state == ValidationState::Secure && shows_first(verdict)
+        outcome.state() == ValidationState::Secure && shows_first(alloc, outcome.why())
     } else {
-        verdict.state == ValidationState::Bogus && verdict.why.is_none()
+        outcome.state() == ValidationState::Bogus
     };
-    is_so && verdict.ede == cause && verdict.questions == 1
+    is_so && outcome.cause() == cause && verdict.questions() == questions
 }
 
 /// Whether these are the verdicts on a message in turn, at the moment 500.
@@ -70,12 +86,12 @@ fn are_turns<V: Verifier>(
     context: &mut ValidationContext<V>,
     upstream: &mut FailingUpstream<'_, TableUpstream>,
     message: &mut Message,
-    causes: &[Option<Cause>],
+    turns: &[Turn],
 ) -> bool {
-    for cause in causes {
+    for turn in turns {
         match context.validate_msg(alloc, message, upstream, 500) {
             Ok(verdict) => {
-                if !is_said(&verdict, *cause) {
+                if !is_said(alloc, &verdict, turn) {
                     return false;
                 }
             }
@@ -85,37 +101,44 @@ fn are_turns<V: Verifier>(
     true
 }
 
-/// How many bad signatures are allowed, a message, the numbers of the questions that fail, and the causes of the verdicts on
-/// the message in turn, of which secure ones have none.
-type Row = (u8, &'static str, &'static [u64], &'static [Option<Cause>]);
+/// The cause of a verdict, if it isn't secure, and how many questions it took.
+type Turn = (Option<Cause>, u32);
+
+/// How many bad signatures are allowed, a message, the numbers of the questions that fail, and the verdicts on the message in
+/// turn: a zone's keys are kept for the next one, and a failure isn't.
+type Row = (u8, &'static str, &'static [u64], &'static [Turn]);
 
 #[rattlefmt::skip]
 const ROWS: [Row; 5] = [
-    (1, GOOD, &[1], &[None, Some(Cause::NoDnskeyForAnchor), None]),
-    (1, FOUR, &[], &[Some(Cause::TooManyBadSignatures)]),
-    (2, FOUR, &[], &[None]),
-    (0, ONE_BAD, &[], &[Some(Cause::TooManyBadSignatures)]),
-    (1, ONE_BAD, &[], &[None]),
+    (1, GOOD, &[], &[(None, 1), (None, 0)]),
+    (1, GOOD, &[0], &[(Some(Cause::NoDnskeyForAnchor), 1), (None, 1), (None, 0)]),
+    (1, FOUR, &[], &[(Some(Cause::TooManyBadSignatures), 1)]),
+    (2, FOUR, &[], &[(None, 1)]),
+    (1, ONE_BAD, &[], &[(None, 1)]),
 ];
 
+/// How many questions turns take in all.
+fn asked_in(turns: &[Turn]) -> u64 {
+    turns.iter().map(|turn| u64::from(turn.1)).sum()
+}
+
 fn row_holds(alloc: Global, row: &Row) -> Option<bool> {
-    let (max_bad, octets, failing, causes) = *row;
+    let (max_bad, octets, failing, turns) = *row;
     let mut message = message(alloc, octets)?;
     let Ok(anchors) = TrustAnchors::from_u8(alloc, KEY.as_bytes()) else {
         return None;
     };
-    let mut limits = Limits::default();
-    limits.max_bad_signatures = max_bad;
-    let mut context = ValidationContext::<StandIn>::with_limits(anchors, limits);
+    let mut config = Config::new();
+    config.set_bad_signatures(max_bad);
+    let mut context = ValidationContext::<StandIn>::with_config(alloc, anchors, config);
     let mut upstream = FailingUpstream {
         inner: TableUpstream::new(replies(alloc)?),
         failing,
         asked: 0,
         faults: 0,
     };
-    let are_so = are_turns(alloc, &mut context, &mut upstream, &mut message, causes);
-    let are_counted = upstream.asked == causes.len() as u64
-        && upstream.faults == failing.len() as u64;
+    let are_so = are_turns(alloc, &mut context, &mut upstream, &mut message, turns);
+    let are_counted = upstream.asked == asked_in(turns) && upstream.faults == failing.len() as u64;
     Some(are_so && are_counted)
 }
 

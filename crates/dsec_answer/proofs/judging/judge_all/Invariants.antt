@@ -1,12 +1,16 @@
-use Rattle.std.proofs.Common.{◌≡◌, length, take}
-use Rattle.dsec_outside.specs.Sending.{SentBut}
-use Rattle.dsec_answer.specs.Outcomes.{answer_text}
+use Rattle.std.proofs.Common.{◌≡◌, take, Some}
+use Rattle.dsec_node.specs.Caches.{held_in}
+use Rattle.dsec_serve.specs.Outside.{replies_of, HoldsTable}
+use Rattle.dsec_answer.specs.Outcomes.{world_of_script}
+use Rattle.dsec_answer.specs.Sending.{SoFar}
 use Rattle.dsec_answer.proofs.judging.judge_all.Given as goal
 
 abbrev pub invariant-loop-item : goal.invariant-loop-item
 invariant-loop-item g l =
     (g.K.Sink.faults l.sink ≡ g.K.Sink.faults l.fn.sink)
-    × (l.index ≡ length l.yielded)
-    × (l.context ≡ l.fn.context)
+    × (l.index ≡ l.item-index)
+    × (l.context.anchors ≡ l.fn.context.anchors)
+    × (l.context.config ≡ l.fn.context.config)
     × (l.upstream.replies ≡ l.fn.upstream.replies)
-    × SentBut (g.K.Sink.written l.fn.sink) (g.K.Sink.written l.sink) (answer_text g.V.Verifier.accepts l.fn.context.anchors l.fn.context.limits l.fn.upstream.replies (take (length l.yielded) l.fn.items.items)) l.gathered.items
+    × HoldsTable (world_of_script g.V.Verifier.accepts l.fn.context.anchors l.moment) (replies_of l.fn.upstream.replies) (Some (held_in l.context.nodes))
+    × SoFar g.V.Verifier.accepts l.fn.context.anchors l.fn.upstream.replies (take l.item-index l.items) (g.K.Sink.written l.fn.sink) (g.K.Sink.written l.sink) l.gathered.items

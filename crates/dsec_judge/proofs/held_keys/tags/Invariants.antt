@@ -1,7 +1,0 @@
-use Rattle.std.proofs.Common.{◌≡◌, ◌++◌, drop}
-use Rattle.dsec_link.specs.Sets.{octets_of}
-use Rattle.dsec_judge.specs.KeyData.{tags_of}
-use Rattle.dsec_judge.proofs.held_keys.tags.Given as goal
-
-abbrev pub invariant-loop-index : goal.invariant-loop-index
-invariant-loop-index l = l.tags.items ++ tags_of (octets_of (drop l.index l.datas)) ≡ tags_of (octets_of l.datas)
