@@ -1,0 +1,3 @@
+pub mod TryingOnce
+pub mod AnchorSteps
+pub mod Completeness
