@@ -1,3 +1,5 @@
 pub mod TryingOnce
 pub mod AnchorSteps
 pub mod Completeness
+pub mod Refusals
+pub mod PlainLaws

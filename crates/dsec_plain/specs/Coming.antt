@@ -5,12 +5,16 @@ use Rattle.dsec_spec.specs.Messages.{Question}
 use Rattle.dsec_spec.specs.Groups.{Group}
 use Rattle.dsec_nodes.specs.World.{World, Replies}
 use Rattle.dsec_nodes.specs.Judging.{Judged}
-use Rattle.dsec_nodes.specs.Outcomes.{secure, by_groups, Outcome}
+use Rattle.dsec_nodes.specs.Outcomes.{secure, bogus, by_groups, Outcome}
 use Rattle.dsec_nodes.specs.Alone.{Refusal, sections_of, alone}
 
 -- a message comes to an outcome (RFC 4033 5)
 abbrev pub HasOutcome : Result Outcome Refusal → Type 0
 HasOutcome r = (outcome : Outcome) × (r ≡ Ok outcome)
+
+-- a message comes to a Bogus outcome (RFC 4033 5)
+abbrev pub IsBogusOutcome : Result Outcome Refusal → Type 0
+IsBogusOutcome r = (outcome : Outcome) × (r ≡ Ok outcome) × (outcome.state ≡ bogus)
 
 -- a message is Secure by this group, and no cause is told (RFC 4033 5)
 pub record IsSecureBy (w : World) (most : ℕ) (replies : Replies) (message : List ℕ) (group : Group) : Type 0 where
