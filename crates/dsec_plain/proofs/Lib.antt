@@ -3,3 +3,4 @@ pub mod AnchorSteps
 pub mod Completeness
 pub mod Refusals
 pub mod PlainLaws
+pub mod PlainExample
