@@ -119,7 +119,11 @@ const ROWS: [Row; 5] = [
 
 /// How many questions turns take in all.
 fn asked_in(turns: &[Turn]) -> u64 {
-    turns.iter().map(|turn| u64::from(turn.1)).sum()
+    let mut asked = 0u64;
+    for turn in turns {
+        asked = asked.saturating_add(u64::from(turn.1));
+    }
+    asked
 }
 
 fn row_holds(alloc: Global, row: &Row) -> Option<bool> {
