@@ -3,4 +3,3 @@ pub mod Outside
 pub mod Serving
 pub mod Calls
 pub mod Turns
-pub mod PlainAnswers

@@ -1,0 +1,2 @@
+pub mod PlainAnswers
+pub mod Coming

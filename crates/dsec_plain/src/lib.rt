@@ -1,0 +1,2 @@
+//! Ordinary replies, and when a message is refused.
+#![tactic(auto)]
