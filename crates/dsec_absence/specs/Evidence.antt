@@ -6,7 +6,7 @@ use Rattle.dsec_spec.specs.Records.{Record}
 use Rattle.dsec_spec.specs.RecordViews.{Nsec, nsec_of}
 use Rattle.dsec_spec.specs.Groups.{Group}
 use Rattle.dsec_spec.specs.DenyingRecords.{NsecAt}
-use Rattle.dsec_absence.specs.Denials.{Denial, no_type, no_name, no_type_by_wildcard, no_closer}
+use Rattle.dsec_absence.specs.Denials.{Denial, no_type, no_name, no_type_by_wildcard, no_closer, IsDenial}
 
 -- a group of the authority section, as far as a denial asks: the zone that is to have signed it, whether links show it, and whether as a
 -- wildcard's expansion (RFC 4035 5.3)
@@ -43,6 +43,13 @@ pub data AreReadOf (class : ℕ) (signer : Place) (groups : List Evidence) : Den
   wildcard_read : {c : Place} {i j : ℕ} {r w : NsecAt} → CountsAt class signer groups i r → CountsAt class signer groups j w
       → AreReadOf class signer groups (no_type_by_wildcard c i j) (no_type_by_wildcard c r w)
   closer_read : {c : Place} {i : ℕ} {r : NsecAt} → CountsAt class signer groups i r → AreReadOf class signer groups (no_closer c i) (no_closer c r)
+
+-- the groups at the indexes count, and their records deny: each is of its place, and each zone with the signer as apex of which they are true
+-- owns nothing of what is denied (RFC 4035 5.4)
+pub record IsProof (class : ℕ) (signer : Place) (groups : List Evidence) (n : Place) (q : ℕ) (d : Denial ℕ) : Type 0 where
+  pub records : Denial NsecAt
+  pub read : AreReadOf class signer groups d records
+  pub denial : IsDenial signer n q records
 
 -- what a group is to a denial
 pub data Sighting : Type 0 where
