@@ -25,12 +25,6 @@ pub all_map : {A : Type 0} (P Q : A → Type 0) (xs : List A) → ((x : A) → P
 all_map P Q [] f h = tt
 all_map P Q (x ∷ xs) f h = (f x h.0, all_map P Q xs f h.1)
 
--- the one at an index
-pub all_at : {A : Type 0} (P : A → Type 0) (xs : List A) (k : ℕ) (x : A) → AllByRecursion P xs → slice_get xs k ≡ Some x → P x
-all_at P [] k x h e = absurd cc
-all_at P (y ∷ ys) zero x h e = subst P (same_Some y x e) h.0
-all_at P (y ∷ ys) (suc k) x h e = all_at P ys k x h.1 e
-
 -- one that is in the list
 pub all_in : {A : Type 0} (P : A → Type 0) (xs : List A) (x : A) → AllByRecursion P xs → Contains xs x → P x
 all_in P [] x h there = absurd (not_in_none x there)

@@ -12,7 +12,7 @@ use Rattle.dsec_absence.specs.Evidence.{Evidence}
 use Rattle.dsec_absence.specs.Answers.{Source}
 use Rattle.dsec_absence.specs.Replies.{soa_at, no_soa_cause, Conclusion, proved, unproved, denied_at, closer_denied}
 use Rattle.dsec_nodes.specs.World.{World}
-use Rattle.dsec_nodes.specs.Causes.{Cause, MissingSoa}
+use Rattle.dsec_nodes.specs.Causes.{MissingSoa}
 use Rattle.dsec_nodes.specs.Signing.{is_expanded}
 use Rattle.dsec_nodes.specs.Judging.{Finding, is_shown, has_no_set, is_insecure, is_bogus, is_indeterminate, Judged}
 use Rattle.dsec_nodes.specs.Outcomes.{Used, Outcome, by_nothing, secure_by, bogus_by, not_built, by_finding}
