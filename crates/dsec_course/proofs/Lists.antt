@@ -1,8 +1,7 @@
 -- Facts that hold of each in a list.
-use Rattle.std.proofs.Common.{◌≡◌, ℕ, List, [], ◌∷◌, ◌++◌, subst, inl, inr}
-use Rattle.std.specs.Prelude.{Contains, slice_get, zero, suc, Some}
+use Rattle.std.proofs.Common.{List, [], ◌∷◌, ◌++◌, subst, inl, inr}
+use Rattle.std.specs.Prelude.{Contains}
 use Rattle.std.specs.List.{AllByRecursion}
-use Rattle.std.proofs.lemmas.Option.{same_Some}
 use Rattle.dsec_spec.proofs.Members.{in_more, not_in_none}
 
 -- each of the first of two lists

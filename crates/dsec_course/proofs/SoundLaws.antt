@@ -1,11 +1,11 @@
 -- A message judged a step at a time is sound, whatever kept nodes its walks are given, from whichever moment.
-use Rattle.std.proofs.Common.{◌≡◌, ℕ, zero, suc, ◌==◌, ◌+◌, ◌≤◌, List, [], ◌∷◌, ◌++◌, length, take, drop, map, Option, Some, None, refl, sym, ap, ◌∙◌, subst, append-nil, append_assoc}
+use Rattle.std.proofs.Common.{◌≡◌, ℕ, ◌==◌, ◌+◌, ◌≤◌, List, [], ◌∷◌, ◌++◌, length, take, drop, map, Option, Some, None, refl, sym, ap, ◌∙◌, subst, append-nil, append_assoc}
 use Rattle.std.specs.Prelude.{filter_map}
 use Rattle.std.specs.List.{AllByRecursion, list_any}
 use Rattle.std.proofs.Math.Seq.{take-append_seam, drop-append_seam}
 use Rattle.std.proofs.lemmas.Bool.{cond-false}
 use Rattle.std.proofs.lemmas.Option.{same_Some}
-use Rattle.std.proofs.lemmas.List.{map-append, take-append-drop}
+use Rattle.std.proofs.lemmas.List.{map-append, take-map, drop-map, take-append-drop}
 use Rattle.std.proofs.lemmas.List.Elements.{filter_map-append}
 use Rattle.dsec_spec.specs.Names.{Place, place}
 use Rattle.dsec_spec.specs.Records.{Record}
@@ -118,18 +118,6 @@ waits_so_far w most message c groups left waits h = record {
   };
 }
 
--- the groups of judged ones at the front
-map_take : (k : ℕ) (js : List Judged) → map (λ (x : Judged). x.group) (take k js) ≡ take k (map (λ (x : Judged). x.group) js)
-map_take zero js = refl
-map_take (suc k) [] = refl
-map_take (suc k) (j ∷ js) = ap (λ (gs : List Group). j.group ∷ gs) (map_take k js)
-
--- and behind them
-map_drop : (k : ℕ) (js : List Judged) → map (λ (x : Judged). x.group) (drop k js) ≡ drop k (map (λ (x : Judged). x.group) js)
-map_drop zero js = refl
-map_drop (suc k) [] = refl
-map_drop (suc k) (j ∷ js) = map_drop k js
-
 -- the question section, as it is read with the other two
 asked_is : (message : List ℕ) (s : List Question × List Record × List Record) → sections_of message ≡ Some s
     → (rest : ℕ) × (questions_of message ≡ Some (s.0, rest))
@@ -166,11 +154,11 @@ last_is w most message c h = by c.questions refl
     in_order = sym (append-nil (map (λ (x : Judged). x.group) c.judged)) ∙ o.in_order
 
     same : map (λ (x : Judged). x.group) js ≡ o.answers
-    same = map_take c.answers c.judged
+    same = sym (take-map (λ (x : Judged). x.group) c.answers c.judged)
         ∙ (ap (take c.answers) in_order ∙ (ap (λ (k : ℕ). take k (o.answers ++ o.authorities)) o.split ∙ take-append_seam o.answers o.authorities))
 
     others : map (λ (x : Judged). x.group) beside ≡ o.authorities
-    others = map_drop c.answers c.judged
+    others = sym (drop-map (λ (x : Judged). x.group) c.answers c.judged)
         ∙ (ap (drop c.answers) in_order ∙ (ap (λ (k : ℕ). drop k (o.answers ++ o.authorities)) o.split ∙ drop-append_seam o.answers o.authorities))
 
     both : AllByRecursion (IsFound w) (js ++ beside)

@@ -1,18 +1,17 @@
 -- Courses that are sound: each judged group is what was found of it, each node put is kept, and no walk asks too much (RFC 4033 5, RFC 4035 5).
 use Rattle.std.specs.Prelude.{◌≡◌, ◌≤◌, ◌-◌, ◌+◌, ◌*◌, ℕ, List, [], ◌∷◌, ◌++◌, length, map, filter_map, false, Option, Some, None, Result, Ok, Err}
 use Rattle.std.specs.List.{AllByRecursion, sum_by}
-use Rattle.dsec_spec.specs.Names.{Place, place}
+use Rattle.dsec_spec.specs.Names.{Place}
 use Rattle.dsec_spec.specs.Records.{Record}
 use Rattle.dsec_spec.specs.Messages.{Question, questions_of}
 use Rattle.dsec_spec.specs.Groups.{Group, groups_of}
-use Rattle.dsec_spec.specs.Islands.{island}
 use Rattle.dsec_spec.specs.Redirection.{moved}
 use Rattle.dsec_nodes.specs.World.{World}
 use Rattle.dsec_nodes.specs.Nodes.{IsBogus}
 use Rattle.dsec_nodes.specs.Machine.{Walking}
 use Rattle.dsec_nodes.specs.InStep.{IsCounted}
 use Rattle.dsec_nodes.specs.SoundSteps.{KeptUnder, SoundStep}
-use Rattle.dsec_nodes.specs.Judging.{Finding, is_shown, has_no_set, is_insecure, is_bogus, is_indeterminate, Judged, target_of}
+use Rattle.dsec_nodes.specs.Judging.{target_of}
 use Rattle.dsec_nodes.specs.Outcomes.{Outcome}
 use Rattle.dsec_nodes.specs.Alone.{Refusal, not_one_question, sections_of}
 use Rattle.dsec_nodes.specs.SoundOutcomes.{IsJustified}
