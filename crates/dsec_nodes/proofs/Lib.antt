@@ -28,3 +28,4 @@ pub mod OutcomeLaws
 pub mod TruthLaws
 pub mod NodeExamples
 pub mod ApexExample
+pub mod DenialExamples
