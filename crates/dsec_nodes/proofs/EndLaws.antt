@@ -155,7 +155,7 @@ module _ (w : World) (most : ℕ) (message : List ℕ) (question : Question) (js
           let used = same_closer beside (place encloser) c.0 denial (sym (ap (used_by beside) c.1) ∙ u) in
           let below = under_signer w j (shown_group w j its links last signature f) in
           let proves = closer_conclusion_proves (source_of question j.signer beside) name (subst (λ (n : Place). IsAtOrBelow n j.signer) answered.at_question.at_name below)
-              (place encloser) question.rtype d p in
+          (place encloser) question.rtype d p in
           subst (λ (x : Denial Used). Means w most message (secure_by (j ∷ []) (x ∷ []))) (sym used.1) (
             inr (inl (record {
               judged = j;

@@ -25,6 +25,7 @@ pub mod SoaLaws
 pub mod DenialLaws
 pub mod EndLaws
 pub mod OutcomeLaws
+pub mod QuestionLaws
 pub mod TruthLaws
 pub mod NodeExamples
 pub mod ApexExample
