@@ -3,27 +3,28 @@
 ghost use Rattle.std.specs.Prelude.{◌≡◌, ℕ, ◌==◌, ◌&&◌, List, Some, IfOk};
 ghost use Rattle.std.proofs.Math.Bool.{not};
 ghost use Rattle.std.specs.Arc.{arc_value};
-ghost use Rattle.dsec_nodes.specs.Alone.{at_end, at_name as at_name_of, by_answer, no_error_in, on_judged as judged_comes_to, on_questions as questions_come_to};
-ghost use Rattle.dsec_nodes.specs.Judging.{Judged};
+ghost use Rattle.dsec_nodes.specs.Alone.{at_end, at_name as at_name_of, on_judged as judged_comes_to, on_questions as questions_come_to};
+ghost use Rattle.dsec_nodes.specs.ByDenial.{no_error_in};
 ghost use Rattle.dsec_nodes.specs.Outcomes.{alias_path, bogus_by, by_links};
-ghost use Rattle.dsec_nodes.specs.World.{Bounds, World};
+ghost use Rattle.dsec_nodes.specs.World.{Bounds};
 ghost use Rattle.dsec_node.specs.Views.{world_of};
 ghost use Rattle.dsec_spec.specs.Messages.{rcode_of};
-ghost use Rattle.dsec_spec.specs.Names.{Place, place};
+ghost use Rattle.dsec_spec.specs.Names.{place};
 ghost use Rattle.dsec_spec.specs.Numbers.{ANY};
 ghost use Rattle.dsec_spec.specs.Reading.{Gives};
 ghost use Rattle.dsec_found.specs.Errors.{answer_of, wants_memory};
 ghost use Rattle.dsec_found.specs.Outcomes.{section_view};
 
-use crate::error::Error;
-use crate::judged::JudgedGroup;
+use crate::alias::is_any_leading_on;
+use crate::answered::answered;
+use crate::denied::by_denial;
 use crate::outcome::{Outcome, Why};
-use crate::question::{answer_in, is_any_leading_on};
-use crate::section::AllJudged;
 use dsec_cause::Cause;
 use dsec_crypto::Verifier;
+use dsec_found::{AllJudged, Error, JudgedGroup};
 use dsec_group::ValidationState;
 use dsec_name::NoMemory;
+use dsec_negative::get_answer_state;
 use dsec_node::Node;
 use dsec_number::{Rcode, Rtype};
 use dsec_wire::{Question, Record};
@@ -77,7 +78,8 @@ pub fn on_questions<V: Verifier>(
     if questions.len() != 1 {
         return Err(Error::FormError);
     }
-    Ok(on_question(alloc, anchors, rcode, &questions[0], answers)?)
+    let question = &questions[0];
+    Ok(on_question(alloc, anchors, rcode, question, answers, authorities)?)
 }
 
 /// What it comes to at its one question. Following aliases is left out.
@@ -87,50 +89,43 @@ fn on_question<V: Verifier>(
     rcode: Rcode,
     question: &Question,
     answers: &[JudgedGroup<V>],
+    authorities: &[JudgedGroup<V>],
 ) -> Result<Outcome<V>, NoMemory>
-    ensures { IfOk result (λ outcome. (bounds : Bounds) (now : ℕ) (message : List ℕ) (authorities : List Judged) → rcode_of message ≡ Some rcode
-        → outcome ≡ at_end (world_of V.accepts anchors.now bounds now) message question.now answers.now authorities (alias_path (world_of V.accepts anchors.now bounds now) question.now answers.now)) }
+    ensures { IfOk result (λ outcome. (bounds : Bounds) (now : ℕ) (message : List ℕ) → rcode_of message ≡ Some rcode
+        → outcome ≡ at_end (world_of V.accepts anchors.now bounds now) message question.now answers.now authorities.now (alias_path (world_of V.accepts anchors.now bounds now) question.now answers.now)) }
 {
     if is_any_leading_on(anchors, question, answers) {
         return Ok(Outcome::not_built());
     }
-    at_name(alloc, rcode, question, answers)
+    at_name(alloc, anchors, rcode, question, answers, authorities)
 }
 
-/// What it comes to at its question's own name: by an answer, where there was no error and one type is asked for. Denials are left
-/// out.
+/// What it comes to at its question's own name: by an answer, where there was no error and one type is asked for, or else by a
+/// denial.
 fn at_name<V: Verifier>(
     alloc: Global,
+    anchors: &[Record],
     rcode: Rcode,
     question: &Question,
     answers: &[JudgedGroup<V>],
+    authorities: &[JudgedGroup<V>],
 ) -> Result<Outcome<V>, NoMemory>
-    ensures { IfOk result (λ outcome. (w : World) (message : List ℕ) (authorities : List Judged) → rcode_of message ≡ Some rcode
-        → outcome ≡ at_name_of w message question.now (place question.now.name) answers.now authorities) }
+    ensures { IfOk result (λ outcome. (bounds : Bounds) (now : ℕ) (message : List ℕ) → rcode_of message ≡ Some rcode
+        → outcome ≡ at_name_of (world_of V.accepts anchors.now bounds now) message question.now (place question.now.name) answers.now authorities.now) }
 {
     if !is_one_answer_due(rcode, question) {
-        return Ok(Outcome::not_built());
+        return by_denial(alloc, anchors, rcode, question, authorities);
     }
-    match answer_in(question, answers) {
-        Some(index) => answered(alloc, &answers[index]),
-        None => Ok(Outcome::not_built()),
+    let (name, class, rtype) = (question.qname(), question.qclass(), question.qtype());
+    match get_answer_state(name, class, rtype, answers) {
+        Some((index, _, _)) => answered(alloc, question, &answers[index], authorities),
+        None => by_denial(alloc, anchors, rcode, question, authorities),
     }
 }
 
-/// Whether a message with this rcode is to answer a question for one type with a set.
+/// Whether a message with this rcode may answer a question with a set: there was no error, and one type is asked for.
 fn is_one_answer_due(rcode: Rcode, question: &Question) -> bool
     ensures { result ≡ (no_error_in (Some rcode) && not (question.now.rtype == ANY)) }
 {
     rcode == Rcode::NOERROR && question.qtype() != Rtype::ANY
-}
-
-/// What it comes to by the group that answers. Answers from wildcards are left out.
-fn answered<V: Verifier>(alloc: Global, judged: &JudgedGroup<V>) -> Result<Outcome<V>, NoMemory>
-    ensures { IfOk result (λ outcome. (w : World) (name : Place) (authorities : List Judged) → outcome ≡ by_answer w name authorities judged.now judged.now.finding) }
-{
-    if judged.is_expanded() {
-        return Ok(Outcome::not_built());
-    }
-    let why = judged.why(alloc)?;
-    Ok(Outcome::new(judged.state(), judged.cause(), why))
 }

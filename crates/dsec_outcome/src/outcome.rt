@@ -1,22 +1,29 @@
 //! What a message comes to (RFC 4033 5, RFC 4035 4.3).
 
-ghost use Rattle.std.specs.Prelude.{◌≡◌};
-ghost use Rattle.dsec_nodes.specs.Outcomes.{bogus_by, by_nothing, not_built as not_built_of};
-ghost use Rattle.dsec_found.specs.Outcomes.{state_view, why_view};
+ghost use Rattle.std.specs.Prelude.{◌≡◌, ◌∷◌, [], IfOk, None};
+ghost use Rattle.dsec_nodes.specs.Outcomes.{bogus_by, by_finding, by_nothing, not_built as not_built_of, secure_by as secure_of};
+ghost use Rattle.dsec_nodes.specs.Outcomes as outcomes;
+ghost use Rattle.dsec_spec.specs.Records as records;
+ghost use Rattle.dsec_found.specs.Outcomes.{state_view};
+ghost use Rattle.dsec_found.specs.Told.{signature_of};
+ghost use Rattle.dsec_outcome.specs.Outcomes.{unshown_why, why_view};
 
-use crate::judged::JudgedGroup;
+use crate::used::UsedGroup;
 use dsec_cause::Cause;
 use dsec_crypto::Verifier;
+use dsec_found::JudgedGroup;
 use dsec_group::ValidationState;
+use dsec_name::NoMemory;
 use dsec_node::Node;
+use std::alloc::Global;
 use std::marker::Model;
 use std::sync::Arc;
 
 /// Why a state was found. Groups and nodes are shared with those that judging keeps.
 #[derive(Drop)]
 pub enum Why<V: Verifier> {
-    /// By judged groups, in order.
-    ByGroups(Vec<JudgedGroup<V>>),
+    /// By judged groups, and by the groups that denials beside them use, each in order.
+    ByGroups(Vec<JudgedGroup<V>>, Vec<UsedGroup<V>>),
     /// By the signed record that shows that no chain leads to the node's name (RFC 4035 5.2).
     ByCause(Arc<Node<V>>),
     /// By the links to the zone whose keys were tried, which are the node's; a bogus node has none.
@@ -35,7 +42,8 @@ pub struct Outcome<V: Verifier> {
 
 impl<V: Verifier> Model for Outcome<V> {
     ghost use Rattle.dsec_nodes.specs.Outcomes as outcomes;
-    ghost use Rattle.dsec_found.specs.Outcomes.{state_view, why_view};
+    ghost use Rattle.dsec_found.specs.Outcomes.{state_view};
+    ghost use Rattle.dsec_outcome.specs.Outcomes.{why_view};
 
     ghost Value = { outcomes.Outcome };
 
@@ -48,6 +56,29 @@ impl<V: Verifier> Outcome<V> {
         ensures { result ≡ record { state = state_view state; cause = cause; why = why_view why } }
     {
         Outcome { state, cause, why }
+    }
+
+    /// A secure outcome by a group that links show, and by the groups that a denial beside it uses.
+    pub(crate) fn secure_by(
+        alloc: Global,
+        judged: &JudgedGroup<V>,
+        used: Vec<UsedGroup<V>>,
+    ) -> Result<Outcome<V>, NoMemory>
+        ensures { IfOk result (λ outcome. outcome ≡ secure_of (judged.now ∷ []) used.items) }
+    {
+        let mut groups = Vec::with_capacity(alloc, 1)?;
+        groups.push(judged.clone()?)?;
+        let why = Why::ByGroups(groups, used);
+        Ok(Outcome::new(ValidationState::Secure, None, why))
+    }
+
+    /// The outcome by a group that links don't show.
+    pub(crate) fn unshown(judged: &JudgedGroup<V>) -> Result<Outcome<V>, NoMemory>
+        requires { signature_of judged.now.finding ≡ None }
+        ensures { IfOk result (λ outcome. (where_shown : records.Record → outcomes.Outcome) → outcome ≡ by_finding where_shown judged.now.finding) }
+    {
+        let why = unshown_by(judged)?;
+        Ok(Outcome::new(judged.state(), judged.cause(), why))
     }
 
     /// A bogus outcome for which nothing else speaks.
@@ -83,5 +114,19 @@ impl<V: Verifier> Outcome<V> {
         ensures { why_view result.now ≡ self.now.why }
     {
         &self.why
+    }
+}
+
+/// Why a group that links don't show is as it is.
+fn unshown_by<V: Verifier>(judged: &JudgedGroup<V>) -> Result<Why<V>, NoMemory>
+    requires { signature_of judged.now.finding ≡ None }
+    ensures { IfOk result (λ why. why_view why ≡ unshown_why judged.now.finding) }
+{
+    if let Some(node) = judged.insecure()? {
+        return Ok(Why::ByCause(node));
+    }
+    match judged.bogus()? {
+        Some((_, node)) => Ok(Why::ByLinks(node)),
+        None => Ok(Why::ByNothing),
     }
 }

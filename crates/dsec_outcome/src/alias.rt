@@ -1,42 +1,21 @@
-//! Which judged group answers a question, and which lead on from it, as tests (RFC 1034 3.6.2, RFC 6672 2.2).
+//! Which judged groups lead on from a question's name, as tests (RFC 1034 3.6.2, RFC 6672 2.2).
 
-ghost use Rattle.std.specs.Prelude.{◌≡◌, List, position};
+ghost use Rattle.std.specs.Prelude.{◌≡◌, List};
 ghost use Rattle.std.specs.List.{list_any};
 ghost use Rattle.std.specs.Option.{option_map};
-ghost use Rattle.dsec_nodes.specs.Alone.{is_answer as answers};
 ghost use Rattle.dsec_spec.specs.Answering.{is_alias_above as alias_above, is_alias_at as alias_at, leads_on as on};
 ghost use Rattle.dsec_spec.specs.Islands.{island};
 ghost use Rattle.dsec_spec.specs.Names.{place};
 ghost use Rattle.dsec_spec.specs.Records as records;
 
-use crate::island::{is_above_island, is_same, is_strictly_below};
-use crate::judged::JudgedGroup;
 use dsec_anchors::island_owner;
+use dsec_chain::{is_same, is_strictly_below};
 use dsec_crypto::Verifier;
+use dsec_found::{JudgedGroup, is_above_island};
 use dsec_group::Group;
 use dsec_name::Name;
 use dsec_number::Rtype;
 use dsec_wire::{Question, Record};
-
-/// The index of the first group at the question's name, class and type.
-pub(crate) fn answer_in<V: Verifier>(
-    question: &Question,
-    judged: &[JudgedGroup<V>],
-) -> Option<usize>
-    ensures { result ≡ position (answers (place question.now.name) question.now) judged.now }
-{
-    judged.iter().position(|one| is_answer(question, one))
-}
-
-/// Whether a group is at the question's name, class and type.
-fn is_answer<V: Verifier>(question: &Question, judged: &JudgedGroup<V>) -> bool
-    ensures { result ≡ answers (place question.now.name) question.now judged.now }
-{
-    let group = judged.group();
-    is_same(group.owner(), question.qname())
-        && group.class() == question.qclass()
-        && group.rtype() == question.qtype()
-}
 
 /// Whether a group leads on from the question's name.
 pub(crate) fn is_any_leading_on<V: Verifier>(
