@@ -1,13 +1,14 @@
 -- The closest encloser by a record, as a function, is the one of the relation (RFC 4592 3.3.1).
-use Rattle.std.proofs.Common.{◌≡◌, ℕ, ◌≤◌, true, false, List, [], ◌∷◌, ◌++◌, length, length-append, refl, sym, ap, ◌∙◌, subst, inl, inr, ◌⊎◌, arith}
+use Rattle.std.proofs.Common.{◌≡◌, ℕ, ◌<◌, ◌≤◌, true, false, List, [], ◌∷◌, ◌++◌, length, length-append, take, drop, refl, sym, ap, ◌∙◌, subst, inl, inr, ◌⊎◌, arith}
 use Rattle.std.specs.Prelude.{nat_lt, cond}
 use Rattle.std.specs.Str.{bytes_eq}
-use Rattle.std.proofs.lemmas.Bool.{ltb-true, ltb-false}
+use Rattle.std.proofs.lemmas.Bool.{cases_lt, ltb-true, ltb-false}
+use Rattle.std.proofs.lemmas.List.{length-take-le, take_at, take-append-drop}
 use Rattle.std.proofs.lemmas.Slice.Eq.{bytes_eq-Decides}
 use Rattle.dsec_spec.specs.Names.{Place, IsAtOrBelow}
 use Rattle.dsec_spec.specs.DenyingRecords.{NsecAt, owner_of, next_of, Covers}
 use Rattle.dsec_spec.proofs.NameOrder.{below_not_before}
-use Rattle.dsec_spec.proofs.NamesBelow.{below_itself, below_root, below_trans, at_or_below, same_or_below, ancestors_comparable}
+use Rattle.dsec_spec.proofs.NamesBelow.{below_itself, below_root, below_trans, below_antisymm, at_or_below, same_or_below, ancestors_comparable}
 use Rattle.dsec_absence.specs.Denials.{IsAround}
 use Rattle.dsec_absence.specs.Tests.{common, longer, encloser_by}
 
@@ -122,3 +123,57 @@ encloser_by_is r n cov out = record {
       | inl e ↦ inl (subst (λ (x : Place). IsAtOrBelow (owner_of r) x) (sym e) (common_right n (owner_of r)))
       | inr e ↦ inr (subst (λ (x : Place). IsAtOrBelow (next_of r) x) (sym e) (common_right n (next_of r)))
     ]
+
+-- so many of the labels next to the root are a name above
+pub take_above : (k : ℕ) (n : Place) → IsAtOrBelow n (take k n)
+take_above k n = record { under = drop k n; is = sym (take-append-drop k n) }
+
+above_is_take : (n c : Place) → IsAtOrBelow n c → c ≡ take (length c) n
+above_is_take n c h = sym (ap (take (length c)) h.is ∙ take_at c h.under (length c) refl)
+
+above_shorter : (n c : Place) → IsAtOrBelow n c → length c ≤ length n
+above_shorter n c h = let e = ap length h.is in omega (arith, e, length-append c h.under)
+
+-- the longest name above n that one of two names is, or is under, is the longer of what each has in common with n
+pub longest_seen : (n o x : Place) (k : ℕ) → k ≤ length n → IsAtOrBelow o (take k n) ⊎ IsAtOrBelow x (take k n)
+    → ((j : ℕ) → k < j → j ≤ length n → IsAtOrBelow o (take j n) ⊎ IsAtOrBelow x (take j n) → ⊥) → take k n ≡ longer (common n o) (common n x)
+longest_seen n o x k le seen none =
+    below_antisymm (take k n) c
+    (no_shorter n c (take k n) nc (take_above k n) (elim (cases_lt k (length c)) [
+      | inl less ↦ absurd (none (length c) less (above_shorter n c nc) (subst (λ (y : Place). IsAtOrBelow o y ⊎ IsAtOrBelow x y) (above_is_take n c nc) c_seen))
+      | inr more ↦ let long : length (take k n) ≡ k = length_of_take in omega (arith, more, long)
+    ]))
+    (elim seen [
+      | inl h ↦ below_trans c a (take k n) (longer_first n a b na nb) (common_longest n o (take k n) (take_above k n) h)
+      | inr h ↦ below_trans c b (take k n) (longer_second n a b na nb) (common_longest n x (take k n) (take_above k n) h)
+    ])
+  where
+    a : Place
+    a = common n o
+
+    b : Place
+    b = common n x
+
+    c : Place
+    c = longer a b
+
+    na : IsAtOrBelow n a
+    na = common_left n o
+
+    nb : IsAtOrBelow n b
+    nb = common_left n x
+
+    nc : IsAtOrBelow n c
+    nc = elim (longer_either n a b na nb) [
+      | inl e ↦ subst (λ (y : Place). IsAtOrBelow n y) (sym e) na
+      | inr e ↦ subst (λ (y : Place). IsAtOrBelow n y) (sym e) nb
+    ]
+
+    c_seen : IsAtOrBelow o c ⊎ IsAtOrBelow x c
+    c_seen = elim (longer_either n a b na nb) [
+      | inl e ↦ inl (subst (λ (y : Place). IsAtOrBelow o y) (sym e) (common_right n o))
+      | inr e ↦ inr (subst (λ (y : Place). IsAtOrBelow x y) (sym e) (common_right n x))
+    ]
+
+    length_of_take : length (take k n) ≡ k
+    length_of_take = length-take-le k n le

@@ -5,3 +5,6 @@ pub mod TestLaws
 pub mod SearchLaws
 pub mod DenialLaws
 pub mod AnswerLaws
+pub mod SearchSteps
+pub mod Checking
+pub mod Examples

@@ -7,7 +7,7 @@ use Rattle.dsec_spec.specs.Records.{Record}
 use Rattle.dsec_spec.specs.RecordViews.{Nsec, nsec_of}
 use Rattle.dsec_spec.specs.DenyingRecords.{NsecAt}
 use Rattle.dsec_spec.proofs.CanonicalNames.{same_place_decides}
-use Rattle.dsec_absence.specs.Evidence.{Evidence, Counts, CountsAt, Sighting, passed, expanded, counts, sighting_by, sighting_in, sighting}
+use Rattle.dsec_absence.specs.Evidence.{Evidence, Counts, CountsAt, Sighting, passed, expanded, counts, only_nsec, sighting_by, sighting}
 use Rattle.dsec_absence.specs.Tests.{Shown, silent, refutes, denies}
 use Rattle.dsec_absence.specs.Answers.{Search, found, refuted, undecided, by_shown, after_expanded, search}
 
@@ -39,14 +39,14 @@ counts_is class signer e r is = by ((e.group.rtype == NSEC) && (e.group.class ==
           no_expansion = g;
         }
 
-    one : (rs : List Record) → e.group.records ≡ rs → sighting_in e.is_expanded e.group.owner rs ≡ counts r
+    one : (rs : List Record) → e.group.records ≡ rs → sighting_by e.is_expanded e.group.owner (only_nsec rs) ≡ counts r
         → (e.group.rtype == NSEC) && (e.group.class == class) && e.is_secure && same_place e.signer signer ≡ true → Counts class signer e r
     one [] f h tests = absurd cc
     one (only ∷ []) f h tests = said only f (nsec_of only.rdata) refl e.is_expanded refl h tests
     one (first ∷ second ∷ others) f h tests = absurd cc
 
     by : (x : Bool) → (e.group.rtype == NSEC) && (e.group.class == class) && e.is_secure && same_place e.signer signer ≡ x
-        → cond x (sighting_in e.is_expanded e.group.owner e.group.records) passed ≡ counts r → Counts class signer e r
+        → cond x (sighting_by e.is_expanded e.group.owner (only_nsec e.group.records)) passed ≡ counts r → Counts class signer e r
     by true f h = one e.group.records refl h f
     by false f h = absurd cc
 

@@ -60,18 +60,18 @@ pub data Sighting : Type 0 where
   -- it counts, as this record
   counts : NsecAt → Sighting
 
--- by the data of its one record
+-- the data of the one NSEC record: of several none counts, since a name has one (RFC 4034 4)
+abbrev pub only_nsec : List Record → Option Nsec
+only_nsec (only ∷ []) = nsec_of only.rdata
+only_nsec _ = None
+
+-- by these data
 abbrev pub sighting_by : Bool → Labels → Option Nsec → Sighting
 sighting_by is_expanded owner None = passed
 sighting_by is_expanded owner (Some nsec) = if is_expanded then expanded else counts (record { owner = owner; says = nsec })
-
--- by its records: of several, none counts, since a name has one NSEC record
-abbrev pub sighting_in : Bool → Labels → List Record → Sighting
-sighting_in is_expanded owner (only ∷ []) = sighting_by is_expanded owner (nsec_of only.rdata)
-sighting_in is_expanded owner _ = passed
 
 -- what a group is to a denial of this class that this zone signed
 abbrev pub sighting : ℕ → Place → Evidence → Sighting
 sighting class signer e =
     if (e.group.rtype == NSEC) && (e.group.class == class) && e.is_secure && same_place e.signer signer
-    then sighting_in e.is_expanded e.group.owner e.group.records else passed
+    then sighting_by e.is_expanded e.group.owner (only_nsec e.group.records) else passed

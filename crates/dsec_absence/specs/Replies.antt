@@ -17,9 +17,9 @@ use Rattle.dsec_absence.specs.Answers.{Answer, denied, refused, nothing, Source,
 abbrev pub is_set_of : Place → ℕ → ℕ → Group → Bool
 is_set_of n class rtype group = same_place (place group.owner) n && (group.class == class) && (group.rtype == rtype)
 
--- the index of the first group that is the set
-abbrev pub answer_at : Place → ℕ → ℕ → List Group → Option ℕ
-answer_at n class rtype groups = position (is_set_of n class rtype) groups
+-- the index of the first that is the set, among things that are of a group each
+abbrev pub answer_at : {A : Type 0} → Place → ℕ → ℕ → (A → Group) → List A → Option ℕ
+answer_at n class rtype group xs = position (λ x. is_set_of n class rtype (group x)) xs
 
 -- whether a group is an SOA set of the class
 abbrev pub is_soa : ℕ → Group → Bool
@@ -31,19 +31,27 @@ abbrev pub is_soa_for : Option Place → Place → ℕ → Group → Bool
 is_soa_for top n class group = is_soa class group && is_below n (place group.owner) && not (is_above top (place group.owner))
 
 -- the index of the first SOA set that counts for a name whose island this is
-abbrev pub soa_at : Option Place → Place → ℕ → List Group → Option ℕ
-soa_at top n class groups = position (is_soa_for top n class) groups
+abbrev pub soa_at : {A : Type 0} → Option Place → Place → ℕ → (A → Group) → List A → Option ℕ
+soa_at top n class group xs = position (λ x. is_soa_for top n class (group x)) xs
+
+-- whether a group is an SOA set of the class that isn't at or above the name
+abbrev pub is_soa_elsewhere : Place → ℕ → Group → Bool
+is_soa_elsewhere n class group = is_soa class group && not (is_below n (place group.owner))
+
+-- whether a group is an SOA set of another class
+abbrev pub is_other_soa : ℕ → Group → Bool
+is_other_soa class group = (group.rtype == SOA) && not (group.class == class)
 
 -- why none counts: one of the class isn't at or above the name, or else one is of another class; for one above the island no cause is told
-abbrev pub no_soa_cause : Place → ℕ → List Group → Option Cause
-no_soa_cause n class groups =
-    if list_any (λ g. is_soa class g && not (is_below n (place g.owner))) groups then Some SoaWrongName else
-    if list_any (λ g. (g.rtype == SOA) && not (g.class == class)) groups then Some SoaWrongClass else None
+abbrev pub no_soa_cause : {A : Type 0} → Place → ℕ → (A → Group) → List A → Option Cause
+no_soa_cause n class group xs =
+    if list_any (λ x. is_soa_elsewhere n class (group x)) xs then Some SoaWrongName else
+    if list_any (λ x. is_other_soa class (group x)) xs then Some SoaWrongClass else None
 
--- the cause beside the index
-abbrev pub soa_cause : Place → ℕ → List Group → Option ℕ → Option Cause
-soa_cause n class groups (Some index) = None
-soa_cause n class groups None = no_soa_cause n class groups
+-- the cause beside the index: none where a set counts
+abbrev pub soa_cause : {A : Type 0} → Place → ℕ → (A → Group) → List A → Option ℕ → Option Cause
+soa_cause n class group xs (Some index) = None
+soa_cause n class group xs None = no_soa_cause n class group xs
 
 -- what a reply that denies comes to by its NSEC records: it is proved, or not, and why
 pub data Conclusion : Type 0 where
