@@ -40,14 +40,14 @@ missing_found s n i c e =
     (f.0, f.1, missing_shown f.0 n c f.2)
 
 -- nsec_for_nodata: case a
-pub nodata_proves : (s : Source) (n : Place) (q : ℕ) → q < 65536 → (d : Denial ℕ) → nsec_for_nodata s n q ≡ denied d → Proves s n q d
-nodata_proves s n q small d e = by (type_at s n q) refl e
+pub nodata_proves : (s : Source) (n : Place) (q : ℕ) (d : Denial ℕ) → nsec_for_nodata s n q ≡ denied d → Proves s n q d
+nodata_proves s n q d e = by (type_at s n q) refl e
   where
     by : (x : Search (Unit {0})) → type_at s n q ≡ x → type_answer x ≡ denied d → Proves s n q d
     by (found i u) f g =
         let r = type_found s n q i u f in
         let is : no_type i ≡ d = cc in
-        subst (Proves s n q) is (record { records = no_type r.0; read = type_read r.1; denial = laws.type_denied s.signer r.0 n q small r.2 })
+        subst (Proves s n q) is (record { records = no_type r.0; read = type_read r.1; denial = λ small. laws.type_denied s.signer r.0 n q small r.2 })
     by (refuted cause) f g = absurd cc
     by (undecided cause) f g = absurd cc
 
@@ -60,7 +60,7 @@ module _ (s : Source) (n : Place) (within : IsAtOrBelow n s.signer) where
       by (found i c) f g =
           let r = missing_found s n i c f in
           let is : no_closer c i ≡ d = cc in
-          subst (Proves s n q) is (record { records = no_closer c r.0; read = closer_read r.1; denial = laws.closer_denied s.signer n within r.0 c q r.2 })
+          subst (Proves s n q) is (record { records = no_closer c r.0; read = closer_read r.1; denial = λ small. laws.closer_denied s.signer n within r.0 c q r.2 })
       by (refuted cause) f g = absurd cc
       by (undecided cause) f g = absurd cc
 
@@ -72,7 +72,7 @@ module _ (s : Source) (n : Place) (within : IsAtOrBelow n s.signer) where
       same i b f true g h =
           let r = missing_found s n i c (f ∙ let is = (same_place_decides b c).0 g in rw is refl) in
           let is : no_closer c i ≡ d = cc in
-          subst (Proves s n q) is (record { records = no_closer c r.0; read = closer_read r.1; denial = laws.closer_denied s.signer n within r.0 c q r.2 })
+          subst (Proves s n q) is (record { records = no_closer c r.0; read = closer_read r.1; denial = λ small. laws.closer_denied s.signer n within r.0 c q r.2 })
       same i b f false g h = absurd cc
 
       by : (x : Search Place) → missing s n ≡ x → closer_answer c x ≡ denied d → Proves s n q d
@@ -81,8 +81,8 @@ module _ (s : Source) (n : Place) (within : IsAtOrBelow n s.signer) where
       by (undecided cause) f g = absurd cc
 
   -- nsec_for_nodata_wildcard: case c
-  pub nodata_wildcard_proves : (q : ℕ) → q < 65536 → (d : Denial ℕ) → nsec_for_nodata_wildcard s n q ≡ denied d → Proves s n q d
-  nodata_wildcard_proves q small d e = by (missing s n) refl e
+  pub nodata_wildcard_proves : (q : ℕ) (d : Denial ℕ) → nsec_for_nodata_wildcard s n q ≡ denied d → Proves s n q d
+  nodata_wildcard_proves q d e = by (missing s n) refl e
     where
       below : (i : ℕ) (c : Place) → missing s n ≡ found i c → (x : Search (Unit {0})) → type_at s (wildcard c) q ≡ x → type_below c i x ≡ denied d → Proves s n q d
       below i c f (found j u) g h =
@@ -92,7 +92,7 @@ module _ (s : Source) (n : Place) (within : IsAtOrBelow n s.signer) where
           subst (Proves s n q) is (record {
             records = no_type_by_wildcard c r.0 w.0;
             read = wildcard_read r.1 w.1;
-            denial = laws.type_below_denied s.signer n within r.0 w.0 c q small r.2 w.2;
+            denial = λ small. laws.type_below_denied s.signer n within r.0 w.0 c q small r.2 w.2;
           })
       below i c f (refuted cause) g h = absurd cc
       below i c f (undecided cause) g h = absurd cc
@@ -118,7 +118,7 @@ module _ (s : Source) (n : Place) (within : IsAtOrBelow n s.signer) where
           subst (Proves s n q) is (record {
             records = no_name c r.0 w.0;
             read = name_read r.1 w.1;
-            denial = laws.name_denied s.signer n within r.0 w.0 c q r.2 w.2.around.covers w.2.not_above_next;
+            denial = λ small. laws.name_denied s.signer n within r.0 w.0 c q r.2 w.2.around.covers w.2.not_above_next;
           })
       below i c f (refuted cause) g h = absurd cc
       below i c f (undecided cause) g h = absurd cc
@@ -146,11 +146,11 @@ module _ (s : Source) (n : Place) (within : IsAtOrBelow n s.signer) where
   by_answer groups d (nothing cause) e = absurd cc
 
   -- what is proved of a reply is denied by its records
-  pub type_conclusion_proves : (q : ℕ) → q < 65536 → (d : Denial ℕ) → type_denied s n q ≡ proved d → Proves s n q d
-  type_conclusion_proves q small d e =
+  pub type_conclusion_proves : (q : ℕ) (d : Denial ℕ) → type_denied s n q ≡ proved d → Proves s n q d
+  type_conclusion_proves q d e =
       elim (either_answer d (nsec_for_nodata s n q) (nsec_for_nodata_wildcard s n q) (by_answer s.groups d _ e)) [
-        | inl f ↦ nodata_proves s n q small d f
-        | inr f ↦ nodata_wildcard_proves q small d f
+        | inl f ↦ nodata_proves s n q d f
+        | inr f ↦ nodata_wildcard_proves q d f
       ]
 
   pub name_conclusion_proves : (q : ℕ) (d : Denial ℕ) → name_denied s n ≡ proved d → Proves s n q d
@@ -159,6 +159,6 @@ module _ (s : Source) (n : Place) (within : IsAtOrBelow n s.signer) where
   pub closer_conclusion_proves : (c : Place) (q : ℕ) (d : Denial ℕ) → closer_denied s n c ≡ proved d → Proves s n q d
   closer_conclusion_proves c q d e = wildcard_proves c q d (by_answer s.groups d _ e)
 
-  pub conclusion_proves : (no_error : Bool) (q : ℕ) → q < 65536 → (d : Denial ℕ) → denied_at no_error s n q ≡ proved d → Proves s n q d
-  conclusion_proves true q small d e = type_conclusion_proves q small d e
-  conclusion_proves false q small d e = name_conclusion_proves q d e
+  pub conclusion_proves : (no_error : Bool) (q : ℕ) (d : Denial ℕ) → denied_at no_error s n q ≡ proved d → Proves s n q d
+  conclusion_proves true q d e = type_conclusion_proves q d e
+  conclusion_proves false q d e = name_conclusion_proves q d e

@@ -1,5 +1,5 @@
 -- The groups of a reply that may deny, and the NSEC records among them that count (RFC 4035 5.3, 5.4).
-use Rattle.std.specs.Prelude.{◌≡◌, ℕ, ◌==◌, ◌&&◌, List, [], ◌∷◌, slice_get, Bool, true, false, Option, Some, None, if◌then◌else◌}
+use Rattle.std.specs.Prelude.{◌≡◌, ◌<◌, ℕ, ◌==◌, ◌&&◌, List, [], ◌∷◌, slice_get, Bool, true, false, Option, Some, None, if◌then◌else◌}
 use Rattle.dsec_spec.specs.Names.{Labels, Place, same_place}
 use Rattle.dsec_spec.specs.Numbers.{NSEC}
 use Rattle.dsec_spec.specs.Records.{Record}
@@ -44,12 +44,12 @@ pub data AreReadOf (class : ℕ) (signer : Place) (groups : List Evidence) : Den
       → AreReadOf class signer groups (no_type_by_wildcard c i j) (no_type_by_wildcard c r w)
   closer_read : {c : Place} {i : ℕ} {r : NsecAt} → CountsAt class signer groups i r → AreReadOf class signer groups (no_closer c i) (no_closer c r)
 
--- the groups at the indexes count, and their records deny: each is of its place, and each zone with the signer as apex of which they are true
--- owns nothing of what is denied (RFC 4035 5.4)
+-- the groups at the indexes count, and their records deny what is denied of a type of 16 bits: each is of its place, and each zone with the
+-- signer as apex of which they are true owns nothing of it (RFC 1035 3.2.3, RFC 4035 5.4)
 pub record IsProof (class : ℕ) (signer : Place) (groups : List Evidence) (n : Place) (q : ℕ) (d : Denial ℕ) : Type 0 where
   pub records : Denial NsecAt
   pub read : AreReadOf class signer groups d records
-  pub denial : IsDenial signer n q records
+  pub denial : q < 65536 → IsDenial signer n q records
 
 -- what a group is to a denial
 pub data Sighting : Type 0 where

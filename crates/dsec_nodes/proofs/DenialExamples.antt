@@ -2,7 +2,7 @@
 use Rattle.std.proofs.Common.{◌≡◌, ℕ, List, [], ◌∷◌, ◌++◌, length, map, Option, Some, None, Ok, Err, refl}
 use Rattle.std.specs.Prelude.{Result, codes}
 use Rattle.dsec_cause.specs.declared.cause.Cause.TheVariants.{MissingSoa, NsecMatches, NoDenialProof}
-use Rattle.dsec_spec.specs.Names.{Labels, place, asterisk, wire_octets}
+use Rattle.dsec_spec.specs.Names.{Labels, asterisk, wire_octets}
 use Rattle.dsec_spec.specs.RecordData.{labels_in, name_in, blocks_in}
 use Rattle.dsec_spec.specs.Records.{key_octets, rrsig_octets, rrsig_of}
 use Rattle.dsec_spec.specs.Messages.{question_at, record_at, data_at, parts_at, questions_of, answers_of, authorities_of, opt_of, first_opt}
@@ -13,12 +13,11 @@ use Rattle.dsec_spec.specs.Groups.{firsts}
 use Rattle.dsec_spec.specs.Lasting.{least_ttl}
 use Rattle.dsec_spec.specs.Islands.{longest}
 use Rattle.dsec_spec.specs.Redirection as redirection
-use Rattle.dsec_absence.specs.Denials.{Denial, no_type, no_name, no_type_by_wildcard, no_closer}
 use Rattle.dsec_absence.specs.Tests.{common}
 use Rattle.dsec_absence.specs.Answers.{search}
 use Rattle.dsec_nodes.specs.World.{World, Replies}
 use Rattle.dsec_nodes.specs.Causes.{Cause}
-use Rattle.dsec_nodes.specs.Outcomes.{State, secure, bogus, Used, Why, by_groups, by_cause, by_links, by_nothing, Outcome}
+use Rattle.dsec_nodes.specs.Outcomes.{State, secure, bogus, Why, by_groups, by_cause, by_links, by_nothing, Outcome}
 use Rattle.dsec_nodes.specs.Judging.{judged_all}
 use Rattle.dsec_nodes.specs.Alone.{Refusal, alone}
 use Rattle.dsec_nodes.proofs.NodeExamples as nodes
@@ -80,22 +79,16 @@ apex_nsec = signed parent 1 47 (wire_octets parent ++ 0 ∷ 7 ∷ 34 ∷ 0 ∷ 0
 abbrev star_nsec : List ℕ
 star_nsec = signed starred 1 47 (wire_octets parent ++ 0 ∷ 6 ∷ 64 ∷ 0 ∷ 0 ∷ 0 ∷ 0 ∷ 3 ∷ [])
 
--- what is denied, with the indexes of the groups that are used
-abbrev indexes : Denial Used → Denial ℕ
-indexes (no_type own) = no_type own.index
-indexes (no_name c around around_wildcard) = no_name c around.index around_wildcard.index
-indexes (no_type_by_wildcard c around of_wildcard) = no_type_by_wildcard c around.index of_wildcard.index
-indexes (no_closer c around) = no_closer c around.index
+-- the indexes of the groups that denials use
+abbrev used_of : Why → List ℕ
+used_of (by_groups judged used) = map (λ u. u.index) used
+used_of (by_cause signed) = []
+used_of (by_links links) = []
+used_of by_nothing = []
 
-abbrev denials_in : Why → List (Denial ℕ)
-denials_in (by_groups judged denials) = map indexes denials
-denials_in (by_cause signed) = []
-denials_in (by_links links) = []
-denials_in by_nothing = []
-
--- the state, the cause and the denials
-abbrev told : Result Outcome Refusal → Option (State × Option Cause × List (Denial ℕ))
-told (Ok o) = Some (o.state, o.cause, denials_in o.why)
+-- the state, the cause and the groups used
+abbrev told : Result Outcome Refusal → Option (State × Option Cause × List ℕ)
+told (Ok o) = Some (o.state, o.cause, used_of o.why)
 told (Err refusal) = None
 
 -- the address of `a.example.`, an expansion of `*.example.`
@@ -103,7 +96,7 @@ abbrev expanded : List ℕ
 expanded = signed named 1 1 (192 ∷ 0 ∷ 2 ∷ 1 ∷ [])
 
 -- `example. TXT`: the type isn't among the apex's
-type_is_denied : told (alone w 11 replies (message_of 0 0 4 parent 16 (soa ++ apex_nsec))) ≡ Some (secure, None, no_type 1 ∷ [])
+type_is_denied : told (alone w 11 replies (message_of 0 0 4 parent 16 (soa ++ apex_nsec))) ≡ Some (secure, None, 1 ∷ [])
 unfolding longest judged_all search common questions_of answers_of authorities_of many_of question_at record_at data_at parts_at name_at name_within firsts redirection.staying_from rrsig_of name_in labels_in blocks_in signs least_ttl opt_of first_opt
 type_is_denied = refl
 
@@ -113,7 +106,7 @@ unfolding longest judged_all search common questions_of answers_of authorities_o
 type_is_there = refl
 
 -- `a.example. A`: one record is around the name and around the wildcard
-name_is_denied : told (alone w 11 replies (message_of 3 0 4 named 1 (soa ++ apex_nsec))) ≡ Some (secure, None, no_name (place parent) 1 1 ∷ [])
+name_is_denied : told (alone w 11 replies (message_of 3 0 4 named 1 (soa ++ apex_nsec))) ≡ Some (secure, None, 1 ∷ 1 ∷ [])
 unfolding longest judged_all search common questions_of answers_of authorities_of many_of question_at record_at data_at parts_at name_at name_within firsts redirection.staying_from rrsig_of name_in labels_in blocks_in signs least_ttl opt_of first_opt
 name_is_denied = refl
 
@@ -123,12 +116,12 @@ unfolding longest judged_all search common questions_of answers_of authorities_o
 no_soa = refl
 
 -- `a.example. TXT`: the name is missing, and its wildcard hasn't the type
-type_below_is_denied : told (alone w 11 replies (message_of 0 0 4 named 16 (soa ++ star_nsec))) ≡ Some (secure, None, no_type_by_wildcard (place parent) 1 1 ∷ [])
+type_below_is_denied : told (alone w 11 replies (message_of 0 0 4 named 16 (soa ++ star_nsec))) ≡ Some (secure, None, 1 ∷ 1 ∷ [])
 unfolding longest judged_all search common questions_of answers_of authorities_of many_of question_at record_at data_at parts_at name_at name_within firsts redirection.staying_from rrsig_of name_in labels_in blocks_in signs least_ttl opt_of first_opt
 type_below_is_denied = refl
 
 -- `a.example. A`, from the wildcard: a closer name is missing
-wildcard_answers : told (alone w 11 replies (message_of 0 2 2 named 1 (expanded ++ star_nsec))) ≡ Some (secure, None, no_closer (place parent) 0 ∷ [])
+wildcard_answers : told (alone w 11 replies (message_of 0 2 2 named 1 (expanded ++ star_nsec))) ≡ Some (secure, None, 0 ∷ [])
 unfolding longest judged_all search common questions_of answers_of authorities_of many_of question_at record_at data_at parts_at name_at name_within firsts redirection.staying_from rrsig_of name_in labels_in blocks_in signs least_ttl opt_of first_opt
 wildcard_answers = refl
 

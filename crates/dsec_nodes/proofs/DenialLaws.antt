@@ -1,6 +1,7 @@
 -- What a denial uses is as it was judged: each group is shown, by the signer's zone, and its record is what it denies by.
-use Rattle.std.proofs.Common.{◌≡◌, ℕ, Bool, true, false, cond, List, map, Option, Some, None, refl, sym, ap, ◌∙◌, subst}
-use Rattle.std.specs.List.{AllByRecursion}
+use Rattle.std.proofs.Common.{◌≡◌, ℕ, Bool, true, false, cond, List, ◌∷◌, [], map, Option, Some, None, refl, sym, ap, ◌∙◌, subst}
+use Rattle.std.specs.Prelude.{filter_map}
+use Rattle.std.specs.List.{AllByRecursion, cons_option}
 use Rattle.std.proofs.lemmas.Bool.{true≢false, false≢true, and_parts, ltb-true, not-true}
 use Rattle.dsec_spec.specs.Reading.{◌>>=◌}
 use Rattle.dsec_spec.specs.Names.{Labels, Place, place, IsAtOrBelow}
@@ -15,7 +16,7 @@ use Rattle.dsec_spec.specs.JudgedGroups.{encloser_in}
 use Rattle.dsec_spec.proofs.AnsweringLemmas.{no_expansion}
 use Rattle.dsec_spec.proofs.CanonicalNames.{same_place_decides}
 use Rattle.dsec_spec.proofs.ReadingLemmas.{from_bind}
-use Rattle.dsec_absence.specs.Denials.{Denial, no_type, no_name, no_type_by_wildcard, no_closer}
+use Rattle.dsec_absence.specs.Denials.{Denial, no_type, no_name, no_type_by_wildcard, no_closer, used_in}
 use Rattle.dsec_absence.specs.Evidence.{Evidence, Counts, CountsAt, AreReadOf, type_read, name_read, wildcard_read, closer_read}
 use Rattle.dsec_nodes.specs.World.{World}
 use Rattle.dsec_nodes.specs.Signing.{is_expanded}
@@ -97,6 +98,14 @@ evidence_shown w j its secure e = by j.finding refl secure
     by (is_bogus cause links) f s = absurd (false≢true s)
     by is_indeterminate f s = absurd (false≢true s)
 
+-- both deny the same kind of thing, of a closer name under the same one
+abbrev pub IsOfKind : Denial ℕ → Denial Used → Type 0
+IsOfKind (no_type i) (no_type u) = Unit {0}
+IsOfKind (no_name c i k) (no_name e u v) = Unit {0}
+IsOfKind (no_type_by_wildcard c i k) (no_type_by_wildcard e u v) = Unit {0}
+IsOfKind (no_closer c i) (no_closer e u) = c ≡ e
+IsOfKind _ _ = ⊥
+
 -- what fills a place, by its index, as its record
 record UsedAt (w : World) (js : List Judged) (class : ℕ) (signer : Place) (index : ℕ) (r : NsecAt) : Type 0 where
   its : Used
@@ -122,24 +131,33 @@ used_at_is w js class signer index r founds at =
 -- what fills the places of a denial, by their indexes, as their records
 pub record AreUsedBy (w : World) (js : List Judged) (class : ℕ) (signer : Place) (d : Denial ℕ) (r : Denial NsecAt) : Type 0 where
   pub denial : Denial Used
-  pub found : used_by js d ≡ Some denial
+  pub same_kind : IsOfKind d denial
+  pub found : used_by js d ≡ used_in denial
   pub used : AreUsed w (map (λ (j : Judged). j.group) js) class signer denial r
+
+one_found : (js : List Judged) (i : ℕ) (u : Used) → used_at js i ≡ Some u → filter_map (used_at js) (i ∷ []) ≡ u ∷ []
+one_found js i u e = ap (λ (o : Option Used). cons_option o []) e
+
+two_found : (js : List Judged) (i k : ℕ) (u v : Used) → used_at js i ≡ Some u → used_at js k ≡ Some v
+    → filter_map (used_at js) (i ∷ k ∷ []) ≡ u ∷ v ∷ []
+two_found js i k u v e f =
+    ap (λ (o : Option Used). cons_option o (filter_map (used_at js) (k ∷ []))) e ∙ ap (λ (us : List Used). u ∷ us) (one_found js k v f)
 
 pub used_are : (w : World) (js : List Judged) (class : ℕ) (signer : Place) (d : Denial ℕ) (r : Denial NsecAt) → AllByRecursion (IsFound w) js
     → AreReadOf class signer (map evidence_of js) d r → AreUsedBy w js class signer d r
 used_are w js class signer d r founds (type_read {i = i} {r = s} one) =
     let u = used_at_is w js class signer i s founds one in
-    record { denial = no_type u.its; found = ap (λ (o : Option Used). o >>= λ x. Some (no_type x)) u.found; used = type_used u.used }
+    record { denial = no_type u.its; same_kind = tt; found = one_found js i u.its u.found; used = type_used u.used }
 used_are w js class signer d r founds (closer_read {c = c} {i = i} {r = s} one) =
     let u = used_at_is w js class signer i s founds one in
-    record { denial = no_closer c u.its; found = ap (λ (o : Option Used). o >>= λ x. Some (no_closer c x)) u.found; used = closer_used u.used }
+    record { denial = no_closer c u.its; same_kind = refl; found = one_found js i u.its u.found; used = closer_used u.used }
 used_are w js class signer d r founds (name_read {c = c} {i = i} {j = k} {r = s} {w = t} one other) =
     let u = used_at_is w js class signer i s founds one in
     let v = used_at_is w js class signer k t founds other in
     record {
       denial = no_name c u.its v.its;
-      found = ap (λ (o : Option Used). o >>= λ x. used_at js k >>= λ y. Some (no_name c x y)) u.found
-          ∙ ap (λ (o : Option Used). o >>= λ y. Some (no_name c u.its y)) v.found;
+      same_kind = tt;
+      found = two_found js i k u.its v.its u.found v.found;
       used = name_used u.used v.used;
     }
 used_are w js class signer d r founds (wildcard_read {c = c} {i = i} {j = k} {r = s} {w = t} one other) =
@@ -147,7 +165,7 @@ used_are w js class signer d r founds (wildcard_read {c = c} {i = i} {j = k} {r 
     let v = used_at_is w js class signer k t founds other in
     record {
       denial = no_type_by_wildcard c u.its v.its;
-      found = ap (λ (o : Option Used). o >>= λ x. used_at js k >>= λ y. Some (no_type_by_wildcard c x y)) u.found
-          ∙ ap (λ (o : Option Used). o >>= λ y. Some (no_type_by_wildcard c u.its y)) v.found;
+      same_kind = tt;
+      found = two_found js i k u.its v.its u.found v.found;
       used = wildcard_used u.used v.used;
     }

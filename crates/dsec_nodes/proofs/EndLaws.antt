@@ -4,7 +4,6 @@ use Rattle.std.specs.Prelude.{Contains, position, slice_get}
 use Rattle.std.specs.List.{AllByRecursion, list_any}
 use Rattle.std.proofs.Math.Bool.{not}
 use Rattle.std.proofs.lemmas.Bool.{and_parts}
-use Rattle.std.proofs.lemmas.Option.{same_Some}
 use Rattle.dsec_spec.specs.Names.{Labels, Place, place, IsAtOrBelow}
 use Rattle.dsec_spec.specs.Numbers.{ANY}
 use Rattle.dsec_spec.specs.Records.{Record}
@@ -17,14 +16,14 @@ use Rattle.dsec_spec.specs.Sound.{LeadsOn}
 use Rattle.dsec_spec.proofs.Members.{none_passes, from_map}
 use Rattle.dsec_spec.proofs.AnsweringLemmas.{at_question, leads_nowhere}
 use Rattle.dsec_spec.proofs.NamesBelow.{below_trans}
-use Rattle.dsec_absence.specs.Denials.{Denial}
+use Rattle.dsec_absence.specs.Denials.{Denial, used_in}
 use Rattle.dsec_absence.specs.Replies.{soa_at, Conclusion, proved, unproved, closer_denied}
 use Rattle.dsec_absence.proofs.AnswerLaws.{Proves, conclusion_proves, closer_conclusion_proves}
 use Rattle.dsec_nodes.specs.World.{World}
 use Rattle.dsec_nodes.specs.Causes.{NotBuilt}
 use Rattle.dsec_nodes.specs.Judging.{Finding, is_shown, has_no_set, is_insecure, is_bogus, is_indeterminate, Judged}
 use Rattle.dsec_nodes.specs.Outcomes.{secure, Used, Why, by_groups, by_cause, by_links, by_nothing, Outcome, secure_by, by_finding, alias_path, ends_at, ends_bogus}
-use Rattle.dsec_nodes.specs.ByDenial.{source_of, used_by, with_denial, on_conclusion, encloser_of, by_encloser, no_error_in, denied_under, at_soa, by_soa, by_denial}
+use Rattle.dsec_nodes.specs.ByDenial.{source_of, used_by, on_conclusion, encloser_of, by_encloser, no_error_in, denied_under, at_soa, by_soa, by_denial}
 use Rattle.dsec_nodes.specs.Alone.{by_answer, is_answer, at_answer, by_answers, at_name, after_path, at_end}
 use Rattle.dsec_nodes.specs.SoundFindings.{Justifies, IsFound, IsShown}
 use Rattle.dsec_nodes.specs.SoundDenials.{IsSoaFor, AreUsed, IsDeniedBy}
@@ -32,7 +31,7 @@ use Rattle.dsec_nodes.specs.SoundOutcomes.{IsRead, EndsThere, IsAnswered, HasSoa
 use Rattle.dsec_nodes.proofs.Lists.{all_at, from_position}
 use Rattle.dsec_nodes.proofs.Signs.{mapped_at}
 use Rattle.dsec_nodes.proofs.SoaLaws.{soa_is}
-use Rattle.dsec_nodes.proofs.DenialLaws.{shown_group, under_signer, shown_itself, shown_from, used_are}
+use Rattle.dsec_nodes.proofs.DenialLaws.{IsOfKind, shown_group, under_signer, shown_itself, shown_from, used_are}
 use Rattle.dsec_nodes.proofs.RcodeLaws.{from_no_error, by_rcode_is, closer_is, same_closer}
 
 -- what each state means, of an outcome in that state
@@ -44,7 +43,7 @@ pub after_none : (o : Outcome) → after_path secure [] o ≡ o
 after_none o = by o.why
   where
     by : (why : Why) → after_path secure [] (record o { why = why }) ≡ record o { why = why }
-    by (by_groups js denials) = refl
+    by (by_groups js used) = refl
     by (by_cause signed) = refl
     by (by_links links) = refl
     by by_nothing = refl
@@ -74,17 +73,12 @@ finding_justified w most message j its decides where_shown shown = by j.finding 
 
 -- an outcome by a denial beside a group is justified, where it is for what is proved
 conclusion_justified : (w : World) (most : ℕ) (message : List ℕ) (beside : List Judged) (j : Judged) (c : Conclusion)
-    → ((d : Denial ℕ) → c ≡ proved d → (denial : Denial Used) → used_by beside d ≡ Some denial
-    → Means w most message (secure_by (j ∷ []) (denial ∷ [])))
+    → ((d : Denial ℕ) → c ≡ proved d → Means w most message (secure_by (j ∷ []) (used_by beside d)))
     → Means w most message (on_conclusion beside j c)
 conclusion_justified w most message beside j c where_proved = by c refl
   where
-    by_used : (d : Denial ℕ) → c ≡ proved d → (o : Option (Denial Used)) → used_by beside d ≡ o → Means w most message (with_denial j o)
-    by_used d e None f = refl
-    by_used d e (Some denial) f = where_proved d e denial f
-
     by : (x : Conclusion) → c ≡ x → Means w most message (on_conclusion beside j x)
-    by (proved d) e = by_used d e (used_by beside d) refl
+    by (proved d) e = where_proved d e
     by (unproved cause) e = refl
 
 -- what is judged of a message with one question, and was found so
@@ -116,16 +110,24 @@ module _ (w : World) (most : ℕ) (message : List ℕ) (question : Question) (js
   }
 
   -- what is proved of the question's name is denied, by groups that are shown
-  denied_is : (signer : Place) (d : Denial ℕ) (denial : Denial Used) → used_by beside d ≡ Some denial
-      → Proves (source_of question signer beside) name question.rtype d → IsDeniedBy w e.authorities question signer denial
-  denied_is signer d denial f p =
+  record DeniedFrom (signer : Place) (d : Denial ℕ) : Type 0 where
+    denial : Denial Used
+    same_kind : IsOfKind d denial
+    found : used_by beside d ≡ used_in denial
+    denied : IsDeniedBy w e.authorities question signer denial
+
+  denied_is : (signer : Place) (d : Denial ℕ) → Proves (source_of beside question.class signer) name question.rtype d → DeniedFrom signer d
+  denied_is signer d p =
       let u = used_are w beside question.class signer d p.records e.authorities_found p.read in
-      let same : u.denial ≡ denial = same_Some u.denial denial (sym u.found ∙ f) in
       record {
-        records = p.records;
-        used = subst (λ (gs : List Group). AreUsed w gs question.class signer denial p.records) e.authorities_same
-            (subst (λ (x : Denial Used). AreUsed w (map (λ (j : Judged). j.group) beside) question.class signer x p.records) same u.used);
-        denies = p.denial;
+        denial = u.denial;
+        same_kind = u.same_kind;
+        found = u.found;
+        denied = record {
+          records = p.records;
+          used = subst (λ (gs : List Group). AreUsed w gs question.class signer u.denial p.records) e.authorities_same u.used;
+          denies = p.denial;
+        };
       }
 
   -- the outcome by the group that answers
@@ -148,22 +150,22 @@ module _ (w : World) (most : ℕ) (message : List ℕ) (question : Question) (js
 
       by_wildcard_is : (links : List Link) (last : Link) (signature : Record) → j.finding ≡ is_shown links last signature → (encloser : Labels)
           → encloser_of j.group signature ≡ Some encloser → (d : Denial ℕ)
-          → closer_denied (source_of question j.signer beside) name (place encloser) ≡ proved d
-          → (denial : Denial Used) → used_by beside d ≡ Some denial → Means w most message (secure_by (j ∷ []) (denial ∷ []))
-      by_wildcard_is links last signature f encloser g d p denial u =
-          let c = closer_is (source_of question j.signer beside) name (place encloser) d p in
-          let used = same_closer beside (place encloser) c.0 denial (sym (ap (used_by beside) c.1) ∙ u) in
+          → closer_denied (source_of beside question.class j.signer) name (place encloser) ≡ proved d
+          → Means w most message (secure_by (j ∷ []) (used_by beside d))
+      by_wildcard_is links last signature f encloser g d p =
+          let source = source_of beside question.class j.signer in
           let below = under_signer w j (shown_group w j its links last signature f) in
-          let proves = closer_conclusion_proves (source_of question j.signer beside) name (subst (λ (n : Place). IsAtOrBelow n j.signer) answered.at_question.at_name below)
-          (place encloser) question.rtype d p in
-          subst (λ (x : Denial Used). Means w most message (secure_by (j ∷ []) (x ∷ []))) (sym used.1) (
+          let it = denied_is j.signer d (closer_conclusion_proves source name (subst (λ (n : Place). IsAtOrBelow n j.signer) answered.at_question.at_name below) (place encloser) question.rtype d p) in
+          let c = closer_is source name (place encloser) d p in
+          let used = same_closer (place encloser) c.0 it.denial (subst (λ (x : Denial ℕ). IsOfKind x it.denial) c.1 it.same_kind) in
+          subst (λ (us : List Used). Means w most message (secure_by (j ∷ []) us)) (sym (it.found ∙ ap used_in used.1)) (
             inr (inl (record {
               judged = j;
               answered = answered;
               encloser = place encloser;
               expanded = shown_from w j its links last signature f encloser g;
               used = used.0;
-              denied = subst (IsDeniedBy w e.authorities question j.signer) used.1 (denied_is j.signer d denial u proves);
+              denied = subst (IsDeniedBy w e.authorities question j.signer) used.1 it.denied;
               why = refl;
             })),
             refl,
@@ -178,7 +180,7 @@ module _ (w : World) (most : ℕ) (message : List ℕ) (question : Question) (js
             inl (record { judged = j; answered = answered; itself = shown_itself w j its links last signature f g; why = refl }),
             refl,
           )
-          by (Some encloser) g = conclusion_justified w most message beside j (closer_denied (source_of question j.signer beside) name (place encloser))
+          by (Some encloser) g = conclusion_justified w most message beside j (closer_denied (source_of beside question.class j.signer) name (place encloser))
               (by_wildcard_is links last signature f encloser g)
 
   -- the outcome by the SOA set
@@ -202,16 +204,18 @@ module _ (w : World) (most : ℕ) (message : List ℕ) (question : Question) (js
           → Means w most message (on_conclusion beside j (denied_under message question name beside j))
       shown links last signature f =
           let is : IsShown w j = shown_group w j its links last signature f in
-          let source = source_of question j.signer beside in
+          let source = source_of beside question.class j.signer in
           let below : IsAtOrBelow name j.signer = below_trans name (place j.group.owner) j.signer soa.over (under_signer w j is) in
-          conclusion_justified w most message beside j (denied_under message question name beside j) (λ d p denial u. (
+          conclusion_justified w most message beside j (denied_under message question name beside j) (λ d p.
+          let it = denied_is j.signer d (conclusion_proves source name below (no_error_in (rcode_of message)) question.rtype d p) in
+          subst (λ (us : List Used). Means w most message (secure_by (j ∷ []) us)) (sym it.found) (
             inr (inr (record {
               judged = j;
               has_soa = has_soa;
               shown = is;
-              denial = denial;
-              by_rcode = by_rcode_is (rcode_of message) source name question.rtype beside d denial p u;
-              denied = λ small. denied_is j.signer d denial u (conclusion_proves source name below (no_error_in (rcode_of message)) question.rtype small d p);
+              denial = it.denial;
+              by_rcode = by_rcode_is (rcode_of message) source name question.rtype d it.denial p it.same_kind;
+              denied = it.denied;
               why = refl;
             })),
             refl,
@@ -219,17 +223,14 @@ module _ (w : World) (most : ℕ) (message : List ℕ) (question : Question) (js
 
   -- the outcome by a denial
   denial_justified : Means w most message (by_denial w message question name beside)
-  denial_justified = by (soa_at (island w.anchors name question.rtype) name question.class groups) refl
+  denial_justified = by (soa_at (island w.anchors name question.rtype) name question.class (λ (x : Judged). x.group) beside) refl
     where
-      groups : List Group
-      groups = map (λ (j : Judged). j.group) beside
-
-      at : (index : ℕ) → soa_at (island w.anchors name question.rtype) name question.class groups ≡ Some index → (o : Option Judged)
-          → slice_get beside index ≡ o → Means w most message (at_soa w message question name beside o)
+      at : (index : ℕ) → soa_at (island w.anchors name question.rtype) name question.class (λ (x : Judged). x.group) beside ≡ Some index
+          → (o : Option Judged) → slice_get beside index ≡ o → Means w most message (at_soa w message question name beside o)
       at index g None h = refl
-      at index g (Some j) h = soa_justified index j h (soa_is w question groups index j.group g (mapped_at (λ (x : Judged). x.group) beside index j h))
+      at index g (Some j) h = soa_justified index j h (soa_is w question beside index j g h)
 
-      by : (o : Option ℕ) → soa_at (island w.anchors name question.rtype) name question.class groups ≡ o
+      by : (o : Option ℕ) → soa_at (island w.anchors name question.rtype) name question.class (λ (x : Judged). x.group) beside ≡ o
           → Means w most message (by_soa w message question name beside o)
       by None g = refl
       by (Some index) g = at index g (slice_get beside index) refl

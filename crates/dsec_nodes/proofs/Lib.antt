@@ -20,9 +20,9 @@ pub mod RunLaws
 pub mod ShownLaws
 pub mod UnsignedLaws
 pub mod JudgingLaws
-pub mod RcodeLaws
 pub mod SoaLaws
 pub mod DenialLaws
+pub mod RcodeLaws
 pub mod EndLaws
 pub mod OutcomeLaws
 pub mod QuestionLaws

@@ -6,10 +6,11 @@ use Rattle.std.proofs.lemmas.List.Elements.{All-drop}
 use Rattle.dsec_spec.specs.Reading.{u16_in, u16_at, many_of}
 use Rattle.dsec_spec.specs.WireNames.{name_at}
 use Rattle.dsec_spec.specs.Messages.{Question, question_at, header_of, questions_of}
+use Rattle.dsec_spec.specs.Names.{place}
 use Rattle.dsec_spec.proofs.ReadingLemmas.{from_bind}
+use Rattle.dsec_absence.specs.Denials.{IsDenial}
 use Rattle.dsec_nodes.specs.World.{World}
 use Rattle.dsec_nodes.specs.Outcomes.{Outcome}
-use Rattle.dsec_nodes.specs.SoundDenials.{IsDeniedBy}
 use Rattle.dsec_nodes.specs.SoundOutcomes.{IsSecureDenial}
 
 two_octets : (octets : List ℕ) (n : ℕ) → All (λ o. o < 256) octets → u16_in octets ≡ Some n → n < 65536
@@ -49,8 +50,8 @@ type_is_small message question end h e =
     let header = from_bind (header_of message) _ (question ∷ [], end) e in
     first_type message header.0.questions 12 question end h header.2
 
--- so what a message of octets denies is denied by the groups that are used
+-- so in each zone of which the records are true that a message of octets uses, nothing is owned that it denies
 pub denial_holds : (w : World) (most : ℕ) (message : List ℕ) (o : Outcome) (d : IsSecureDenial w most message o) → All (λ x. x < 256) message
-    → IsDeniedBy w d.has_soa.end.authorities d.has_soa.end.question d.judged.signer d.denial
+    → IsDenial d.judged.signer (place d.has_soa.end.question.name) d.has_soa.end.question.rtype d.denied.records
 denial_holds w most message o d h =
-    let read = d.has_soa.end.read in d.denied (type_is_small message d.has_soa.end.question read.questions_end h read.asked)
+    let read = d.has_soa.end.read in d.denied.denies (type_is_small message d.has_soa.end.question read.questions_end h read.asked)

@@ -1,19 +1,16 @@
 -- What a reply denies is of the kind that its rcode says, and stays it with the groups that its denial uses (RFC 2308 2).
 use Rattle.std.proofs.Common.{◌≡◌, ℕ, Bool, true, false, cond, List, Option, Some, None, refl, sym, ap, ◌∙◌, subst}
 use Rattle.std.proofs.lemmas.Bool.{false≢true, eqb-true, false_from_ne_true}
-use Rattle.std.proofs.lemmas.Option.{same_Some}
 use Rattle.dsec_cause.specs.declared.cause.Cause.TheVariants.{WildcardElsewhere}
 use Rattle.dsec_spec.specs.Names.{Place, same_place}
-use Rattle.dsec_spec.specs.Reading.{◌>>=◌}
-use Rattle.dsec_spec.proofs.ReadingLemmas.{from_bind}
 use Rattle.dsec_absence.specs.Denials.{Denial, no_type, no_name, no_type_by_wildcard, no_closer}
 use Rattle.dsec_absence.specs.Evidence.{Evidence}
 use Rattle.dsec_absence.specs.Answers.{Search, found, refuted, undecided, Answer, denied, refused, nothing, Source, type_at, missing, star_closest_encloser, nsec_for_nodata, nsec_for_nodata_wildcard, nsec_for_nxdomain, type_answer, type_below, type_by_star, type_by_encloser, name_below, name_by_star, name_by_encloser, closer_answer, not_exists_for_wildcard}
 use Rattle.dsec_absence.specs.Replies.{proved, concluded, then_answer, type_denied, name_denied, closer_denied, denied_at}
-use Rattle.dsec_nodes.specs.Judging.{Judged}
 use Rattle.dsec_nodes.specs.Outcomes.{Used}
-use Rattle.dsec_nodes.specs.ByDenial.{used_at, used_by, no_error_in}
+use Rattle.dsec_nodes.specs.ByDenial.{no_error_in}
 use Rattle.dsec_nodes.specs.SoundDenials.{IsOfType, IsOfName, IsByRcode}
+use Rattle.dsec_nodes.proofs.DenialLaws.{IsOfKind}
 
 -- what an answer that denies denies
 abbrev Denied : (Denial ℕ → Type 0) → Answer → Type 0
@@ -93,41 +90,44 @@ closer_is s n c d e = from_concluded Is s.groups (not_exists_for_wildcard s n c)
     there (refuted cause) = tt
     there (undecided cause) = tt
 
--- the same with the groups at its indexes
-same_type : (js : List Judged) (d : Denial ℕ) (denial : Denial Used) → used_by js d ≡ Some denial → IsOfType d → IsOfType denial
-same_type js (no_type i) denial e is =
-    let u = from_bind (used_at js i) (λ (x : Used). Some (no_type x)) denial e in subst IsOfType (same_Some _ _ u.2) tt
-same_type js (no_name c i k) denial e is = absurd is
-same_type js (no_closer c i) denial e is = absurd is
-same_type js (no_type_by_wildcard c i k) denial e is =
-    let u = from_bind (used_at js i) (λ (x : Used). used_at js k >>= λ y. Some (no_type_by_wildcard c x y)) denial e in
-    let v = from_bind (used_at js k) (λ (y : Used). Some (no_type_by_wildcard c u.0 y)) denial u.2 in
-    subst IsOfType (same_Some _ _ v.2) tt
+-- the same with the groups that fill its places
+same_type : (d : Denial ℕ) (denial : Denial Used) → IsOfKind d denial → IsOfType d → IsOfType denial
+same_type (no_type i) (no_type u) k is = tt
+same_type (no_type_by_wildcard c i j) (no_type_by_wildcard e u v) k is = tt
+same_type (no_name c i j) denial k is = absurd is
+same_type (no_closer c i) denial k is = absurd is
+same_type (no_type i) (no_name e u v) k is = absurd k
+same_type (no_type i) (no_type_by_wildcard e u v) k is = absurd k
+same_type (no_type i) (no_closer e u) k is = absurd k
+same_type (no_type_by_wildcard c i j) (no_type u) k is = absurd k
+same_type (no_type_by_wildcard c i j) (no_name e u v) k is = absurd k
+same_type (no_type_by_wildcard c i j) (no_closer e u) k is = absurd k
 
-same_name : (js : List Judged) (d : Denial ℕ) (denial : Denial Used) → used_by js d ≡ Some denial → IsOfName d → IsOfName denial
-same_name js (no_type i) denial e is = absurd is
-same_name js (no_type_by_wildcard c i k) denial e is = absurd is
-same_name js (no_closer c i) denial e is = absurd is
-same_name js (no_name c i k) denial e is =
-    let u = from_bind (used_at js i) (λ (x : Used). used_at js k >>= λ y. Some (no_name c x y)) denial e in
-    let v = from_bind (used_at js k) (λ (y : Used). Some (no_name c u.0 y)) denial u.2 in
-    subst IsOfName (same_Some _ _ v.2) tt
+same_name : (d : Denial ℕ) (denial : Denial Used) → IsOfKind d denial → IsOfName d → IsOfName denial
+same_name (no_name c i j) (no_name e u v) k is = tt
+same_name (no_type i) denial k is = absurd is
+same_name (no_type_by_wildcard c i j) denial k is = absurd is
+same_name (no_closer c i) denial k is = absurd is
+same_name (no_name c i j) (no_type u) k is = absurd k
+same_name (no_name c i j) (no_type_by_wildcard e u v) k is = absurd k
+same_name (no_name c i j) (no_closer e u) k is = absurd k
 
-pub same_closer : (js : List Judged) (c : Place) (i : ℕ) (denial : Denial Used) → used_by js (no_closer c i) ≡ Some denial
-    → (u : Used) × (denial ≡ no_closer c u)
-same_closer js c i denial e =
-    let u = from_bind (used_at js i) (λ (x : Used). Some (no_closer c x)) denial e in (u.0, sym (same_Some _ _ u.2))
+pub same_closer : (c : Place) (i : ℕ) (denial : Denial Used) → IsOfKind (no_closer c i) denial → (u : Used) × (denial ≡ no_closer c u)
+same_closer c i (no_closer e u) k = (u, ap (λ (x : Place). no_closer x u) (sym k))
+same_closer c i (no_type u) k = absurd k
+same_closer c i (no_name e u v) k = absurd k
+same_closer c i (no_type_by_wildcard e u v) k = absurd k
 
 pub from_no_error : (o : Option ℕ) → no_error_in o ≡ true → o ≡ Some 0
 from_no_error None e = absurd (false≢true e)
 from_no_error (Some n) e = ap (λ (k : ℕ). Some k) (eqb-true n 0 e)
 
 -- what is denied is of the rcode's kind
-pub by_rcode_is : (rcode : Option ℕ) (s : Source) (n : Place) (q : ℕ) (js : List Judged) (d : Denial ℕ) (denial : Denial Used)
-    → denied_at (no_error_in rcode) s n q ≡ proved d → used_by js d ≡ Some denial → IsByRcode rcode denial
-by_rcode_is rcode s n q js d denial e u = record {
-  no_error = λ fine. same_type js d denial u (type_is s n q d (sym (ap (λ (o : Option ℕ). denied_at (no_error_in o) s n q) fine) ∙ e));
+pub by_rcode_is : (rcode : Option ℕ) (s : Source) (n : Place) (q : ℕ) (d : Denial ℕ) (denial : Denial Used)
+    → denied_at (no_error_in rcode) s n q ≡ proved d → IsOfKind d denial → IsByRcode rcode denial
+by_rcode_is rcode s n q d denial e k = record {
+  no_error = λ fine. same_type d denial k (type_is s n q d (sym (ap (λ (o : Option ℕ). denied_at (no_error_in o) s n q) fine) ∙ e));
   error = λ bad.
       let off : no_error_in rcode ≡ false = false_from_ne_true (no_error_in rcode) (λ t. bad (from_no_error rcode t)) in
-      same_name js d denial u (name_is s n d (sym (ap (λ (b : Bool). denied_at b s n q) off) ∙ e));
+      same_name d denial k (name_is s n d (sym (ap (λ (b : Bool). denied_at b s n q) off) ∙ e));
 }

@@ -7,7 +7,6 @@ use Rattle.dsec_spec.specs.Names.{Place, place, is_below, IsAtOrBelow, IsStrictl
 use Rattle.dsec_spec.specs.Numbers.{SOA}
 use Rattle.dsec_spec.specs.Records.{Record}
 use Rattle.dsec_spec.specs.Messages.{Question}
-use Rattle.dsec_spec.specs.Groups.{Group}
 use Rattle.dsec_spec.specs.Islands.{looked_for_at, longest, island, is_above}
 use Rattle.dsec_spec.specs.Sound.{IsIsland}
 use Rattle.dsec_spec.proofs.IslandLemmas.{island_is, one_looked_for}
@@ -16,6 +15,7 @@ use Rattle.dsec_spec.proofs.NamesBelow.{below_antisymm}
 use Rattle.dsec_spec.proofs.SignedTests.{below_decides, strictly_below_decides}
 use Rattle.dsec_absence.specs.Replies.{is_soa_for, soa_at}
 use Rattle.dsec_nodes.specs.World.{World}
+use Rattle.dsec_nodes.specs.Judging.{Judged}
 use Rattle.dsec_nodes.specs.SoundDenials.{IsSoaFor}
 use Rattle.dsec_nodes.proofs.Lists.{from_position}
 
@@ -61,19 +61,19 @@ not_over anchors name rtype p e top i below =
     true≢false (sym above ∙ not-true (is_above (island anchors name rtype) p) e)
 
 -- the SOA set at the index that is found counts (RFC 2308 2.1)
-pub soa_is : (w : World) (question : Question) (groups : List Group) (index : ℕ) (group : Group)
-    → soa_at (island w.anchors (place question.name) question.rtype) (place question.name) question.class groups ≡ Some index
-    → slice_get groups index ≡ Some group → IsSoaFor w question group
-soa_is w question groups index group e stands =
+pub soa_is : (w : World) (question : Question) (js : List Judged) (index : ℕ) (j : Judged)
+    → soa_at (island w.anchors (place question.name) question.rtype) (place question.name) question.class (λ (x : Judged). x.group) js ≡ Some index
+    → slice_get js index ≡ Some j → IsSoaFor w question j.group
+soa_is w question js index j e stands =
     let n : Place = place question.name in
     let top = island w.anchors n question.rtype in
-    let passes = from_position (is_soa_for top n question.class) groups index group e stands in
+    let passes = from_position (λ (x : Judged). is_soa_for top n question.class x.group) js index j e stands in
     let parts = and_parts _ _ passes in
     let front = and_parts _ _ parts.0 in
     let both = and_parts _ _ front.0 in
     record {
-      of_type = eqb-true group.rtype SOA both.0;
-      of_class = eqb-true group.class question.class both.1;
-      over = (below_decides n (place group.owner)).0 front.1;
-      in_island = not_over w.anchors n question.rtype (place group.owner) parts.1;
+      of_type = eqb-true j.group.rtype SOA both.0;
+      of_class = eqb-true j.group.class question.class both.1;
+      over = (below_decides n (place j.group.owner)).0 front.1;
+      in_island = not_over w.anchors n question.rtype (place j.group.owner) parts.1;
     }

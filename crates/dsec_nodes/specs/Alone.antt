@@ -54,7 +54,7 @@ map_maybe_secure found maybe = found
 
 -- why, with the groups of the aliases before it (RFC 1034 3.6.2)
 abbrev pub why_after : List Judged → Why → Why
-why_after steps (by_groups js denials) = by_groups (steps ++ js) denials
+why_after steps (by_groups js used) = by_groups (steps ++ js) used
 why_after steps (by_cause signed) = by_cause signed
 why_after steps (by_links links) = by_links links
 why_after steps by_nothing = by_nothing

@@ -1,5 +1,5 @@
 -- What a message comes to where it denies a name or a type, and where it answers from a wildcard (RFC 2308 2, RFC 4035 5.3.4, 5.4).
-use Rattle.std.specs.Prelude.{ℕ, ◌==◌, List, [], ◌∷◌, map, slice_get, Bool, true, false, Option, Some, None, unwrap_or}
+use Rattle.std.specs.Prelude.{ℕ, ◌==◌, List, [], ◌∷◌, map, filter_map, slice_get, Bool, true, false, Option, Some, None, unwrap_or}
 use Rattle.dsec_spec.specs.Reading.{◌>>=◌}
 use Rattle.dsec_spec.specs.Names.{Labels, Place, place}
 use Rattle.dsec_spec.specs.Records.{Record, rrsig_of}
@@ -7,7 +7,7 @@ use Rattle.dsec_spec.specs.Messages.{Question, rcode_of}
 use Rattle.dsec_spec.specs.Groups.{Group}
 use Rattle.dsec_spec.specs.JudgedGroups.{encloser_in}
 use Rattle.dsec_spec.specs.Islands.{island}
-use Rattle.dsec_absence.specs.Denials.{Denial, no_type, no_name, no_type_by_wildcard, no_closer}
+use Rattle.dsec_absence.specs.Denials.{Denial, used_in}
 use Rattle.dsec_absence.specs.Evidence.{Evidence}
 use Rattle.dsec_absence.specs.Answers.{Source}
 use Rattle.dsec_absence.specs.Replies.{soa_at, no_soa_cause, Conclusion, proved, unproved, denied_at, closer_denied}
@@ -37,9 +37,9 @@ expands group is_indeterminate = false
 abbrev pub evidence_of : Judged → Evidence
 evidence_of j = record { group = j.group; signer = j.signer; is_secure = is_secure j.finding; is_expanded = expands j.group j.finding }
 
--- among judged groups, the denials of the question's class that a zone has signed (RFC 4035 5.4)
-abbrev pub source_of : Question → Place → List Judged → Source
-source_of question signer authorities = record { class = question.class; signer = signer; groups = map evidence_of authorities }
+-- among judged groups, the denials of a class that a zone has signed (RFC 4035 5.4)
+abbrev pub source_of : List Judged → ℕ → Place → Source
+source_of groups class signer = record { class = class; signer = signer; groups = map evidence_of groups }
 
 -- the judged group at an index, with the index
 abbrev pub used_at : List Judged → ℕ → Option Used
@@ -47,31 +47,13 @@ used_at authorities index = do
   j ← slice_get authorities index
   Some (record { index = index; judged = j })
 
--- a denial by the judged groups at its indexes
-abbrev pub used_by : List Judged → Denial ℕ → Option (Denial Used)
-used_by authorities (no_type own) = do
-  u ← used_at authorities own
-  Some (no_type u)
-used_by authorities (no_name encloser around around_wildcard) = do
-  u ← used_at authorities around
-  v ← used_at authorities around_wildcard
-  Some (no_name encloser u v)
-used_by authorities (no_type_by_wildcard encloser around of_wildcard) = do
-  u ← used_at authorities around
-  v ← used_at authorities of_wildcard
-  Some (no_type_by_wildcard encloser u v)
-used_by authorities (no_closer encloser around) = do
-  u ← used_at authorities around
-  Some (no_closer encloser u)
+-- the judged groups that a denial uses, in the order of its places
+abbrev pub used_by : List Judged → Denial ℕ → List Used
+used_by authorities denial = filter_map (used_at authorities) (used_in denial)
 
--- the outcome by a group that is shown and a denial beside it (RFC 4033 5)
-abbrev pub with_denial : Judged → Option (Denial Used) → Outcome
-with_denial j None = not_built
-with_denial j (Some denial) = secure_by (j ∷ []) (denial ∷ [])
-
--- the outcome by a group that is shown, where what it needs to be denied is proved or isn't (RFC 4035 5.4)
+-- the outcome by a group that is shown: Secure where what it needs to be denied is proved (RFC 4035 5.4)
 abbrev pub on_conclusion : List Judged → Judged → Conclusion → Outcome
-on_conclusion authorities j (proved denial) = with_denial j (used_by authorities denial)
+on_conclusion authorities j (proved denial) = secure_by (j ∷ []) (used_by authorities denial)
 on_conclusion authorities j (unproved cause) = bogus_by cause by_nothing
 
 -- the closest encloser of an expansion of a wildcard, by a signature of the group; none where it isn't one (RFC 4035 5.3.4)
@@ -81,7 +63,7 @@ encloser_of group signature = rrsig_of signature.rdata >>= λ sig. encloser_in s
 -- the outcome by a set that is shown as an expansion of the wildcard under this name, by a denial of a closer one (RFC 4035 5.3.4)
 abbrev pub by_wildcard : World → Question → Place → List Judged → Judged → Labels → Outcome
 by_wildcard w question name authorities j encloser =
-    on_conclusion authorities j (closer_denied (source_of question j.signer authorities) name (place encloser))
+    on_conclusion authorities j (closer_denied (source_of authorities question.class j.signer) name (place encloser))
 
 -- the outcome by a set that is shown: Secure by itself, unless it is an expansion of a wildcard (RFC 4033 5, RFC 4035 5.3.4)
 abbrev pub by_encloser : World → Question → Place → List Judged → Judged → Option Labels → Outcome
@@ -96,7 +78,7 @@ no_error_in (Some rcode) = rcode == 0
 -- what is denied of a name by the denials that the SOA set's zone has signed: without an error the type, and else the name (RFC 2308 2)
 abbrev pub denied_under : List ℕ → Question → Place → List Judged → Judged → Conclusion
 denied_under message question name authorities soa =
-    denied_at (no_error_in (rcode_of message)) (source_of question soa.signer authorities) name question.rtype
+    denied_at (no_error_in (rcode_of message)) (source_of authorities question.class soa.signer) name question.rtype
 
 -- the outcome by the SOA set at an index; where none counts, bogus, and why none does (RFC 2308 2.1, 2.2, RFC 4035 5.4)
 abbrev pub at_soa : World → List ℕ → Question → Place → List Judged → Option Judged → Outcome
@@ -106,11 +88,11 @@ at_soa w message question name authorities (Some soa) =
 
 abbrev pub by_soa : World → List ℕ → Question → Place → List Judged → Option ℕ → Outcome
 by_soa w message question name authorities None =
-    bogus_by (unwrap_or (no_soa_cause name question.class (map (λ j. j.group) authorities)) MissingSoa) by_nothing
+    bogus_by (unwrap_or (no_soa_cause name question.class (λ j. j.group) authorities) MissingSoa) by_nothing
 by_soa w message question name authorities (Some index) = at_soa w message question name authorities (slice_get authorities index)
 
 -- the outcome by the first SOA set that counts, of a zone that the name may be in (RFC 2308 2.1, 2.2, RFC 4035 5.4)
 abbrev pub by_denial : World → List ℕ → Question → Place → List Judged → Outcome
 by_denial w message question name authorities =
     by_soa w message question name authorities
-    (soa_at (island w.anchors name question.rtype) name question.class (map (λ j. j.group) authorities))
+    (soa_at (island w.anchors name question.rtype) name question.class (λ j. j.group) authorities)

@@ -6,7 +6,6 @@ use Rattle.dsec_spec.specs.Records.{Record}
 use Rattle.dsec_spec.specs.Messages.{Question}
 use Rattle.dsec_spec.specs.Answering.{leads_on}
 use Rattle.dsec_spec.specs.Chain as chain
-use Rattle.dsec_absence.specs.Denials.{Denial}
 use Rattle.dsec_nodes.specs.World.{World}
 use Rattle.dsec_nodes.specs.Causes.{Cause, RrsigWithoutRrset, NoTrustAnchor, NotBuilt}
 use Rattle.dsec_nodes.specs.Nodes.{SignedCause}
@@ -24,10 +23,10 @@ pub record Used : Type 0 where
   pub index : ℕ
   pub judged : Judged
 
--- why a state was found: by judged groups, and by the denials beside them, each in order; by a signed cause; by the links to a zone; or by
--- none of these (RFC 4033 5, RFC 4035 5.4)
+-- why a state was found: by judged groups, and by the groups that denials beside them use, each in order; by a signed cause; by the links to a
+-- zone; or by none of these (RFC 4033 5, RFC 4035 5.4)
 pub data Why : Type 0 where
-  by_groups : List Judged → List (Denial Used) → Why
+  by_groups : List Judged → List Used → Why
   by_cause : SignedCause → Why
   by_links : List chain.Link → Why
   by_nothing : Why
@@ -39,8 +38,8 @@ pub record Outcome : Type 0 where
   pub why : Why
 
 -- a secure outcome (RFC 4033 5)
-abbrev pub secure_by : List Judged → List (Denial Used) → Outcome
-secure_by judged denials = record { state = secure; cause = None; why = by_groups judged denials }
+abbrev pub secure_by : List Judged → List Used → Outcome
+secure_by judged used = record { state = secure; cause = None; why = by_groups judged used }
 
 -- a bogus outcome (RFC 4033 5)
 abbrev pub bogus_by : Cause → Why → Outcome

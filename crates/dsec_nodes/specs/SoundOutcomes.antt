@@ -1,5 +1,5 @@
 -- What each outcome of a message means: what was read, which group decides, what is shown of it, and what is denied (RFC 4033 5, RFC 4035 5).
-use Rattle.std.specs.Prelude.{◌≡◌, ◌⊎◌, ◌<◌, ℕ, IsSome, List, [], ◌∷◌, Contains, slice_get, Some, None}
+use Rattle.std.specs.Prelude.{◌≡◌, ◌⊎◌, ℕ, IsSome, List, [], ◌∷◌, Contains, slice_get, Some, None}
 use Rattle.dsec_spec.specs.Names.{Place, place}
 use Rattle.dsec_spec.specs.Records.{Record}
 use Rattle.dsec_spec.specs.Messages.{Question, questions_of, answers_of, authorities_of, rcode_of}
@@ -7,7 +7,7 @@ use Rattle.dsec_spec.specs.Groups.{Group, groups_of}
 use Rattle.dsec_spec.specs.Islands.{island}
 use Rattle.dsec_spec.specs.Redirection.{moved}
 use Rattle.dsec_spec.specs.Sound.{IsAtQuestion, LeadsOn}
-use Rattle.dsec_absence.specs.Denials.{Denial, no_closer}
+use Rattle.dsec_absence.specs.Denials.{Denial, no_closer, used_in}
 use Rattle.dsec_nodes.specs.World.{World}
 use Rattle.dsec_nodes.specs.Causes.{RrsigWithoutRrset, NoTrustAnchor}
 use Rattle.dsec_nodes.specs.Nodes.{SignedCause}
@@ -72,18 +72,17 @@ pub record IsSecureByWildcard (w : World) (most : ℕ) (message : List ℕ) (o :
   pub expanded : IsShownFrom w judged encloser
   pub used : Used
   pub denied : IsDeniedBy w answered.end.authorities answered.end.question judged.signer (no_closer encloser used)
-  pub why : o.why ≡ by_groups (judged ∷ []) (no_closer encloser used ∷ [])
+  pub why : o.why ≡ by_groups (judged ∷ []) (used ∷ [])
 
--- or they show the SOA set by which the message denies, and the type, one of 16 bits as all are, or with an error the name, is denied
--- (RFC 1035 3.2.3, RFC 2308 2, RFC 4035 5.4)
+-- or they show the SOA set by which the message denies, and the type, or with an error the name, is denied (RFC 2308 2, RFC 4035 5.4)
 pub record IsSecureDenial (w : World) (most : ℕ) (message : List ℕ) (o : Outcome) : Type 0 where
   pub judged : Judged
   pub has_soa : HasSoa w most message judged.group
   pub shown : IsShown w judged
   pub denial : Denial Used
   pub by_rcode : IsByRcode (rcode_of message) denial
-  pub denied : has_soa.end.question.rtype < 65536 → IsDeniedBy w has_soa.end.authorities has_soa.end.question judged.signer denial
-  pub why : o.why ≡ by_groups (judged ∷ []) (denial ∷ [])
+  pub denied : IsDeniedBy w has_soa.end.authorities has_soa.end.question judged.signer denial
+  pub why : o.why ≡ by_groups (judged ∷ []) (used_in denial)
 
 -- a Secure outcome is one of these, and no cause is told (RFC 4033 5)
 abbrev pub IsSound : World → ℕ → List ℕ → Outcome → Type 0
