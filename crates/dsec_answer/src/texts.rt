@@ -62,7 +62,13 @@ fn push_judged<V: Verifier>(
     ensures { OnOk result (out.new.items ≡ out.old.items ++ outcome_text index (Ok verdict.now)) }
 {
     let outcome = verdict.outcome();
-    push_verdict(out, index, outcome.state(), outcome.cause(), verdict.questions())?;
+    push_verdict(
+        out,
+        index,
+        outcome.state(),
+        outcome.cause(),
+        verdict.questions(),
+    )?;
     push_why(alloc, out, index, outcome.state(), outcome.why())
 }
 
@@ -194,12 +200,7 @@ fn push_group<V: Verifier>(
 }
 
 /// Adds the lines of links, and of one more.
-fn push_shown(
-    out: &mut Vec<u8>,
-    index: u64,
-    links: &[Link],
-    last: &Link,
-) -> Result<(), NoMemory>
+fn push_shown(out: &mut Vec<u8>, index: u64, links: &[Link], last: &Link) -> Result<(), NoMemory>
     ensures { OnOk result (out.new.items ≡ out.old.items ++ flat_map (λ link. link_line index link) (links.now ++ last.now ∷ [])) }
 {
     push_links(out, index, links)?;

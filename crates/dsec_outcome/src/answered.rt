@@ -38,11 +38,7 @@ pub(crate) fn answered<V: Verifier>(
 }
 
 /// The closest encloser of an expansion of a wildcard, by what the signature counts; none where the group isn't one.
-fn encloser_of(
-    alloc: Global,
-    group: &Group,
-    signature: &Record,
-) -> Result<Option<Name>, NoMemory>
+fn encloser_of(alloc: Global, group: &Group, signature: &Record) -> Result<Option<Name>, NoMemory>
     requires { signature.now.rtype ≡ RRSIG }
     ensures { IfOk result (λ encloser. encloser ≡ encloser_in group.now signature.now) }
 {
@@ -68,8 +64,14 @@ fn by_wildcard<V: Verifier>(
 {
     let signer = judged.signer_name(alloc)?;
     let (name, class) = (question.qname(), question.qclass());
-    let (_, _, cause, used) =
-        check_not_exists_for_wildcard(alloc, name, authorities, class, &signer, encloser)?;
+    let (_, _, cause, used) = check_not_exists_for_wildcard(
+        alloc,
+        name,
+        authorities,
+        class,
+        &signer,
+        encloser,
+    )?;
     match cause {
         None => {
             let used = used_by(alloc, authorities, used.as_slice())?;
