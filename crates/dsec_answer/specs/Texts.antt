@@ -69,11 +69,14 @@ used_lines index is_indeterminate = []
 abbrev pub is_among : ℕ → List Used → Bool
 is_among index used = list_any (λ u. u.index == index) used
 
--- the lines of used groups, each where it is used first: one that was used before has none
+-- the lines of a used group: it has none where it was used before
+abbrev pub first_lines : ℕ → List Used → Used → List ℕ
+first_lines index before u = if is_among u.index before then [] else used_lines index u.judged.finding
+
+-- the lines of used groups after others, each where it is used first
 unfoldable pub used_groups_lines : ℕ → List Used → List Used → List ℕ
 used_groups_lines index before [] = []
-used_groups_lines index before (u ∷ used) =
-    (if is_among u.index before then [] else used_lines index u.judged.finding) ++ used_groups_lines index (before ++ u ∷ []) used
+used_groups_lines index before (u ∷ used) = first_lines index before u ++ used_groups_lines index (before ++ u ∷ []) used
 
 -- the lines of judged groups, and of those that denials beside them use
 abbrev pub lines_by : ℕ → Why → List ℕ

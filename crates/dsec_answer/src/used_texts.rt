@@ -1,7 +1,7 @@
 //! What is written for the groups that denials use.
 
 ghost use Rattle.std.specs.Prelude.{◌≡◌, ◌++◌, [], OnOk};
-ghost use Rattle.dsec_answer.specs.Texts.{is_among, used_groups_lines, used_line, used_lines};
+ghost use Rattle.dsec_answer.specs.Texts.{first_lines, is_among as among, used_groups_lines, used_line, used_lines};
 
 use crate::texts::push_links;
 use dsec_crypto::Verifier;
@@ -24,17 +24,30 @@ pub(crate) fn push_used_groups<V: Verifier>(
     ensures { OnOk result (out.new.items ≡ out.old.items ++ used_groups_lines index [] used.now) }
 {
     for place in 0..used.len() {
-        let one = &used[place];
-        if !is_used(one.index(), &used[..place]) {
-            push_used_group(alloc, out, index, one.judged())?;
-        }
+        push_first(alloc, out, index, &used[..place], &used[place])?;
     }
     Ok(())
 }
 
+/// Adds the lines of a group that a denial uses, where it isn't among those that were used before.
+fn push_first<V: Verifier>(
+    alloc: Global,
+    out: &mut Vec<u8>,
+    index: u64,
+    before: &[UsedGroup<V>],
+    one: &UsedGroup<V>,
+) -> Result<(), NoMemory>
+    ensures { OnOk result (out.new.items ≡ out.old.items ++ first_lines index before.now one.now) }
+{
+    if is_among(one.index(), before) {
+        return Ok(());
+    }
+    push_used_group(alloc, out, index, one.judged())
+}
+
 /// Whether the group at an index is among those that are used.
-fn is_used<V: Verifier>(index: usize, used: &[UsedGroup<V>]) -> bool
-    ensures { result ≡ is_among index used.now }
+fn is_among<V: Verifier>(index: usize, used: &[UsedGroup<V>]) -> bool
+    ensures { result ≡ among index used.now }
 {
     used.iter().any(|one| one.index() == index)
 }

@@ -5,7 +5,7 @@ use Rattle.dsec_group.specs.declared.state.ValidationState.{ValidationState}
 use Rattle.dsec_group.specs.declared.state.ValidationState.TheVariants as states
 use Rattle.dsec_spec.specs.Chain.{Link}
 use Rattle.dsec_nodes.specs.Causes.{Cause}
-use Rattle.dsec_nodes.specs.Nodes.{Standing, apex, within, insecure, bogus}
+use Rattle.dsec_nodes.specs.Nodes.{Node, Standing, apex, within, insecure, bogus}
 use Rattle.dsec_nodes.specs.Judging as judging
 use Rattle.dsec_nodes.specs.Judging.{Judged, Finding, is_shown, has_no_set, is_insecure, is_bogus, is_indeterminate, all, one_bogus}
 use Rattle.dsec_nodes.specs.Outcomes as outcomes
@@ -26,6 +26,10 @@ cause_in (insecure cause signed) = by_cause signed
 cause_in (apex keys) = by_nothing
 cause_in (within last) = by_nothing
 cause_in (bogus cause) = by_nothing
+
+-- the signed cause of a node, where it holds one
+abbrev pub cause_held : Node → outcomes.Why
+cause_held n = cause_in n.standing
 
 -- what shows that an insecure group's zone isn't signed (RFC 4035 5.2)
 abbrev pub insecure_of : Finding → Option outcomes.Why

@@ -1,13 +1,11 @@
 -- What is told of a judged group (RFC 4033 5, RFC 4035 4.3).
-use Rattle.std.specs.Prelude.{List, Bool, false, Option, Some, None}
+use Rattle.std.specs.Prelude.{List, Option, Some, None}
 use Rattle.dsec_spec.specs.Records.{Record}
 use Rattle.dsec_spec.specs.Chain.{Link}
-use Rattle.dsec_spec.specs.Groups.{Group}
 use Rattle.dsec_group.specs.declared.state.ValidationState.{ValidationState}
 use Rattle.dsec_group.specs.declared.state.ValidationState.TheVariants.{Secure, Insecure, Bogus, Indeterminate}
 use Rattle.dsec_nodes.specs.Causes.{Cause, RrsigWithoutRrset, NoTrustAnchor}
 use Rattle.dsec_nodes.specs.Nodes.{SignedCause}
-use Rattle.dsec_nodes.specs.Signing.{is_expanded}
 use Rattle.dsec_nodes.specs.Judging.{Finding, is_shown, has_no_set, is_insecure, is_bogus, is_indeterminate}
 
 -- the security status of a group (RFC 4033 5)
@@ -57,11 +55,3 @@ signed_cause_of has_no_set = None
 signed_cause_of (is_insecure cause signed) = Some signed
 signed_cause_of (is_bogus cause links) = None
 signed_cause_of is_indeterminate = None
-
--- whether links show a group's set as an expansion of a wildcard (RFC 4035 5.3.4)
-abbrev pub expands : Group → Finding → Bool
-expands group (is_shown links last signature) = is_expanded group signature
-expands group has_no_set = false
-expands group (is_insecure cause signed) = false
-expands group (is_bogus cause links) = false
-expands group is_indeterminate = false

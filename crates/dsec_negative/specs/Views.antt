@@ -1,13 +1,13 @@
 -- Judged groups as evidence, and what is found in them, as the code keeps it (RFC 4035 5.3, 5.4).
-use Rattle.std.specs.Prelude.{◌≡◌, ℕ, List, [], map, Bool, true, false, Option, Some, None}
+use Rattle.std.specs.Prelude.{ℕ, List}
 use Rattle.dsec_spec.specs.Names.{Labels, Place, place}
 use Rattle.dsec_spec.specs.SignedBytes.{rightmost}
 use Rattle.dsec_spec.specs.DenyingRecords.{NsecAt}
 use Rattle.dsec_wire.specs.DataViews.{nsec_view}
 use Rattle.dsec_wire.specs.declared.nsec.Nsec.{Nsec}
-use Rattle.dsec_nodes.specs.Judging.{Finding, is_shown, has_no_set, is_insecure, is_bogus, is_indeterminate, Judged}
-use Rattle.dsec_found.specs.Told.{expands}
-use Rattle.dsec_absence.specs.Evidence.{Evidence}
+use Rattle.dsec_nodes.specs.Judging.{Judged}
+pub use Rattle.dsec_nodes.specs.ByDenial.{evidence_of}
+use Rattle.dsec_nodes.specs.ByDenial as denials
 use Rattle.dsec_absence.specs.Evidence as evidence
 use Rattle.dsec_absence.specs.Tests.{Shown, silent, refutes, denies}
 use Rattle.dsec_absence.specs.Answers.{Search, found, refuted, undecided, Source}
@@ -22,21 +22,9 @@ use Rattle.dsec_negative.specs.declared.nodata.TypeSearch.TheVariants as type_se
 use Rattle.dsec_negative.specs.declared.missing.NameSearch.{NameSearch}
 use Rattle.dsec_negative.specs.declared.missing.NameSearch.TheVariants as name_searches
 
--- whether links show a group (RFC 4033 5)
-abbrev pub shows_it : Finding → Bool
-shows_it (is_shown links last signature) = true
-shows_it has_no_set = false
-shows_it (is_insecure cause signed) = false
-shows_it (is_bogus cause links) = false
-shows_it is_indeterminate = false
-
--- a judged group as a denial sees it (RFC 4035 5.3)
-abbrev pub evidence_of : Judged → Evidence
-evidence_of j = record { group = j.group; signer = j.signer; is_secure = shows_it j.finding; is_expanded = expands j.group j.finding }
-
 -- where denials are looked for
 abbrev pub source_of : List Judged → ℕ → Labels → Source
-source_of groups class signer = record { class = class; signer = place signer; groups = map evidence_of groups }
+source_of groups class signer = denials.source_of groups class (place signer)
 
 -- an NSEC record at its owner
 abbrev pub record_at : Labels → Nsec → NsecAt

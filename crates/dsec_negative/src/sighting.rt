@@ -3,8 +3,8 @@
 ghost use Rattle.std.specs.Prelude.{◌≡◌, IfOk};
 ghost use Rattle.std.specs.Option.{option_map};
 ghost use Rattle.dsec_absence.specs.Evidence.{only_nsec as only, sighting, sighting_by};
-ghost use Rattle.dsec_found.specs.Told.{expands};
-ghost use Rattle.dsec_negative.specs.Views.{evidence_of, shows_it, sighting_view};
+ghost use Rattle.dsec_negative.specs.Views.{evidence_of, sighting_view};
+ghost use Rattle.dsec_nodes.specs.ByDenial.{is_secure};
 ghost use Rattle.dsec_spec.specs.Names.{Labels, place};
 ghost use Rattle.dsec_spec.specs.Numbers.{NSEC};
 ghost use Rattle.dsec_wire.specs.DataViews.{nsec_view};
@@ -49,7 +49,7 @@ pub(crate) fn sighted<'a, V: Verifier>(
 
 /// Whether links show a group.
 fn is_shown<V: Verifier>(judged: &JudgedGroup<V>) -> bool
-    ensures { result ≡ shows_it judged.now.finding }
+    ensures { result ≡ is_secure judged.now.finding }
 {
     judged.state() == ValidationState::Secure
 }

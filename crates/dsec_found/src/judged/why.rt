@@ -4,13 +4,14 @@ ghost use Rattle.std.specs.Prelude.{◌≡◌, IfOk, IfSome};
 ghost use Rattle.std.specs.Arc.{arc_value};
 ghost use Rattle.std.specs.Option.{option_map};
 ghost use Rattle.dsec_node.specs.Views.{cause_view};
+ghost use Rattle.dsec_nodes.specs.ByDenial.{expands};
 ghost use Rattle.dsec_nodes.specs.Signing.{is_expanded as expanded};
 ghost use Rattle.dsec_spec.specs.Names.{place};
 ghost use Rattle.dsec_spec.specs.Numbers.{RRSIG};
 ghost use Rattle.dsec_found.specs.Founds.{StandsBy, finding_by};
-ghost use Rattle.dsec_found.specs.Outcomes.{bogus_of, cause_in, insecure_of};
+ghost use Rattle.dsec_found.specs.Outcomes.{bogus_of, cause_held, insecure_of};
 ghost use Rattle.dsec_found.specs.declared.found.Found.TheVariants.{Shown};
-ghost use Rattle.dsec_found.specs.Told.{expands, own_link, signature_of, signed_cause_of, zone_links};
+ghost use Rattle.dsec_found.specs.Told.{own_link, signature_of, signed_cause_of, zone_links};
 
 use super::{Basis, JudgedGroup};
 use crate::found::Found;
@@ -95,7 +96,7 @@ impl<V: Verifier> JudgedGroup<V> {
 
     /// The node that shows that no chain leads to its name, of an insecure group.
     pub fn insecure(&self) -> Result<Option<Arc<Node<V>>>, NoMemory>
-        ensures { IfOk result (λ found. option_map (λ node. cause_in (arc_value node).standing) found ≡ insecure_of self.now.finding) }
+        ensures { IfOk result (λ found. option_map (λ node. cause_held (arc_value node)) found ≡ insecure_of self.now.finding) }
     {
         match &self.shared.basis {
             Basis::ByNode(node, Found::Insecure) => {
