@@ -1,2 +1,3 @@
 pub mod AnswerSteps
 pub mod FindingSteps
+pub mod DenialSteps
