@@ -4,6 +4,7 @@ ghost use Rattle.std.specs.Prelude.{◌≡◌, IfOk};
 ghost use Rattle.dsec_nodes.specs.Alone.{by_answer};
 ghost use Rattle.dsec_nodes.specs.ByDenial.{by_wildcard as by_wildcard_of, encloser_of as encloser_in};
 ghost use Rattle.dsec_nodes.specs.World.{World};
+ghost use Rattle.dsec_spec.specs.JudgedGroups.{encloser_in as encloser_by_labels};
 ghost use Rattle.dsec_spec.specs.Names.{place};
 ghost use Rattle.dsec_spec.specs.Numbers.{RRSIG};
 
@@ -42,14 +43,22 @@ fn encloser_of(alloc: Global, group: &Group, signature: &Record) -> Result<Optio
     requires { signature.now.rtype ≡ RRSIG }
     ensures { IfOk result (λ encloser. encloser ≡ encloser_in group.now signature.now) }
 {
-    let owner = group.owner();
     match signature.rdata().rrsig() {
-        Some(rrsig) if rrsig.labels < owner.rrsig_label_count() => {
-            let encloser = owner.ancestor(alloc, usize::from(rrsig.labels))?;
-            Ok(Some(encloser))
-        }
-        _ => Ok(None),
+        Some(rrsig) => encloser_by(alloc, group.owner(), rrsig.labels),
+        None => Ok(None),
     }
+}
+
+/// The closest encloser of an owner that is an expansion by a signature that counts so many labels.
+#[tactic(auto, using(dsec_denial::proofs::ExpansionLaws::expansion_counts))]
+fn encloser_by(alloc: Global, owner: &Name, labels: u8) -> Result<Option<Name>, NoMemory>
+    ensures { IfOk result (λ encloser. encloser ≡ encloser_by_labels labels owner.now) }
+{
+    if labels < owner.rrsig_label_count() {
+        let encloser = owner.ancestor(alloc, usize::from(labels))?;
+        return Ok(Some(encloser));
+    }
+    Ok(None)
 }
 
 /// What it comes to by a group that links show as an expansion of the wildcard under this name.

@@ -1,6 +1,6 @@
 //! The judged groups by which something is denied (RFC 4035 5.4).
 
-ghost use Rattle.std.specs.Prelude.{◌≡◌, IfOk, filter_map};
+ghost use Rattle.std.specs.Prelude.{◌≡◌, ◌∷◌, ◌++◌, [], IfOk, OnOk, filter_map};
 ghost use Rattle.dsec_nodes.specs.ByDenial.{used_at};
 
 use dsec_crypto::Verifier;
@@ -58,10 +58,23 @@ pub(crate) fn used_by<V: Verifier>(
 {
     let mut used = Vec::with_capacity(alloc, indexes.len())?;
     for index in indexes {
-        if let Some(judged) = authorities.get(*index) {
-            let judged = judged.clone()?;
-            used.push(UsedGroup::new(*index, judged))?;
-        }
+        push_used(&mut used, authorities, *index)?;
     }
     Ok(used)
+}
+
+/// Adds the judged group at an index, if there is one.
+#[tactic(auto, using(crate::proofs::UsedSteps::one_used, crate::proofs::UsedSteps::none_used))]
+fn push_used<V: Verifier>(
+    used: &mut Vec<UsedGroup<V>>,
+    authorities: &[JudgedGroup<V>],
+    index: usize,
+) -> Result<(), NoMemory>
+    ensures { OnOk result (used.new.items ≡ used.old.items ++ filter_map (used_at authorities.now) (index ∷ [])) }
+{
+    if let Some(judged) = authorities.get(index) {
+        let judged = judged.clone()?;
+        used.push(UsedGroup::new(index, judged))?;
+    }
+    Ok(())
 }
