@@ -1,5 +1,5 @@
 -- Judged groups as evidence, and what is found in them, as the code keeps it (RFC 4035 5.3, 5.4).
-use Rattle.std.specs.Prelude.{◌≡◌, ℕ, List, [], map, Bool, true, false, Option, Some, None}
+use Rattle.std.specs.Prelude.{ℕ, List, map, Bool, true, false}
 use Rattle.dsec_spec.specs.Names.{Labels, Place, place}
 use Rattle.dsec_spec.specs.SignedBytes.{rightmost}
 use Rattle.dsec_spec.specs.DenyingRecords.{NsecAt}
