@@ -1,13 +1,16 @@
 //! What a reply that denies comes to by its NSEC records (RFC 2308 2, RFC 4035 5.4).
 
-ghost use Rattle.std.specs.Prelude.{◌≡◌, List, IfOk, map, unwrap_or, if◌then◌else◌};
+ghost use Rattle.std.specs.Prelude.{◌≡◌, ◌==◌, IfOk, map, unwrap_or, if◌then◌else◌};
+ghost use Rattle.std.specs.List.{list_any};
 ghost use Rattle.dsec_absence.specs.Answers as answers;
 ghost use Rattle.dsec_absence.specs.Replies.{concluded, denied_at as denied_of, has_nsec3, type_denied as type_denied_of};
 ghost use Rattle.dsec_cause.specs.declared.cause.Cause.TheVariants.{NoDenialProof, NotBuilt};
 ghost use Rattle.dsec_negative.specs.Sources.{source_view};
 ghost use Rattle.dsec_negative.specs.Told.{answer_of, conclusion_of};
 ghost use Rattle.dsec_negative.specs.Views.{evidence_of, source_of};
+ghost use Rattle.dsec_nodes.specs.Judging.{Judged};
 ghost use Rattle.dsec_spec.specs.Names.{place};
+ghost use Rattle.dsec_spec.specs.Numbers.{NSEC3};
 
 use crate::answer::{Answer, then};
 use crate::nodata::{search_type, type_answer};
@@ -85,6 +88,7 @@ fn conclude<V: Verifier>(groups: &[JudgedGroup<V>], answer: Answer) -> Conclusio
 
 /// Why nothing is proved, where NSEC records show nothing: judging by NSEC3 records is left out, so that they end with a cause of
 /// its own; else the cause that is there.
+#[tactic(auto, using(crate::proofs::EvidenceLaws::nsec3_in))]
 pub(crate) fn left_over<V: Verifier>(groups: &[JudgedGroup<V>], cause: Option<Cause>) -> Cause
     ensures { result ≡ (if has_nsec3 (map evidence_of groups.now) then NotBuilt else unwrap_or cause NoDenialProof) }
 {
@@ -96,7 +100,7 @@ pub(crate) fn left_over<V: Verifier>(groups: &[JudgedGroup<V>], cause: Option<Ca
 
 /// Whether NSEC3 records are among the groups.
 fn is_any_nsec3<V: Verifier>(groups: &[JudgedGroup<V>]) -> bool
-    ensures { result ≡ has_nsec3 (map evidence_of groups.now) }
+    ensures { result ≡ list_any (λ (j : Judged). j.group.rtype == NSEC3) groups.now }
 {
     groups.iter().any(|one| one.group().rtype() == Rtype::NSEC3)
 }

@@ -27,11 +27,27 @@ pub fn get_answer_state<V: Verifier>(
     ensures index { option_map answer_index_in result ≡ answer_at (place name.now) class rtype (λ (j : Judged). j.group) answers.now }
     ensures state { IfSome result (λ found. HasStateAndCause answers.now found.0 found.1 found.2) }
 {
-    let index = answers
+    match answer_in(name, class, rtype, answers) {
+        Some(index) => {
+            let judged = &answers[index];
+            Some((index, judged.state(), judged.cause()))
+        }
+        None => None,
+    }
+}
+
+/// The index of the first group that is the set.
+fn answer_in<V: Verifier>(
+    name: &Name,
+    class: Class,
+    rtype: Rtype,
+    answers: &[JudgedGroup<V>],
+) -> Option<usize>
+    ensures { result ≡ answer_at (place name.now) class rtype (λ (j : Judged). j.group) answers.now }
+{
+    answers
         .iter()
-        .position(|one| is_set_of(name, class, rtype, one.group()))?;
-    let judged = &answers[index];
-    Some((index, judged.state(), judged.cause()))
+        .position(|one| is_set_of(name, class, rtype, one.group()))
 }
 
 /// Whether a group is the set of this class and type at the name.

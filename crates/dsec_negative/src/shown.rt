@@ -1,10 +1,10 @@
 //! What one NSEC record shows at a name (RFC 4034 4, RFC 4035 5.4, RFC 6840 4.1, 4.3).
 
-ghost use Rattle.std.specs.Prelude.{◌≡◌, ◌||◌, IfOk};
+ghost use Rattle.std.specs.Prelude.{◌≡◌, ◌&&◌, ◌||◌, IfOk};
 ghost use Rattle.dsec_absence.specs.Tests.{is_above_cut as above_cut, is_apex as apex, is_ds_above as ds_above, own_shows as own, shows_missing as missing, shows_type as of_type};
 ghost use Rattle.dsec_negative.specs.Views.{name_shown, record_at, type_shown};
 ghost use Rattle.dsec_spec.specs.DenyingRecords.{has as has_bit};
-ghost use Rattle.dsec_spec.specs.Names.{Labels, place};
+ghost use Rattle.dsec_spec.specs.Names.{Labels, is_below as below, place};
 ghost use Rattle.dsec_spec.specs.Numbers.{DNAME};
 ghost use Rattle.dsec_spec.specs.TypeBitmaps.{has_type};
 
@@ -99,14 +99,22 @@ pub(crate) fn shows_missing(
     if is_below(&next, target) {
         return Ok(NameShown::Refutes(Cause::NsecShowsEmptyNonTerminal));
     }
-    if is_below(target, owner) && is_silent_below(nsec) {
+    if is_refused_below(owner, nsec, target) {
         return Ok(NameShown::Refutes(Cause::NsecDnameOrDelegation));
     }
     let labels = encloser_labels(alloc, target, owner, &next)?;
     Ok(NameShown::Denies(labels))
 }
 
-/// Whether a record says nothing of names below its owner: with DNAME, and at a delegation, as the zone above has it (RFC 6840 4.1).
+/// Whether the target is at or below a record's owner, of which the record doesn't say what is below: with DNAME, or at a delegation, as
+/// the zone above has it (RFC 6840 4.1).
+fn is_refused_below(owner: &Name, nsec: &Nsec<'_>, target: &Name) -> bool
+    ensures { result ≡ (below (place target.now) (place owner.now) && (has_bit (record_at owner.now nsec.now) DNAME || above_cut (record_at owner.now nsec.now))) }
+{
+    is_below(target, owner) && is_silent_below(nsec)
+}
+
+/// Whether a record says nothing of names below its owner.
 fn is_silent_below(nsec: &Nsec<'_>) -> bool
     ensures { (owner : Labels) → result ≡ (has_bit (record_at owner nsec.now) DNAME || above_cut (record_at owner nsec.now)) }
 {

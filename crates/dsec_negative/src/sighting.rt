@@ -56,7 +56,7 @@ fn is_shown<V: Verifier>(judged: &JudgedGroup<V>) -> bool
 
 /// What a group is by the data of its one record.
 fn sighted_by(only: Option<Nsec<'_>>, is_expanded: bool) -> Sighting<'_>
-    ensures { (owner : Labels) → sighting_view owner result ≡ sighting_by is_expanded owner (option_map nsec_view only) }
+    ensures { (owner : Labels) → sighting_view owner result ≡ sighting_by is_expanded owner (option_map nsec_view only.entry) }
 {
     match only {
         None => Sighting::Passed,

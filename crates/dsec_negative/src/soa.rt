@@ -1,18 +1,19 @@
 //! The SOA set of a reply that denies (RFC 2308 2.1, 2.2).
 
 ghost use Rattle.std.specs.Prelude.{◌≡◌, IfSome};
+ghost use Rattle.std.specs.List.{list_any};
 ghost use Rattle.std.specs.Option.{option_map};
 ghost use Rattle.dsec_absence.specs.Replies.{is_other_soa as other_soa, is_soa as soa, is_soa_elsewhere as soa_elsewhere, is_soa_for as soa_for, no_soa_cause as no_soa, soa_at, soa_cause};
 ghost use Rattle.dsec_negative.specs.Told.{HasState, index_in};
 ghost use Rattle.dsec_nodes.specs.Judging.{Judged};
-ghost use Rattle.dsec_spec.specs.Islands.{is_above, island};
+ghost use Rattle.dsec_spec.specs.Islands.{island};
 ghost use Rattle.dsec_spec.specs.Names.{place};
 
 use dsec_anchors::island_owner;
 use dsec_cause::Cause;
-use dsec_chain::{is_below, is_strictly_below};
+use dsec_chain::is_below;
 use dsec_crypto::Verifier;
-use dsec_found::JudgedGroup;
+use dsec_found::{JudgedGroup, is_above_island};
 use dsec_group::{Group, ValidationState};
 use dsec_name::Name;
 use dsec_number::{Class, Rtype};
@@ -60,16 +61,6 @@ fn is_soa_for(top: Option<&Name>, name: &Name, class: Class, group: &Group) -> b
     is_soa(class, group) && is_below(name, group.owner()) && !is_above_island(top, group.owner())
 }
 
-/// Whether a name is strictly above an island, where there is one.
-fn is_above_island(top: Option<&Name>, name: &Name) -> bool
-    ensures { result ≡ is_above (option_map (λ top. place top.now) top.entry) (place name.now) }
-{
-    match top {
-        Some(top) => is_strictly_below(top, name),
-        None => false,
-    }
-}
-
 /// Whether a group is an SOA set of the class.
 fn is_soa(class: Class, group: &Group) -> bool
     ensures { result ≡ soa class group.now }
@@ -85,19 +76,31 @@ fn no_soa_cause<V: Verifier>(
 ) -> Option<Cause>
     ensures { result ≡ no_soa (place name.now) class (λ (j : Judged). j.group) authorities.now }
 {
-    if authorities
-        .iter()
-        .any(|one| is_soa_elsewhere(name, class, one.group()))
-    {
+    if is_any_elsewhere(name, class, authorities) {
         return Some(Cause::SoaWrongName);
     }
-    if authorities
-        .iter()
-        .any(|one| is_other_soa(class, one.group()))
-    {
+    if is_any_other(class, authorities) {
         return Some(Cause::SoaWrongClass);
     }
     None
+}
+
+/// Whether a group is an SOA set of the class, and not at or above the name.
+fn is_any_elsewhere<V: Verifier>(name: &Name, class: Class, authorities: &[JudgedGroup<V>]) -> bool
+    ensures { result ≡ list_any (λ (j : Judged). soa_elsewhere (place name.now) class j.group) authorities.now }
+{
+    authorities
+        .iter()
+        .any(|one| is_soa_elsewhere(name, class, one.group()))
+}
+
+/// Whether a group is an SOA set of another class.
+fn is_any_other<V: Verifier>(class: Class, authorities: &[JudgedGroup<V>]) -> bool
+    ensures { result ≡ list_any (λ (j : Judged). other_soa class j.group) authorities.now }
+{
+    authorities
+        .iter()
+        .any(|one| is_other_soa(class, one.group()))
 }
 
 /// Whether a group is an SOA set of the class, and not at or above the name.
