@@ -1,12 +1,12 @@
--- What is written for an outcome: a line of its own, and a line for each link of what shows it.
-use Rattle.std.specs.Prelude.{ℕ, List, [], ◌∷◌, ◌++◌, codes, decimal, Option, Some, None, Ok, Err}
-use Rattle.std.specs.List.{flat_map}
+-- What is written for an outcome: a line of its own, and a line for each link of what shows it and of what its denials use.
+use Rattle.std.specs.Prelude.{ℕ, ◌==◌, List, [], ◌∷◌, ◌++◌, drop, codes, decimal, Bool, Option, Some, None, Ok, Err, if◌then◌else◌}
+use Rattle.std.specs.List.{flat_map, list_any}
 use Rattle.dsec_spec.specs.Chain.{Link}
 use Rattle.dsec_link.specs.LinkTexts.{link_line}
 use Rattle.dsec_cause.specs.Causes.{code_of, text_of}
 use Rattle.dsec_cause.specs.declared.cause.Cause.{Cause}
 use Rattle.dsec_nodes.specs.Judging.{Finding, is_shown, has_no_set, is_insecure, is_bogus, is_indeterminate, Judged}
-use Rattle.dsec_nodes.specs.Outcomes.{State, secure, insecure, bogus, indeterminate, Why, by_groups, by_cause, by_links, by_nothing}
+use Rattle.dsec_nodes.specs.Outcomes.{State, secure, insecure, bogus, indeterminate, Used, Why, by_groups, by_cause, by_links, by_nothing}
 use Rattle.dsec_answer.specs.declared.outcome.Unjudged.{Unjudged}
 use Rattle.dsec_answer.specs.declared.outcome.Unjudged.TheVariants.{ShortMessage, FormError, ParseError}
 use Rattle.dsec_answer.specs.Told.{Outcome}
@@ -53,9 +53,34 @@ links_in is_indeterminate = []
 abbrev pub group_lines : ℕ → Judged → List ℕ
 group_lines index j = flat_map (λ link. link_line index link) (links_in j.finding)
 
--- the lines of judged groups
+-- the line of a group that a denial uses: that of its own link, with another first word
+abbrev pub used_line : ℕ → Link → List ℕ
+used_line index link = codes "used" ++ drop 4 (link_line index link)
+
+-- the lines of such a group, where it is shown: those of the links to its zone, and its own
+abbrev pub used_lines : ℕ → Finding → List ℕ
+used_lines index (is_shown links last signature) = flat_map (λ link. link_line index link) links ++ used_line index last
+used_lines index has_no_set = []
+used_lines index (is_insecure cause signed) = []
+used_lines index (is_bogus cause links) = []
+used_lines index is_indeterminate = []
+
+-- whether the group at an index is among those that are used
+abbrev pub is_among : ℕ → List Used → Bool
+is_among index used = list_any (λ u. u.index == index) used
+
+-- the lines of a used group: it has none where it was used before
+abbrev pub first_lines : ℕ → List Used → Used → List ℕ
+first_lines index before u = if is_among u.index before then [] else used_lines index u.judged.finding
+
+-- the lines of used groups after others, each where it is used first
+unfoldable pub used_groups_lines : ℕ → List Used → List Used → List ℕ
+used_groups_lines index before [] = []
+used_groups_lines index before (u ∷ used) = first_lines index before u ++ used_groups_lines index (before ++ u ∷ []) used
+
+-- the lines of judged groups, and of those that denials beside them use
 abbrev pub lines_by : ℕ → Why → List ℕ
-lines_by index (by_groups judged) = flat_map (λ j. group_lines index j) judged
+lines_by index (by_groups judged used) = flat_map (λ j. group_lines index j) judged ++ used_groups_lines index [] used
 lines_by index (by_cause signed) = []
 lines_by index (by_links links) = []
 lines_by index by_nothing = []

@@ -7,6 +7,7 @@ mod judging;
 mod outcome;
 mod script;
 mod texts;
+mod used_texts;
 mod validating;
 
 pub use command::{run, run_by};

@@ -2,17 +2,20 @@
 
 ghost use Rattle.std.specs.Prelude.{◌≡◌, ◌++◌, ◌∷◌, [], IfOk, OnOk, Ok};
 ghost use Rattle.std.specs.List.{flat_map};
-ghost use Rattle.dsec_found.specs.Outcomes.{state_view, why_view};
+ghost use Rattle.dsec_found.specs.Outcomes.{state_view};
 ghost use Rattle.dsec_link.specs.LinkTexts.{link_line};
+ghost use Rattle.dsec_outcome.specs.Outcomes.{why_view};
 ghost use Rattle.dsec_answer.specs.Texts.{cause_text, error_line, error_text, group_lines, lines_by, outcome_text, state_text, status_text, verdict_line, why_lines};
 
 use crate::outcome::{Outcome, Unjudged};
+use crate::used_texts::push_used_groups;
 use dsec_cause::Cause;
 use dsec_crypto::Verifier;
-use dsec_found::{JudgedGroup, Why};
+use dsec_found::JudgedGroup;
 use dsec_group::ValidationState;
 use dsec_link::{Link, push_link};
 use dsec_name::NoMemory;
+use dsec_outcome::Why;
 use dsec_serve::Verdict;
 use dsec_word::push_number;
 use std::alloc::Global;
@@ -21,7 +24,7 @@ use std::alloc::Global;
 const USUAL_TEXT: usize = 1024;
 
 /// What is written for the outcome of the message of an index: a line of its own, and after a verdict `Secure` a
-/// line for each link of what shows it.
+/// line for each link of what shows it and of what its denials use.
 pub fn text<V: Verifier>(
     alloc: Global,
     index: u64,
@@ -145,7 +148,7 @@ fn push_why<V: Verifier>(
     }
 }
 
-/// Adds the lines of judged groups, if it is they.
+/// Adds the lines of judged groups, and of those that denials use, if it is they.
 fn push_reason<V: Verifier>(
     alloc: Global,
     out: &mut Vec<u8>,
@@ -155,7 +158,10 @@ fn push_reason<V: Verifier>(
     ensures { OnOk result (out.new.items ≡ out.old.items ++ lines_by index (why_view why.now)) }
 {
     match why {
-        Why::ByGroups(judged) => push_groups(alloc, out, index, judged),
+        Why::ByGroups(judged, used) => {
+            push_groups(alloc, out, index, judged)?;
+            push_used_groups(alloc, out, index, used)
+        }
         Why::ByCause(_) => Ok(()),
         Why::ByLinks(_) => Ok(()),
         Why::ByNothing => Ok(()),
@@ -202,7 +208,7 @@ fn push_shown(out: &mut Vec<u8>, index: u64, links: &[Link], last: &Link) -> Res
 }
 
 /// Adds the lines of links.
-fn push_links(out: &mut Vec<u8>, index: u64, links: &[Link]) -> Result<(), NoMemory>
+pub(crate) fn push_links(out: &mut Vec<u8>, index: u64, links: &[Link]) -> Result<(), NoMemory>
     ensures { OnOk result (out.new.items ≡ out.old.items ++ flat_map (λ link. link_line index link) links.now) }
 {
     for link in links {

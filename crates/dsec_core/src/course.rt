@@ -16,10 +16,11 @@ mod walks;
 
 use crate::step::{Next, Step};
 use dsec_crypto::Verifier;
-use dsec_found::{JudgedGroup, Outcome};
+use dsec_found::JudgedGroup;
 use dsec_group::{Group, Memo, Steps};
 use dsec_name::NoMemory;
 use dsec_number::Rcode;
+use dsec_outcome::Outcome;
 use dsec_walk::{Input, Setting, Walk};
 use dsec_wire::Question;
 pub(crate) use reading::begun;

@@ -1,10 +1,10 @@
 //! What a message that is judged asks for.
 
 use dsec_crypto::Verifier;
-use dsec_found::Outcome;
 use dsec_name::Name;
 use dsec_node::Node;
 use dsec_number::Rtype;
+use dsec_outcome::Outcome;
 use std::sync::Arc;
 
 /// What a message that is judged asks for next.

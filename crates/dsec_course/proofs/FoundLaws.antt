@@ -23,7 +23,7 @@ use Rattle.dsec_nodes.specs.Taking.{IsListed}
 use Rattle.dsec_nodes.specs.Walk.{Reached}
 use Rattle.dsec_nodes.specs.SoundSteps.{OnTheWay}
 use Rattle.dsec_nodes.specs.Judging.{is_shown, found_by, found_at, by_node, target_of}
-use Rattle.dsec_nodes.specs.SoundOutcomes.{BeginsAt, IsShownSet, IsShownInsecure}
+use Rattle.dsec_nodes.specs.SoundFindings.{BeginsAt, IsShownSet, IsShownInsecure}
 use Rattle.dsec_nodes.proofs.Signs.{from_under}
 use Rattle.dsec_nodes.proofs.KeptLaws.{held}
 use Rattle.dsec_nodes.proofs.AmongLaws.{chain_among, chain_begins}

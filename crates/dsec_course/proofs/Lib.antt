@@ -4,7 +4,6 @@ pub mod WalkPuts
 pub mod GroupLaws
 pub mod AgreeingLaws
 pub mod FoundLaws
-pub mod EndLaws
 pub mod SoundLaws
 pub mod BeginningLaws
 pub mod AskingLaws

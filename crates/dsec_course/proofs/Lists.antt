@@ -1,8 +1,7 @@
 -- Facts that hold of each in a list.
-use Rattle.std.proofs.Common.{◌≡◌, ℕ, List, [], ◌∷◌, ◌++◌, subst, inl, inr}
-use Rattle.std.specs.Prelude.{Contains, slice_get, zero, suc, Some}
+use Rattle.std.proofs.Common.{List, [], ◌∷◌, ◌++◌, subst, inl, inr}
+use Rattle.std.specs.Prelude.{Contains}
 use Rattle.std.specs.List.{AllByRecursion}
-use Rattle.std.proofs.lemmas.Option.{same_Some}
 use Rattle.dsec_spec.proofs.Members.{in_more, not_in_none}
 
 -- each of the first of two lists
@@ -24,12 +23,6 @@ all_both P (x ∷ xs) ys h g = (h.0, all_both P xs ys h.1 g)
 pub all_map : {A : Type 0} (P Q : A → Type 0) (xs : List A) → ((x : A) → P x → Q x) → AllByRecursion P xs → AllByRecursion Q xs
 all_map P Q [] f h = tt
 all_map P Q (x ∷ xs) f h = (f x h.0, all_map P Q xs f h.1)
-
--- the one at an index
-pub all_at : {A : Type 0} (P : A → Type 0) (xs : List A) (k : ℕ) (x : A) → AllByRecursion P xs → slice_get xs k ≡ Some x → P x
-all_at P [] k x h e = absurd cc
-all_at P (y ∷ ys) zero x h e = subst P (same_Some y x e) h.0
-all_at P (y ∷ ys) (suc k) x h e = all_at P ys k x h.1 e
 
 -- one that is in the list
 pub all_in : {A : Type 0} (P : A → Type 0) (xs : List A) (x : A) → AllByRecursion P xs → Contains xs x → P x

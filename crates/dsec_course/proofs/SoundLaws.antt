@@ -1,11 +1,11 @@
 -- A message judged a step at a time is sound, whatever kept nodes its walks are given, from whichever moment.
-use Rattle.std.proofs.Common.{◌≡◌, ℕ, zero, suc, ◌==◌, ◌+◌, ◌≤◌, List, [], ◌∷◌, ◌++◌, length, take, drop, map, Option, Some, None, refl, sym, ap, ◌∙◌, subst, append-nil, append_assoc}
+use Rattle.std.proofs.Common.{◌≡◌, ℕ, ◌==◌, ◌+◌, ◌≤◌, List, [], ◌∷◌, ◌++◌, length, take, drop, map, Option, Some, None, refl, sym, ap, ◌∙◌, subst, append-nil, append_assoc}
 use Rattle.std.specs.Prelude.{filter_map}
 use Rattle.std.specs.List.{AllByRecursion, list_any}
-use Rattle.std.proofs.Math.Seq.{take-append_seam}
+use Rattle.std.proofs.Math.Seq.{take-append_seam, drop-append_seam}
 use Rattle.std.proofs.lemmas.Bool.{cond-false}
 use Rattle.std.proofs.lemmas.Option.{same_Some}
-use Rattle.std.proofs.lemmas.List.{map-append, take-append-drop}
+use Rattle.std.proofs.lemmas.List.{map-append, take-map, drop-map, take-append-drop}
 use Rattle.std.proofs.lemmas.List.Elements.{filter_map-append}
 use Rattle.dsec_spec.specs.Names.{Place, place}
 use Rattle.dsec_spec.specs.Records.{Record}
@@ -24,18 +24,18 @@ use Rattle.dsec_nodes.specs.Alone.{at_end, on_questions, sections_of}
 use Rattle.dsec_nodes.specs.SoundOutcomes.{IsRead}
 use Rattle.dsec_nodes.proofs.SoundWalk.{advanced_sound, started_sound}
 use Rattle.dsec_nodes.proofs.CountLaws.{advanced_counted, started_counted, asked_at_most}
-use Rattle.dsec_nodes.proofs.OutcomeLaws.{Means}
+use Rattle.dsec_nodes.proofs.EndLaws.{Means, end_justified}
+use Rattle.dsec_nodes.proofs.OutcomeLaws.{read_is}
 use Rattle.dsec_course.specs.Course.{Waiting, to_begin, to_end, for_walk, for_nothing, Course, CourseAnswers, Way, at_once, by_walk, way_under, way_of}
 use Rattle.dsec_course.specs.Advancing.{waiting, with_judged, with_walk, at_last, by_way, going_on, by_found, by_step, by_waiting, course_advanced}
 use Rattle.dsec_course.specs.Agreeing.{IsFor}
 use Rattle.dsec_course.specs.Justified.{IsEnd, IsFound, route, route_by, route_of, most_on, IsPaced, IsOpen, SoundSoFar, SoundCourseAt, SoundCourse, SoundGoing}
-use Rattle.dsec_course.proofs.Lists.{all_front, all_both}
+use Rattle.dsec_course.proofs.Lists.{all_front, all_back, all_both}
 use Rattle.dsec_course.proofs.WalkSteps.{HasReached, advances}
 use Rattle.dsec_course.proofs.WalkPuts.{PutUnder, put_under}
 use Rattle.dsec_course.proofs.GroupLaws.{IsOnce, WayIs, way_is}
 use Rattle.dsec_course.proofs.AgreeingLaws.{target_below, sets_out, still_for}
 use Rattle.dsec_course.proofs.FoundLaws.{found_is}
-use Rattle.dsec_course.proofs.EndLaws.{end_justified}
 
 -- what is left out of a list whose last is left out
 left_out : {A B : Type 0} (h : A → Option B) (xs : List A) (x : A) → h x ≡ None → filter_map h (xs ++ x ∷ []) ≡ filter_map h xs
@@ -118,12 +118,6 @@ waits_so_far w most message c groups left waits h = record {
   };
 }
 
--- the groups of judged ones at the front
-map_take : (k : ℕ) (js : List Judged) → map (λ (x : Judged). x.group) (take k js) ≡ take k (map (λ (x : Judged). x.group) js)
-map_take zero js = refl
-map_take (suc k) [] = refl
-map_take (suc k) (j ∷ js) = ap (λ (gs : List Group). j.group ∷ gs) (map_take k js)
-
 -- the question section, as it is read with the other two
 asked_is : (message : List ℕ) (s : List Question × List Record × List Record) → sections_of message ≡ Some s
     → (rest : ℕ) × (questions_of message ≡ Some (s.0, rest))
@@ -133,16 +127,6 @@ asked_is message s e =
     let questions = from_bind (questions_of message) _ s answers.2 in
     let parts : (questions.0.0, answers.0.0, authorities.0.0) ≡ s = same_Some _ _ questions.2 in
     (questions.0.1, questions.1 ∙ ap (λ (x : List Question × List Record × List Record). Some (x.0, questions.0.1)) parts)
-
--- so is the answer section
-answered_is : (message : List ℕ) (s : List Question × List Record × List Record) → sections_of message ≡ Some s
-    → (rest : ℕ) × (answers_of message ≡ Some (s.1, rest))
-answered_is message s e =
-    let authorities = from_bind (authorities_of message) _ s e in
-    let answers = from_bind (answers_of message) _ s authorities.2 in
-    let questions = from_bind (questions_of message) _ s answers.2 in
-    let parts : (questions.0.0, answers.0.0, authorities.0.0) ≡ s = same_Some _ _ questions.2 in
-    (answers.0.1, answers.1 ∙ ap (λ (x : List Question × List Record × List Record). Some (x.1, answers.0.1)) parts)
 
 same_questions : (x y : List Question × ℕ) → Some x ≡ Some y → x.0 ≡ y.0
 same_questions x y e = ap (λ (p : List Question × ℕ). p.0) (same_Some x y e)
@@ -160,41 +144,43 @@ last_is w most message c h = by c.questions refl
     js : List Judged
     js = take c.answers c.judged
 
+    beside : List Judged
+    beside = drop c.answers c.judged
+
     o : IsOpen most message c []
     o = h.opened
 
-    same : map (λ (x : Judged). x.group) js ≡ o.answers
-    same = map_take c.answers c.judged
-        ∙ (ap (take c.answers) (sym (append-nil (map (λ (x : Judged). x.group) c.judged)) ∙ o.in_order)
-        ∙ (ap (λ (k : ℕ). take k (o.answers ++ o.authorities)) o.split ∙ take-append_seam o.answers o.authorities))
+    in_order : map (λ (x : Judged). x.group) c.judged ≡ o.answers ++ o.authorities
+    in_order = sym (append-nil (map (λ (x : Judged). x.group) c.judged)) ∙ o.in_order
 
-    founds : AllByRecursion (IsFound w) js
-    founds = all_front (IsFound w) js (drop c.answers c.judged) (subst (AllByRecursion (IsFound w)) (sym (take-append-drop c.answers c.judged)) h.found)
+    same : map (λ (x : Judged). x.group) js ≡ o.answers
+    same = sym (take-map (λ (x : Judged). x.group) c.answers c.judged)
+        ∙ (ap (take c.answers) in_order ∙ (ap (λ (k : ℕ). take k (o.answers ++ o.authorities)) o.split ∙ take-append_seam o.answers o.authorities))
+
+    others : map (λ (x : Judged). x.group) beside ≡ o.authorities
+    others = sym (drop-map (λ (x : Judged). x.group) c.answers c.judged)
+        ∙ (ap (drop c.answers) in_order ∙ (ap (λ (k : ℕ). drop k (o.answers ++ o.authorities)) o.split ∙ drop-append_seam o.answers o.authorities))
+
+    both : AllByRecursion (IsFound w) (js ++ beside)
+    both = subst (AllByRecursion (IsFound w)) (sym (take-append-drop c.answers c.judged)) h.found
 
     asks : (qs : List Question) → c.questions ≡ qs → (rest : ℕ) × (questions_of message ≡ Some (qs, rest))
     asks qs e =
         let a = asked_is message o.read.sections o.read.read in
         (a.0, a.1 ∙ ap (λ (x : List Question). Some (x, a.0)) (sym o.read.asks ∙ e))
 
-    by : (qs : List Question) → c.questions ≡ qs → IsEnd w most message (on_questions w c.message qs js (drop c.answers c.judged))
+    by : (qs : List Question) → c.questions ≡ qs → IsEnd w most message (on_questions w c.message qs js beside)
     by [] e = (refl, λ question rest f. none_is_one question (same_questions ([], (asks [] e).0) (question ∷ [], rest) (sym (asks [] e).1 ∙ f)))
     by (first ∷ other ∷ more) e = (
       refl,
       λ question rest f. two_are_one first other question more (same_questions (first ∷ other ∷ more, (asks (first ∷ other ∷ more) e).0) (question ∷ [], rest) (sym (asks (first ∷ other ∷ more) e).1 ∙ f)),
     )
     by (question ∷ []) e =
-        let a = asks (question ∷ []) e in
-        let b = answered_is message o.read.sections o.read.read in
-        let read : IsRead message most question o.answers = record {
-          questions_end = a.0;
-          asked = a.1;
-          section = o.read.sections.1;
-          section_end = b.0;
-          read = b.1;
-          groups = o.read.answers_are;
-        } in
-        subst (Means w most message) (ap (λ (m : List ℕ). at_end w m question js (drop c.answers c.judged) (alias_path w question js)) (sym h.same_message))
-        (end_justified w most message question o.answers js (drop c.answers c.judged) read same founds)
+        let read = subst (IsRead message most question o.answers) o.read.authorities_are
+        (read_is most message question o.answers o.read.sections o.read.read (sym o.read.asks ∙ e) o.read.answers_are) in
+        subst (Means w most message) (ap (λ (m : List ℕ). at_end w m question js beside (alias_path w question js)) (sym h.same_message))
+        (end_justified w most message question o.answers o.authorities js beside read same others (all_front (IsFound w) js beside both)
+        (all_back (IsFound w) js beside both))
 
 -- judging goes on soundly
 going_sound : (w : World) (most : ℕ) (message : List ℕ) (groups : List Group) (c : Course) → SoundSoFar w most message c groups

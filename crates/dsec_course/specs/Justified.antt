@@ -1,35 +1,23 @@
 -- Courses that are sound: each judged group is what was found of it, each node put is kept, and no walk asks too much (RFC 4033 5, RFC 4035 5).
 use Rattle.std.specs.Prelude.{◌≡◌, ◌≤◌, ◌-◌, ◌+◌, ◌*◌, ℕ, List, [], ◌∷◌, ◌++◌, length, map, filter_map, false, Option, Some, None, Result, Ok, Err}
 use Rattle.std.specs.List.{AllByRecursion, sum_by}
-use Rattle.dsec_spec.specs.Names.{Place, place}
+use Rattle.dsec_spec.specs.Names.{Place}
 use Rattle.dsec_spec.specs.Records.{Record}
 use Rattle.dsec_spec.specs.Messages.{Question, questions_of}
 use Rattle.dsec_spec.specs.Groups.{Group, groups_of}
-use Rattle.dsec_spec.specs.Islands.{island}
 use Rattle.dsec_spec.specs.Redirection.{moved}
 use Rattle.dsec_nodes.specs.World.{World}
 use Rattle.dsec_nodes.specs.Nodes.{IsBogus}
 use Rattle.dsec_nodes.specs.Machine.{Walking}
 use Rattle.dsec_nodes.specs.InStep.{IsCounted}
 use Rattle.dsec_nodes.specs.SoundSteps.{KeptUnder, SoundStep}
-use Rattle.dsec_nodes.specs.Judging.{Finding, is_shown, has_no_set, is_insecure, is_bogus, is_indeterminate, Judged, target_of}
+use Rattle.dsec_nodes.specs.Judging.{target_of}
 use Rattle.dsec_nodes.specs.Outcomes.{Outcome}
 use Rattle.dsec_nodes.specs.Alone.{Refusal, not_one_question, sections_of}
-use Rattle.dsec_nodes.specs.SoundOutcomes.{IsShownSet, IsShownInsecure, IsJustified}
+use Rattle.dsec_nodes.specs.SoundOutcomes.{IsJustified}
 use Rattle.dsec_course.specs.Course.{Waiting, to_begin, to_end, for_walk, for_nothing, Course, CourseStep, get_node, put_node, ask_for, end_with, Way, at_once, by_walk, way_of}
 use Rattle.dsec_course.specs.Agreeing.{IsFor}
-
--- what was found of a group is so: links show its set, it has no record, a signed record shows that no chain leads to its zone, or no anchor
--- stands above it (RFC 4033 5)
-abbrev pub Justifies : World → Judged → Finding → Type 0
-Justifies w j (is_shown links last signature) = IsShownSet w j links last signature
-Justifies w j has_no_set = j.group.records ≡ []
-Justifies w j (is_insecure cause signed) = IsShownInsecure w j.group signed
-Justifies w j (is_bogus cause links) = Unit {0}
-Justifies w j is_indeterminate = island w.anchors (place j.group.owner) j.group.rtype ≡ None
-
-abbrev pub IsFound : World → Judged → Type 0
-IsFound w j = Justifies w j j.finding
+pub use Rattle.dsec_nodes.specs.SoundFindings.{Justifies, IsFound}
 
 -- from which island to which zone a walk is
 abbrev pub route : Walking → Place × Place

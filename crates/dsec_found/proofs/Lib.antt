@@ -1,5 +1,4 @@
 pub mod IslandSteps
 pub mod TargetSteps
 pub mod FoundSteps
-pub mod AnswerSteps
 pub mod JudgedLaws

@@ -1,17 +1,15 @@
--- What a message comes to, as the code keeps it (RFC 4033 5).
+-- What judged groups come to, as the code keeps it (RFC 4033 5).
 use Rattle.std.specs.Prelude.{List, [], ◌∷◌, ◌++◌, Option, Some, None}
 use Rattle.std.specs.Arc.{arc_value}
 use Rattle.dsec_group.specs.declared.state.ValidationState.{ValidationState}
 use Rattle.dsec_group.specs.declared.state.ValidationState.TheVariants as states
 use Rattle.dsec_spec.specs.Chain.{Link}
 use Rattle.dsec_nodes.specs.Causes.{Cause}
-use Rattle.dsec_nodes.specs.Nodes.{Standing, apex, within, insecure, bogus}
+use Rattle.dsec_nodes.specs.Nodes.{Node, Standing, apex, within, insecure, bogus}
 use Rattle.dsec_nodes.specs.Judging as judging
 use Rattle.dsec_nodes.specs.Judging.{Judged, Finding, is_shown, has_no_set, is_insecure, is_bogus, is_indeterminate, all, one_bogus}
 use Rattle.dsec_nodes.specs.Outcomes as outcomes
-use Rattle.dsec_nodes.specs.Outcomes.{by_groups, by_cause, by_links, by_nothing}
-use Rattle.dsec_found.specs.declared.outcome.Why.{Why}
-use Rattle.dsec_found.specs.declared.outcome.Why.TheVariants.{ByGroups, ByCause, ByLinks, ByNothing}
+use Rattle.dsec_nodes.specs.Outcomes.{by_cause, by_nothing}
 use Rattle.dsec_found.specs.declared.section.AllJudged.{AllJudged}
 use Rattle.dsec_found.specs.declared.section.AllJudged.TheVariants.{All, OneBogus}
 
@@ -29,12 +27,17 @@ cause_in (apex keys) = by_nothing
 cause_in (within last) = by_nothing
 cause_in (bogus cause) = by_nothing
 
--- why a status was found
-abbrev pub why_view : {V : Type 0} → Why V → outcomes.Why
-why_view (ByGroups judged) = by_groups judged.items
-why_view (ByCause node) = cause_in (arc_value node).standing
-why_view (ByLinks node) = by_links (arc_value node).links
-why_view ByNothing = by_nothing
+-- the signed cause of a node, where it holds one
+abbrev pub cause_held : Node → outcomes.Why
+cause_held n = cause_in n.standing
+
+-- what shows that an insecure group's zone isn't signed (RFC 4035 5.2)
+abbrev pub insecure_of : Finding → Option outcomes.Why
+insecure_of (is_insecure cause signed) = Some (by_cause signed)
+insecure_of (is_shown links last signature) = None
+insecure_of has_no_set = None
+insecure_of (is_bogus cause links) = None
+insecure_of is_indeterminate = None
 
 -- what judging a section's groups came to
 abbrev pub section_view : {V : Type 0} → AllJudged V → judging.AllJudged

@@ -1,15 +1,12 @@
 -- What is told of a judged group (RFC 4033 5, RFC 4035 4.3).
-use Rattle.std.specs.Prelude.{List, [], ◌∷◌, Bool, false, Option, Some, None}
+use Rattle.std.specs.Prelude.{List, Option, Some, None}
 use Rattle.dsec_spec.specs.Records.{Record}
 use Rattle.dsec_spec.specs.Chain.{Link}
-use Rattle.dsec_spec.specs.Groups.{Group}
 use Rattle.dsec_group.specs.declared.state.ValidationState.{ValidationState}
 use Rattle.dsec_group.specs.declared.state.ValidationState.TheVariants.{Secure, Insecure, Bogus, Indeterminate}
 use Rattle.dsec_nodes.specs.Causes.{Cause, RrsigWithoutRrset, NoTrustAnchor}
 use Rattle.dsec_nodes.specs.Nodes.{SignedCause}
-use Rattle.dsec_nodes.specs.Signing.{is_expanded}
-use Rattle.dsec_nodes.specs.Judging.{Finding, is_shown, has_no_set, is_insecure, is_bogus, is_indeterminate, Judged}
-use Rattle.dsec_nodes.specs.Outcomes.{Why, by_groups, by_cause, by_links, by_nothing}
+use Rattle.dsec_nodes.specs.Judging.{Finding, is_shown, has_no_set, is_insecure, is_bogus, is_indeterminate}
 
 -- the security status of a group (RFC 4033 5)
 abbrev pub state_of : Finding → ValidationState
@@ -26,14 +23,6 @@ cause_of has_no_set = Some RrsigWithoutRrset
 cause_of (is_insecure cause signed) = cause
 cause_of (is_bogus cause links) = Some cause
 cause_of is_indeterminate = Some NoTrustAnchor
-
--- why it has this status (RFC 4033 5)
-abbrev pub why_of : Judged → Finding → Why
-why_of j (is_shown links last signature) = by_groups (j ∷ [])
-why_of j has_no_set = by_nothing
-why_of j (is_insecure cause signed) = by_cause signed
-why_of j (is_bogus cause links) = by_links links
-why_of j is_indeterminate = by_nothing
 
 -- the links to the zone whose keys were tried; of a bogus zone there are none (RFC 4033 2, authentication chain)
 abbrev pub zone_links : Finding → Option (List Link)
@@ -66,11 +55,3 @@ signed_cause_of has_no_set = None
 signed_cause_of (is_insecure cause signed) = Some signed
 signed_cause_of (is_bogus cause links) = None
 signed_cause_of is_indeterminate = None
-
--- whether links show a group's set as an expansion of a wildcard (RFC 4035 5.3.4)
-abbrev pub expands : Group → Finding → Bool
-expands group (is_shown links last signature) = is_expanded group signature
-expands group has_no_set = false
-expands group (is_insecure cause signed) = false
-expands group (is_bogus cause links) = false
-expands group is_indeterminate = false

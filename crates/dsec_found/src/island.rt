@@ -3,7 +3,7 @@
 ghost use Rattle.std.specs.Prelude.{◌≡◌, IfOk};
 ghost use Rattle.std.specs.Option.{option_map};
 ghost use Rattle.dsec_spec.specs.Islands.{is_above, looked_for_at};
-ghost use Rattle.dsec_spec.specs.Names.{is_below as below, is_strictly_below as strictly_below, place, same_place};
+ghost use Rattle.dsec_spec.specs.Names.{is_below as below, is_strictly_below as strictly_below, place};
 
 use dsec_name::{Name, NoMemory};
 use dsec_number::Rtype;
@@ -28,13 +28,6 @@ pub(crate) fn copy_of(name: &Name) -> Result<Name, NoMemory>
     Ok(name.clone()?)
 }
 
-/// Whether two names are one, ASCII case aside (RFC 4343 3).
-pub(crate) fn is_same(a: &Name, b: &Name) -> bool
-    ensures { result ≡ same_place (place a.now) (place b.now) }
-{
-    *a == *b
-}
-
 /// Whether a name is another, or stands under it.
 #[tactic(auto, using(dsec_spec::proofs::SignedTests::below_decides))]
 pub(crate) fn is_below(name: &Name, base: &Name) -> bool
@@ -44,14 +37,14 @@ pub(crate) fn is_below(name: &Name, base: &Name) -> bool
 }
 
 /// Whether a name is under another, and not that one.
-pub(crate) fn is_strictly_below(name: &Name, base: &Name) -> bool
+fn is_strictly_below(name: &Name, base: &Name) -> bool
     ensures { result ≡ strictly_below (place name.now) (place base.now) }
 {
     is_below(name, base) && base.label_count() < name.label_count()
 }
 
 /// Whether a name is strictly above an island, where there is one.
-pub(crate) fn is_above_island(top: Option<&Name>, name: &Name) -> bool
+pub fn is_above_island(top: Option<&Name>, name: &Name) -> bool
     ensures { result ≡ is_above (option_map (λ top. place top.now) top.entry) (place name.now) }
 {
     match top {

@@ -7,7 +7,7 @@ use Rattle.dsec_spec.specs.Records.{Record, RecordSet}
 use Rattle.dsec_spec.specs.Accepts.{Accepts}
 use Rattle.dsec_spec.specs.Chain.{Link, Holds, IsAnchor, IsChain}
 use Rattle.dsec_nodes.specs.Taking.{IsListed}
-use Rattle.dsec_nodes.specs.SoundOutcomes.{BeginsAt}
+use Rattle.dsec_nodes.specs.SoundFindings.{BeginsAt}
 use Rattle.dsec_spec.proofs.Members.{in_more, not_in_none}
 
 -- an anchor that is among others is one of them

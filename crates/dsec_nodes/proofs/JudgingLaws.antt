@@ -1,7 +1,5 @@
 -- Groups that are judged are those that were given, each at its place.
-use Rattle.std.proofs.Common.{◌≡◌, ℕ, zero, suc, ◌==◌, Bool, true, false, cond, List, [], ◌∷◌, length, map, Option, Some, None, refl, sym, ap, ◌∙◌}
-use Rattle.std.specs.Prelude.{slice_get}
-use Rattle.std.proofs.lemmas.Option.{same_Some}
+use Rattle.std.proofs.Common.{◌≡◌, ◌==◌, Bool, true, false, cond, List, [], ◌∷◌, length, map, Option, Some, None, refl, sym, ap, ◌∙◌}
 use Rattle.dsec_spec.specs.Names.{Place, place}
 use Rattle.dsec_spec.specs.Groups.{Group}
 use Rattle.dsec_spec.specs.Islands.{island}
@@ -22,7 +20,7 @@ judged_group w replies group = by_records (length group.records == 0)
     by_records false = by_top (island w.anchors (place group.owner) group.rtype)
 
 -- where all are judged, so are those after the first
-others : (j : Judged) (f : Finding) (rest : AllJudged) (js : List Judged) → and_others j f rest ≡ all js
+pub others : (j : Judged) (f : Finding) (rest : AllJudged) (js : List Judged) → and_others j f rest ≡ all js
     → (later : List Judged) × (rest ≡ all later) × (j ∷ later ≡ js)
 others j (is_bogus cause links) rest js e = absurd cc
 others j (is_shown links last signature) (all later) js e = (later, refl, cc)
@@ -43,16 +41,3 @@ groups_same w replies (g ∷ gs) js e =
     let o = others (judged_of w replies g) (judged_of w replies g).finding (judged_all w replies gs) js e in
     ap (map (λ (j : Judged). j.group)) (sym o.2)
     ∙ (ap (λ (x : Group). x ∷ map (λ (j : Judged). j.group) o.0) (judged_group w replies g) ∙ ap (λ (xs : List Group). g ∷ xs) (groups_same w replies gs o.0 o.1))
-
--- and each at its place
-pub judged_at : (w : World) (replies : Replies) (groups : List Group) (js : List Judged) (k : ℕ) (j : Judged)
-    → judged_all w replies groups ≡ all js
-    → slice_get js k ≡ Some j → (g : Group) × (slice_get groups k ≡ Some g) × (judged_of w replies g ≡ j)
-unfolding judged_all
-judged_at w replies [] js k j e f = let none : [] ≡ js = cc in absurd (let g : slice_get [] k ≡ Some j = ap (λ (xs : List Judged). slice_get xs k) none ∙ f in cc)
-judged_at w replies (g ∷ gs) js zero j e f =
-    let o = others (judged_of w replies g) (judged_of w replies g).finding (judged_all w replies gs) js e in
-    (g, refl, same_Some _ _ (ap (λ (xs : List Judged). slice_get xs 0) o.2 ∙ f))
-judged_at w replies (g ∷ gs) js (suc k) j e f =
-    let o = others (judged_of w replies g) (judged_of w replies g).finding (judged_all w replies gs) js e in
-    judged_at w replies gs o.0 k j o.1 (ap (λ (xs : List Judged). slice_get xs (suc k)) o.2 ∙ f)

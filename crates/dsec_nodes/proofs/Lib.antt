@@ -1,5 +1,6 @@
 pub mod Periods
 pub mod Signs
+pub mod Lists
 pub mod Lasting
 pub mod KeptLaws
 pub mod MissingLaws
@@ -19,7 +20,13 @@ pub mod RunLaws
 pub mod ShownLaws
 pub mod UnsignedLaws
 pub mod JudgingLaws
+pub mod SoaLaws
+pub mod DenialLaws
+pub mod RcodeLaws
+pub mod EndLaws
 pub mod OutcomeLaws
+pub mod QuestionLaws
 pub mod TruthLaws
 pub mod NodeExamples
 pub mod ApexExample
+pub mod DenialExamples

@@ -24,7 +24,7 @@ use Rattle.dsec_nodes.specs.Held.{HeldZone, GoodPair}
 use Rattle.dsec_nodes.specs.Taking.{IsListed, RestsAt}
 use Rattle.dsec_nodes.specs.Walk.{Reached, held_keys, goes_on, after, next, way, node_of}
 use Rattle.dsec_nodes.specs.Judging.{is_shown, has_no_set, Judged, found_by, found_at, target_of, by_island, judged_of}
-use Rattle.dsec_nodes.specs.SoundOutcomes.{BeginsAt, IsShownSet}
+use Rattle.dsec_nodes.specs.SoundFindings.{BeginsAt, IsShownSet}
 use Rattle.dsec_nodes.proofs.Signs.{from_under}
 use Rattle.dsec_nodes.proofs.WalkLaws.{node_on_way}
 use Rattle.dsec_nodes.proofs.AmongLaws.{chain_among, chain_begins}

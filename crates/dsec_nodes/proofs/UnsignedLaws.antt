@@ -14,7 +14,7 @@ use Rattle.dsec_nodes.specs.Nodes.{Node, Standing, apex, within, insecure, bogus
 use Rattle.dsec_nodes.specs.Signing.{under_keys}
 use Rattle.dsec_nodes.specs.Walk.{way, node_of}
 use Rattle.dsec_nodes.specs.Judging.{Finding, is_shown, is_insecure, is_bogus, has_no_set, is_indeterminate, found_by, found_at, target_of, by_island, judged_of}
-use Rattle.dsec_nodes.specs.SoundOutcomes.{IsShownInsecure}
+use Rattle.dsec_nodes.specs.SoundFindings.{IsShownInsecure}
 use Rattle.dsec_nodes.proofs.WalkLaws.{node_on_way}
 use Rattle.dsec_nodes.proofs.ShownLaws.{target_between}
 

@@ -1,5 +1,5 @@
 -- What a message is judged to be by a table of replies: a plain recursion (RFC 4033 5, RFC 4035 4.3, 5).
-use Rattle.std.specs.Prelude.{ℕ, ◌==◌, ◌&&◌, List, [], ◌∷◌, ◌++◌, position, slice_get, Bool, false, Option, Some, None, Result, Ok, Err, if◌then◌else◌}
+use Rattle.std.specs.Prelude.{ℕ, ◌==◌, ◌&&◌, List, [], ◌∷◌, ◌++◌, position, slice_get, Bool, Option, Some, None, Result, Ok, Err, if◌then◌else◌}
 use Rattle.std.specs.List.{list_any}
 use Rattle.std.proofs.Math.Bool.{not}
 use Rattle.dsec_spec.specs.Reading.{◌>>=◌}
@@ -10,43 +10,34 @@ use Rattle.dsec_spec.specs.Messages.{Question, questions_of, answers_of, authori
 use Rattle.dsec_spec.specs.Groups.{Group, groups_of}
 use Rattle.dsec_spec.specs.Redirection.{is_bare, moved}
 use Rattle.dsec_nodes.specs.World.{World, Replies}
-use Rattle.dsec_nodes.specs.Causes.{RrsigWithoutRrset, NoTrustAnchor, TooManyUnsignedCnames}
-use Rattle.dsec_nodes.specs.Signing.{is_expanded}
-use Rattle.dsec_nodes.specs.Judging.{Finding, is_shown, has_no_set, is_insecure, is_bogus, is_indeterminate, Judged, AllJudged, all, one_bogus, judged_all}
-use Rattle.dsec_nodes.specs.Outcomes.{State, secure, insecure, indeterminate, Why, by_groups, by_cause, by_links, by_nothing, Outcome, bogus_by, not_built, AliasEnd, ends_at, ends_bogus, alias_path, by_wildcard, by_denial}
+use Rattle.dsec_nodes.specs.Causes.{TooManyUnsignedCnames}
+use Rattle.dsec_nodes.specs.Judging.{Finding, Judged, AllJudged, all, one_bogus, judged_all}
+use Rattle.dsec_nodes.specs.Outcomes.{State, secure, Why, by_groups, by_cause, by_links, by_nothing, Outcome, bogus_by, not_built, by_finding, AliasEnd, ends_at, ends_bogus, alias_path}
+use Rattle.dsec_nodes.specs.ByDenial.{encloser_of, by_encloser, no_error_in, by_denial}
 
 -- why a message isn't judged: it can't be read (RFC 1035 4.1), or it hasn't one question
 pub data Refusal : Type 0 where
   unreadable : Refusal
   not_one_question : Refusal
 
--- the outcome by what was found of the answer's set (RFC 4033 5)
-abbrev pub by_answer : World → Place → List Judged → Judged → Finding → Outcome
-by_answer w name authorities j (is_shown links last signature) =
-    if is_expanded j.group signature then by_wildcard w name j authorities else record { state = secure; cause = None; why = by_groups (j ∷ []) }
-by_answer w name authorities j has_no_set = record { state = insecure; cause = Some RrsigWithoutRrset; why = by_nothing }
-by_answer w name authorities j (is_insecure cause signed) = record { state = insecure; cause = cause; why = by_cause signed }
-by_answer w name authorities j (is_bogus cause links) = bogus_by cause (by_links links)
-by_answer w name authorities j is_indeterminate = record { state = indeterminate; cause = Some NoTrustAnchor; why = by_nothing }
+-- the outcome by what was found of the answer's set (RFC 4033 5, RFC 4035 5.3.4)
+abbrev pub by_answer : World → Question → Place → List Judged → Judged → Finding → Outcome
+by_answer w question name authorities j f =
+    by_finding (λ signature. by_encloser w question name authorities j (encloser_of j.group signature)) f
 
 -- whether a group is at this name and of the question's class and type (RFC 1034 3.7.1)
 abbrev pub is_answer : Place → Question → Judged → Bool
 is_answer name question j = same_place (place j.group.owner) name && (j.group.class == question.class) && (j.group.rtype == question.rtype)
 
 -- the outcome by the group at an index (RFC 4033 5)
-abbrev pub at_answer : World → Place → List Judged → Option Judged → Outcome
-at_answer w name authorities None = not_built
-at_answer w name authorities (Some j) = by_answer w name authorities j j.finding
+abbrev pub at_answer : World → Question → Place → List Judged → Option Judged → Outcome
+at_answer w question name authorities None = not_built
+at_answer w question name authorities (Some j) = by_answer w question name authorities j j.finding
 
 -- the outcome by the first group that answers, or by a denial where there is none (RFC 4035 5.4)
 abbrev pub by_answers : World → List ℕ → Question → Place → List Judged → List Judged → Option ℕ → Outcome
 by_answers w message question name answers authorities None = by_denial w message question name authorities
-by_answers w message question name answers authorities (Some index) = at_answer w name authorities (slice_get answers index)
-
--- whether an rcode says that there was no error (RFC 1035 4.1.1)
-abbrev pub no_error_in : Option ℕ → Bool
-no_error_in None = false
-no_error_in (Some rcode) = rcode == 0
+by_answers w message question name answers authorities (Some index) = at_answer w question name authorities (slice_get answers index)
 
 -- the outcome at a name: by an answer where there was no error and one type is asked for, or else by a denial (RFC 4035 5)
 abbrev pub at_name : World → List ℕ → Question → Place → List Judged → List Judged → Outcome
@@ -63,7 +54,7 @@ map_maybe_secure found maybe = found
 
 -- why, with the groups of the aliases before it (RFC 1034 3.6.2)
 abbrev pub why_after : List Judged → Why → Why
-why_after steps (by_groups js) = by_groups (steps ++ js)
+why_after steps (by_groups js used) = by_groups (steps ++ js) used
 why_after steps (by_cause signed) = by_cause signed
 why_after steps (by_links links) = by_links links
 why_after steps by_nothing = by_nothing

@@ -17,6 +17,9 @@ pub mod InStep
 pub mod SoundSteps
 pub mod Judging
 pub mod Outcomes
+pub mod ByDenial
 pub mod Alone
+pub mod SoundFindings
+pub mod SoundDenials
 pub mod SoundOutcomes
 pub mod Runs

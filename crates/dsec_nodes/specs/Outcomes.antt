@@ -1,14 +1,15 @@
 -- What a message comes to, and the parts of judging it that are left out (RFC 4033 5, RFC 4035 5).
-use Rattle.std.specs.Prelude.{ℕ, List, [], Option, Some, if◌then◌else◌}
+use Rattle.std.specs.Prelude.{ℕ, List, [], Option, Some, None, if◌then◌else◌}
 use Rattle.std.specs.List.{list_any}
 use Rattle.dsec_spec.specs.Names.{Place, place}
+use Rattle.dsec_spec.specs.Records.{Record}
 use Rattle.dsec_spec.specs.Messages.{Question}
 use Rattle.dsec_spec.specs.Answering.{leads_on}
 use Rattle.dsec_spec.specs.Chain as chain
 use Rattle.dsec_nodes.specs.World.{World}
-use Rattle.dsec_nodes.specs.Causes.{Cause, NotBuilt}
+use Rattle.dsec_nodes.specs.Causes.{Cause, RrsigWithoutRrset, NoTrustAnchor, NotBuilt}
 use Rattle.dsec_nodes.specs.Nodes.{SignedCause}
-use Rattle.dsec_nodes.specs.Judging.{Judged}
+use Rattle.dsec_nodes.specs.Judging.{Finding, is_shown, has_no_set, is_insecure, is_bogus, is_indeterminate, Judged}
 
 -- the four states (RFC 4033 5)
 pub data State : Type 0 where
@@ -17,10 +18,15 @@ pub data State : Type 0 where
   bogus : State
   indeterminate : State
 
--- why a state was found: by judged groups and denials, in order; by a signed cause; by the links to a zone; or by none of these
--- (RFC 4033 5)
+-- a judged group of the authority section that a denial uses, and its index there (RFC 4035 5.4)
+pub record Used : Type 0 where
+  pub index : ℕ
+  pub judged : Judged
+
+-- why a state was found: by judged groups, and by the groups that denials beside them use, each in order; by a signed cause; by the links to a
+-- zone; or by none of these (RFC 4033 5, RFC 4035 5.4)
 pub data Why : Type 0 where
-  by_groups : List Judged → Why
+  by_groups : List Judged → List Used → Why
   by_cause : SignedCause → Why
   by_links : List chain.Link → Why
   by_nothing : Why
@@ -31,6 +37,10 @@ pub record Outcome : Type 0 where
   pub cause : Option Cause
   pub why : Why
 
+-- a secure outcome (RFC 4033 5)
+abbrev pub secure_by : List Judged → List Used → Outcome
+secure_by judged used = record { state = secure; cause = None; why = by_groups judged used }
+
 -- a bogus outcome (RFC 4033 5)
 abbrev pub bogus_by : Cause → Why → Outcome
 bogus_by cause why = record { state = bogus; cause = Some cause; why = why }
@@ -38,6 +48,15 @@ bogus_by cause why = record { state = bogus; cause = Some cause; why = why }
 -- an outcome where judging came to a part that is left out (RFC 4033 5)
 abbrev pub not_built : Outcome
 not_built = bogus_by NotBuilt by_nothing
+
+-- the outcome by what was found of the group that decides: where links show its set, what comes of it with the signature by which they do
+-- (RFC 4033 5)
+abbrev pub by_finding : (Record → Outcome) → Finding → Outcome
+by_finding where_shown (is_shown links last signature) = where_shown signature
+by_finding where_shown has_no_set = record { state = insecure; cause = Some RrsigWithoutRrset; why = by_nothing }
+by_finding where_shown (is_insecure cause signed) = record { state = insecure; cause = cause; why = by_cause signed }
+by_finding where_shown (is_bogus cause links) = bogus_by cause (by_links links)
+by_finding where_shown is_indeterminate = record { state = indeterminate; cause = Some NoTrustAnchor; why = by_nothing }
 
 -- where the path of names from a question's ends: at a name, with the state of the aliases and the groups used, or not at all
 -- (RFC 1034 3.6.2)
@@ -49,11 +68,3 @@ pub data AliasEnd : Type 0 where
 abbrev pub alias_path : World → Question → List Judged → AliasEnd
 alias_path w question answers =
     if list_any (λ j. leads_on w.anchors question j.group) answers then ends_bogus NotBuilt else ends_at (place question.name) secure []
-
--- an answer from a wildcard, which needs a denial of the name itself, is left out (RFC 4035 5.3.4)
-abbrev pub by_wildcard : World → Place → Judged → List Judged → Outcome
-by_wildcard w name j authorities = not_built
-
--- a denial of a name or of its type is left out (RFC 4035 5.4, RFC 5155 8)
-abbrev pub by_denial : World → List ℕ → Question → Place → List Judged → Outcome
-by_denial w message question name authorities = not_built

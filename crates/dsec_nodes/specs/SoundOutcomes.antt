@@ -1,113 +1,114 @@
--- What each outcome of a message means: what was read of it, what is shown of the answer's set, and where judging ends (RFC 4033 5,
--- RFC 4035 5).
-use Rattle.std.specs.Prelude.{◌≡◌, ◌≢◌, ◌⊎◌, ℕ, IsSome, List, [], ◌∷◌, ◌++◌, Contains, slice_get, Some, None}
-use Rattle.dsec_spec.specs.Names.{Place, place, IsAtOrBelow}
-use Rattle.dsec_spec.specs.Records.{Record, Rrsig, rrsig_of}
-use Rattle.dsec_spec.specs.Messages.{Question, questions_of, answers_of, rcode_of}
-use Rattle.dsec_spec.specs.SignedBytes.{IsExpansion}
-use Rattle.dsec_spec.specs.Groups.{Group, groups_of, set_in}
+-- What each outcome of a message means: what was read, which group decides, what is shown of it, and what is denied (RFC 4033 5, RFC 4035 5).
+use Rattle.std.specs.Prelude.{◌≡◌, ◌⊎◌, ℕ, IsSome, List, [], ◌∷◌, Contains, slice_get, Some, None}
+use Rattle.dsec_spec.specs.Names.{Place, place}
+use Rattle.dsec_spec.specs.Records.{Record}
+use Rattle.dsec_spec.specs.Messages.{Question, questions_of, answers_of, authorities_of, rcode_of}
+use Rattle.dsec_spec.specs.Groups.{Group, groups_of}
 use Rattle.dsec_spec.specs.Islands.{island}
 use Rattle.dsec_spec.specs.Redirection.{moved}
-use Rattle.dsec_spec.specs.Chain.{Link, Holds}
-use Rattle.dsec_spec.specs.Sound.{IsIsland, IsAtQuestion, LeadsOn}
-use Rattle.dsec_nodes.specs.World.{World, moment}
+use Rattle.dsec_spec.specs.Sound.{IsAtQuestion, LeadsOn}
+use Rattle.dsec_absence.specs.Denials.{Denial, no_closer, used_in}
+use Rattle.dsec_nodes.specs.World.{World}
 use Rattle.dsec_nodes.specs.Causes.{RrsigWithoutRrset, NoTrustAnchor}
-use Rattle.dsec_nodes.specs.Nodes.{SignedCause, IsSignedCause}
-use Rattle.dsec_nodes.specs.Taking.{IsListed}
-use Rattle.dsec_nodes.specs.Judging.{is_shown, Judged, target_of}
-use Rattle.dsec_nodes.specs.Outcomes.{State, secure, insecure, bogus, indeterminate, by_groups, by_cause, Outcome}
+use Rattle.dsec_nodes.specs.Nodes.{SignedCause}
+use Rattle.dsec_nodes.specs.Judging.{Judged}
+use Rattle.dsec_nodes.specs.Outcomes.{State, secure, insecure, bogus, indeterminate, Used, by_groups, by_cause, Outcome}
+use Rattle.dsec_nodes.specs.SoundFindings.{IsShownInsecure, IsShown, IsShownItself, IsShownFrom}
+use Rattle.dsec_nodes.specs.SoundDenials.{IsSoaFor, IsDeniedBy, IsByRcode}
 
 -- the message has this one question, and these are the groups of its answer section, CNAME records that follow from a DNAME record moved to
--- it (RFC 1035 4.1, RFC 6672 3.1)
-pub record IsRead (message : List ℕ) (most : ℕ) (question : Question) (answers : List Group) : Type 0 where
+-- it, and of its authority section (RFC 1035 4.1, RFC 6672 3.1)
+pub record IsRead (message : List ℕ) (most : ℕ) (question : Question) (answers authorities : List Group) : Type 0 where
   pub questions_end : ℕ
   pub asked : questions_of message ≡ Some (question ∷ [], questions_end)
-  pub section : List Record
-  pub section_end : ℕ
-  pub read : answers_of message ≡ Some (section, section_end)
-  pub groups : moved most (groups_of section) ≡ Some answers
+  pub answer_records : List Record
+  pub answers_end : ℕ
+  pub answers_read : answers_of message ≡ Some (answer_records, answers_end)
+  pub answers_are : moved most (groups_of answer_records) ≡ Some answers
+  pub authority_records : List Record
+  pub authorities_end : ℕ
+  pub authorities_read : authorities_of message ≡ Some (authority_records, authorities_end)
+  pub authorities_are : groups_of authority_records ≡ authorities
 
--- links begin with the set at this place (RFC 4033 2)
-pub record BeginsAt (links : List Link) (p : Place) : Type 0 where
-  pub first : Link
-  pub others : List Link
-  pub are : links ≡ first ∷ others
-  pub at : place first.records.owner ≡ p
-
--- The links show a judged group's set at the moment of judging: they lead from an anchor at its island to the zone that is to have signed it,
--- and the last has the data of the signature, which stands beside the set (RFC 4033 2, RFC 4035 5)
-pub record IsShownSet (w : World) (j : Judged) (links : List Link) (last : Link) (signature : Record) : Type 0 where
-  pub has_records : j.group.records ≢ []
-  pub holds : Holds w.accepts w.anchors (links ++ last ∷ []) (set_in j.group) (moment w)
-  pub zone_is : holds.zone ≡ j.signer
-  pub island : Place
-  pub is_island : IsIsland w.anchors (place j.group.owner) j.group.rtype island
-  pub begins : BeginsAt links island
-  pub beside : Contains j.group.signatures signature
-  pub says : signature.rdata ≡ last.rrsig
-
--- a signed cause holds at the moment of judging, from an anchor at the group's island, of a name at or above the zone that is to have signed
--- the group (RFC 4035 5.2)
-pub record IsShownInsecure (w : World) (group : Group) (signed : SignedCause) : Type 0 where
-  pub top : Place
-  pub is_island : IsIsland w.anchors (place group.owner) group.rtype top
-  pub anchor : Record
-  pub is_listed : IsListed w.anchors anchor
-  pub at : place anchor.owner ≡ top
-  pub name : Place
-  pub over : IsAtOrBelow (target_of group (Some top)) name
-  pub shows : IsSignedCause w.accepts w.bounds anchor name signed (moment w)
-
--- judging ends at the question's name: there was no error, no single CNAME or DNAME record leads on, and the group answers the question
--- (RFC 1034 3.6.2, RFC 4035 5)
-pub record EndsAt (w : World) (message : List ℕ) (question : Question) (answers : List Group) (group : Group) : Type 0 where
-  pub no_error : rcode_of message ≡ Some 0
-  pub no_alias : (other : Group) → Contains answers other → LeadsOn w.anchors question other → ⊥
-  pub at_question : IsAtQuestion question group
-
--- the message's one question is answered by this group, which stands at an index of its answer section (RFC 1034 3.7.1)
-pub record IsAnswered (w : World) (most : ℕ) (message : List ℕ) (group : Group) : Type 0 where
+-- judging ends at the question's own name: no single CNAME or DNAME record leads on from it (RFC 1034 3.6.2)
+pub record EndsThere (w : World) (most : ℕ) (message : List ℕ) : Type 0 where
   pub question : Question
   pub answers : List Group
-  pub read : IsRead message most question answers
-  pub index : ℕ
-  pub stands : slice_get answers index ≡ Some group
-  pub ends : EndsAt w message question answers group
+  pub authorities : List Group
+  pub read : IsRead message most question answers authorities
+  pub no_alias : (other : Group) → Contains answers other → LeadsOn w.anchors question other → ⊥
 
--- a Secure outcome: links show the answer's set, by a signature that makes it no expansion of a wildcard, and no cause is told
--- (RFC 4033 5, RFC 4035 5.3.4)
-pub record IsSound (w : World) (most : ℕ) (message : List ℕ) (o : Outcome) : Type 0 where
+-- there was no error, and the message's one question is answered by this group of its answer section (RFC 1034 3.7.1)
+pub record IsAnswered (w : World) (most : ℕ) (message : List ℕ) (group : Group) : Type 0 where
+  pub end : EndsThere w most message
+  pub no_error : rcode_of message ≡ Some 0
+  pub index : ℕ
+  pub stands : slice_get end.answers index ≡ Some group
+  pub at_question : IsAtQuestion end.question group
+
+-- this group of its authority section is the SOA set by which it denies (RFC 2308 2)
+pub record HasSoa (w : World) (most : ℕ) (message : List ℕ) (group : Group) : Type 0 where
+  pub end : EndsThere w most message
+  pub index : ℕ
+  pub stands : slice_get end.authorities index ≡ Some group
+  pub soa : IsSoaFor w end.question group
+
+-- the group decides: it answers, or is the SOA set by which the message denies (RFC 2308 2, RFC 4035 5)
+abbrev pub Decides : World → ℕ → List ℕ → Group → Type 0
+Decides w most message group = IsAnswered w most message group ⊎ HasSoa w most message group
+
+-- a Secure outcome: links show the answer's set, which is no expansion of a wildcard (RFC 4033 5, RFC 4035 5.3)
+pub record IsSecureAnswer (w : World) (most : ℕ) (message : List ℕ) (o : Outcome) : Type 0 where
   pub judged : Judged
   pub answered : IsAnswered w most message judged.group
-  pub links : List Link
-  pub last : Link
-  pub signature : Record
-  pub found : judged.finding ≡ is_shown links last signature
-  pub shown : IsShownSet w judged links last signature
-  pub no_expansion : (rrsig : Rrsig) → rrsig_of signature.rdata ≡ Some rrsig → IsExpansion rrsig.labels judged.group.owner → ⊥
-  pub why : o.why ≡ by_groups (judged ∷ [])
-  pub no_cause : o.cause ≡ None
+  pub itself : IsShownItself w judged
+  pub why : o.why ≡ by_groups (judged ∷ []) []
 
--- An Insecure outcome: a signed record shows at the moment of judging, from an anchor of the answer's island, that no chain leads to a name at
--- or above the zone that is to have signed the answer (RFC 4033 5, RFC 4035 5.2)
+-- or they show it as an expansion of the wildcard under a name, and that a closer name exists is denied (RFC 4035 5.3.4)
+pub record IsSecureByWildcard (w : World) (most : ℕ) (message : List ℕ) (o : Outcome) : Type 0 where
+  pub judged : Judged
+  pub answered : IsAnswered w most message judged.group
+  pub encloser : Place
+  pub expanded : IsShownFrom w judged encloser
+  pub used : Used
+  pub denied : IsDeniedBy w answered.end.authorities answered.end.question judged.signer (no_closer encloser used)
+  pub why : o.why ≡ by_groups (judged ∷ []) (used ∷ [])
+
+-- or they show the SOA set by which the message denies, and the type, or with an error the name, is denied (RFC 2308 2, RFC 4035 5.4)
+pub record IsSecureDenial (w : World) (most : ℕ) (message : List ℕ) (o : Outcome) : Type 0 where
+  pub judged : Judged
+  pub has_soa : HasSoa w most message judged.group
+  pub shown : IsShown w judged
+  pub denial : Denial Used
+  pub by_rcode : IsByRcode (rcode_of message) denial
+  pub denied : IsDeniedBy w has_soa.end.authorities has_soa.end.question judged.signer denial
+  pub why : o.why ≡ by_groups (judged ∷ []) (used_in denial)
+
+-- a Secure outcome is one of these, and no cause is told (RFC 4033 5)
+abbrev pub IsSound : World → ℕ → List ℕ → Outcome → Type 0
+IsSound w most message o =
+    (IsSecureAnswer w most message o ⊎ IsSecureByWildcard w most message o ⊎ IsSecureDenial w most message o) × (o.cause ≡ None)
+
+-- An Insecure outcome: a signed record shows at the moment of judging, from an anchor of its island, that no chain leads to a name at or above
+-- the zone that is to have signed the group that decides (RFC 4033 5, RFC 4035 5.2)
 pub record IsInsecure (w : World) (most : ℕ) (message : List ℕ) (o : Outcome) : Type 0 where
   pub group : Group
-  pub answered : IsAnswered w most message group
+  pub decides : Decides w most message group
   pub signed : SignedCause
   pub shown : IsShownInsecure w group signed
   pub why : o.why ≡ by_cause signed
 
--- or the answer is of signatures alone, which nothing signs (RFC 4035 2.2)
+-- or the group is of signatures alone, which nothing signs (RFC 4035 2.2)
 pub record HasSignaturesAlone (w : World) (most : ℕ) (message : List ℕ) (o : Outcome) : Type 0 where
   pub group : Group
-  pub answered : IsAnswered w most message group
+  pub decides : Decides w most message group
   pub no_records : group.records ≡ []
   pub cause : o.cause ≡ Some RrsigWithoutRrset
 
--- an Indeterminate outcome: no anchor stands at or above where the answer is looked for (RFC 4033 5)
+-- an Indeterminate outcome: no anchor stands at or above where the group that decides is looked for (RFC 4033 5)
 pub record IsUnanchored (w : World) (most : ℕ) (message : List ℕ) (o : Outcome) : Type 0 where
   pub group : Group
-  pub answered : IsAnswered w most message group
+  pub decides : Decides w most message group
   pub no_island : island w.anchors (place group.owner) group.rtype ≡ None
   pub cause : o.cause ≡ Some NoTrustAnchor
 

@@ -11,7 +11,8 @@ use Rattle.dsec_spec.specs.Numbers.{CNAME, DS, ANY}
 use Rattle.dsec_spec.specs.Records.{Record, Rrsig, rrsig_of}
 use Rattle.dsec_spec.specs.Messages.{rcode_of}
 use Rattle.dsec_spec.specs.Groups.{Group, groups_of, set_in, firsts}
-use Rattle.dsec_spec.specs.Trying.{of_signature}
+use Rattle.dsec_spec.specs.SignedBytes.{rightmost}
+use Rattle.dsec_spec.specs.JudgedGroups.{encloser_in}
 use Rattle.dsec_spec.specs.Islands.{looked_for_at, island, longest, is_usable, signers, target}
 use Rattle.dsec_spec.specs.Answering.{is_alias_at, is_alias_above, leads_on, is_expansion}
 use Rattle.dsec_spec.specs.Redirection.{is_bare, bare_alias, bare_record, followed_from, is_index, with_followers, staying_from, moved}
@@ -20,12 +21,13 @@ use Rattle.dsec_spec.proofs.CanonicalNames.{same_place_decides}
 use Rattle.dsec_spec.proofs.SignedTests.{below_decides, strictly_below_decides}
 use Rattle.dsec_spec.proofs.NamesBelow.{not_strictly_itself}
 use Rattle.dsec_nodes.specs.World.{World, Replies}
-use Rattle.dsec_nodes.specs.Signing.{is_expanded, link_under}
+use Rattle.dsec_nodes.specs.Signing.{link_under}
 use Rattle.dsec_nodes.specs.Walk.{node_of}
 use Rattle.dsec_nodes.specs.Judging.{is_shown, has_no_set, Judged, all, and_others, found_by, by_node, target_of, by_island, judged_of, judged_all}
-use Rattle.dsec_nodes.specs.Outcomes.{secure, by_groups, Outcome, not_built, ends_at, ends_bogus, alias_path, by_denial}
+use Rattle.dsec_nodes.specs.Outcomes.{secure, Outcome, secure_by, not_built, ends_at, ends_bogus, alias_path}
+use Rattle.dsec_nodes.specs.ByDenial.{encloser_of, by_encloser, no_error_in, by_denial}
 use Rattle.dsec_nodes.specs.Causes.{NotBuilt}
-use Rattle.dsec_nodes.specs.Alone.{is_answer, by_answers, no_error_in, after_path, at_end, on_judged, on_groups, on_sections}
+use Rattle.dsec_nodes.specs.Alone.{is_answer, by_answers, after_path, at_end, on_judged, on_groups, on_sections}
 use Rattle.dsec_plain.specs.PlainAnswers.{IsPlainAnswer}
 use Rattle.dsec_plain.specs.Coming.{IsSecureBy}
 use Rattle.dsec_plain.proofs.TryingOnce.{found_once}
@@ -166,12 +168,13 @@ module _ (w : World) (replies : Replies) (message : List ℕ) (a : IsPlainAnswer
           (λ t. not_strictly_itself (place a.question.name) (subst (IsStrictlyBelow (place a.question.name)) a.at_question.at_name ((strictly_below_decides (place a.question.name) (place a.group.owner)).0 t)))))
 
   -- it is no expansion of a wildcard
-  own_set : is_expanded a.group a.signed.signature ≡ false
-  own_set = ap (of_signature (λ (sig : Rrsig). is_expansion sig.labels a.group.owner)) a.signed.reads
-      ∙ false_from_ne_true (is_expansion a.signed.rrsig.labels a.group.owner) (λ t. let both = and_parts _ _ t in a.no_expansion (record {
+  own_set : encloser_of a.group a.signed.signature ≡ None
+  own_set = ap (λ (o : Option Rrsig). o >>= λ sig. encloser_in sig.labels a.group.owner) a.signed.reads
+      ∙ cond-false (is_expansion a.signed.rrsig.labels a.group.owner) (Some (rightmost a.signed.rrsig.labels a.group.owner)) None
+      (false_from_ne_true (is_expansion a.signed.rrsig.labels a.group.owner) (λ t. let both = and_parts _ _ t in a.no_expansion (record {
         fewer = ltb-true _ _ both.0;
         elsewhere = λ e. true≢false (sym both.1 ∙ not_from_true _ ((same_place_decides _ _).1 e));
-      }))
+      })))
 
   answers_it : is_answer (place a.question.name) a.question plain_judged ≡ true
   answers_it =
@@ -179,7 +182,7 @@ module _ (w : World) (replies : Replies) (message : List ℕ) (a : IsPlainAnswer
       (eq-eqb a.group.rtype a.question.rtype a.at_question.of_type)
 
   abbrev plain_outcome : Outcome
-  plain_outcome = record { state = secure; cause = None; why = by_groups (plain_judged ∷ []) }
+  plain_outcome = secure_by (plain_judged ∷ []) []
 
   first_position : {A : Type 0} (test : A → Bool) (x : A) → test x ≡ true → position test (x ∷ []) ≡ Some 0
   first_position test x e = ap (λ (b : Bool). cond (nat_lt (cond (not b) (1 + 0) 0) 1) (Some (cond (not b) (1 + 0) 0)) None) e
@@ -195,7 +198,7 @@ module _ (w : World) (replies : Replies) (message : List ℕ) (a : IsPlainAnswer
       ∙ ap (after_path secure []) (
       cond-true (no_error_in (rcode_of message) && not (a.question.rtype == ANY)) (by_answers w message a.question name js [] (position (is_answer name a.question) js)) (by_denial w message a.question name []) asked
       ∙ (ap (by_answers w message a.question name js []) (first_position (is_answer name a.question) plain_judged answers_it)
-      ∙ cond-false (is_expanded a.group a.signed.signature) not_built plain_outcome own_set))
+      ∙ ap (by_encloser w a.question name [] plain_judged) own_set))
 
   -- what is found where both sections' groups are judged
   judged_so : 0 < w.bounds.room → on_judged w message (a.question ∷ []) (judged_all w replies (a.group ∷ [])) (judged_all w replies []) ≡ Ok plain_outcome

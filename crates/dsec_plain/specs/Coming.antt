@@ -24,7 +24,7 @@ pub record IsSecureBy (w : World) (most : ℕ) (replies : Replies) (message : Li
   pub no_cause : outcome.cause ≡ None
   pub judged : Judged
   pub of_group : judged.group ≡ group
-  pub why : outcome.why ≡ by_groups (judged ∷ [])
+  pub why : outcome.why ≡ by_groups (judged ∷ []) []
 
 -- a message's sections can be read (RFC 1035 4.1)
 pub record IsReadable (message : List ℕ) : Type 0 where

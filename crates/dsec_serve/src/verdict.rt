@@ -3,7 +3,7 @@
 ghost use Rattle.std.specs.Prelude.{◌≡◌};
 
 use dsec_crypto::Verifier;
-use dsec_found::Outcome;
+use dsec_outcome::Outcome;
 use std::marker::Model;
 
 /// What a message comes to, and how many questions were asked for it.

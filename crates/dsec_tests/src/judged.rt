@@ -6,12 +6,13 @@ use dsec_anchors::TrustAnchors;
 use dsec_answer::ValidationContext;
 use dsec_cause::Cause;
 use dsec_crypto::{StandIn, Verifier};
-use dsec_found::{JudgedGroup, Why};
+use dsec_found::JudgedGroup;
 use dsec_group::ValidationState;
 use dsec_link::LinkKind;
 use dsec_name::Name;
 use dsec_node::Config;
 use dsec_number::Rtype;
+use dsec_outcome::Why;
 use dsec_outside::{FailingUpstream, Replies, TableUpstream};
 use dsec_serve::Verdict;
 use dsec_wire::Message;
@@ -60,7 +61,7 @@ fn is_shown<V: Verifier>(alloc: Global, judged: &JudgedGroup<V>) -> bool {
 /// Whether one group is why, and shown so.
 fn shows_first<V: Verifier>(alloc: Global, why: &Why<V>) -> bool {
     match why {
-        Why::ByGroups(groups) => match groups.as_slice() {
+        Why::ByGroups(groups, _) => match groups.as_slice() {
             [one] => is_shown(alloc, one),
             _ => false,
         },

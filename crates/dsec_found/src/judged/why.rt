@@ -4,18 +4,18 @@ ghost use Rattle.std.specs.Prelude.{◌≡◌, IfOk, IfSome};
 ghost use Rattle.std.specs.Arc.{arc_value};
 ghost use Rattle.std.specs.Option.{option_map};
 ghost use Rattle.dsec_node.specs.Views.{cause_view};
+ghost use Rattle.dsec_nodes.specs.ByDenial.{expands};
 ghost use Rattle.dsec_nodes.specs.Signing.{is_expanded as expanded};
 ghost use Rattle.dsec_spec.specs.Names.{place};
 ghost use Rattle.dsec_spec.specs.Numbers.{RRSIG};
 ghost use Rattle.dsec_found.specs.Founds.{StandsBy, finding_by};
-ghost use Rattle.dsec_found.specs.Outcomes.{bogus_of, why_view};
+ghost use Rattle.dsec_found.specs.Outcomes.{bogus_of, cause_held, insecure_of};
 ghost use Rattle.dsec_found.specs.declared.found.Found.TheVariants.{Shown};
-ghost use Rattle.dsec_found.specs.Told.{expands, own_link, signature_of, signed_cause_of, why_of, zone_links};
+ghost use Rattle.dsec_found.specs.Told.{own_link, signature_of, signed_cause_of, zone_links};
 
 use super::{Basis, JudgedGroup};
 use crate::found::Found;
 use crate::island::copy_of;
-use crate::outcome::Why;
 use dsec_cause::Cause;
 use dsec_crypto::Verifier;
 use dsec_group::Group;
@@ -94,24 +94,21 @@ impl<V: Verifier> JudgedGroup<V> {
         }
     }
 
-    /// Why the group is as it is.
-    pub fn why(&self, alloc: Global) -> Result<Why<V>, NoMemory>
-        ensures { IfOk result (λ why. why_view why ≡ why_of self.now self.now.finding) }
+    /// The node that shows that no chain leads to its name, of an insecure group.
+    pub fn insecure(&self) -> Result<Option<Arc<Node<V>>>, NoMemory>
+        ensures { IfOk result (λ found. option_map (λ node. cause_held (arc_value node)) found ≡ insecure_of self.now.finding) }
     {
         match &self.shared.basis {
-            Basis::NoSet | Basis::NoAnchor(_) => Ok(Why::ByNothing),
-            Basis::ByNode(_, Found::Shown(_, _)) => {
-                let mut judged = Vec::with_capacity(alloc, 1)?;
-                judged.push(self.clone()?)?;
-                Ok(Why::ByGroups(judged))
+            Basis::ByNode(node, Found::Insecure) => {
+                let node = Arc::try_clone(node)?;
+                Ok(Some(node))
             }
-            Basis::ByNode(node, Found::Insecure) => Ok(Why::ByCause(Arc::try_clone(node)?)),
-            Basis::ByNode(node, Found::Bogus(_)) => Ok(Why::ByLinks(Arc::try_clone(node)?)),
+            _ => Ok(None),
         }
     }
 
     /// The cause of a bogus group, and the node whose links lead to the zone whose keys were tried.
-    pub(crate) fn bogus(&self) -> Result<Option<(Cause, Arc<Node<V>>)>, NoMemory>
+    pub fn bogus(&self) -> Result<Option<(Cause, Arc<Node<V>>)>, NoMemory>
         ensures { IfOk result (λ found. option_map (λ p. (p.0, (arc_value p.1).links)) found ≡ bogus_of self.now.finding) }
     {
         match &self.shared.basis {

@@ -1,0 +1,10 @@
+pub mod TypeLaws
+pub mod NameLaws
+pub mod EncloserLaws
+pub mod TestLaws
+pub mod SearchLaws
+pub mod DenialLaws
+pub mod AnswerLaws
+pub mod SearchSteps
+pub mod Checking
+pub mod Examples

@@ -1,0 +1,3 @@
+pub mod Views
+pub mod Sources
+pub mod Told

@@ -1,0 +1,79 @@
+-- The SOA set that counts is one of a zone that the question's name may be in, under its island.
+use Rattle.std.proofs.Common.{◌≡◌, ℕ, true, List, [], ◌∷◌, map, Option, Some, None, refl, sym, ap, ◌∙◌, subst}
+use Rattle.std.specs.Prelude.{Contains, filter, slice_get}
+use Rattle.std.proofs.Math.Bool.{not}
+use Rattle.std.proofs.lemmas.Bool.{true≢false, and_parts, eqb-true, not-true}
+use Rattle.dsec_spec.specs.Names.{Place, place, is_below, IsAtOrBelow, IsStrictlyBelow}
+use Rattle.dsec_spec.specs.Numbers.{SOA}
+use Rattle.dsec_spec.specs.Records.{Record}
+use Rattle.dsec_spec.specs.Messages.{Question}
+use Rattle.dsec_spec.specs.Islands.{looked_for_at, longest, island, is_above}
+use Rattle.dsec_spec.specs.Sound.{IsIsland}
+use Rattle.dsec_spec.proofs.IslandLemmas.{island_is, one_looked_for}
+use Rattle.dsec_spec.proofs.Members.{not_in_none, in_map, in_filter}
+use Rattle.dsec_spec.proofs.NamesBelow.{below_antisymm}
+use Rattle.dsec_spec.proofs.SignedTests.{below_decides, strictly_below_decides}
+use Rattle.dsec_absence.specs.Replies.{is_soa_for, soa_at}
+use Rattle.dsec_nodes.specs.World.{World}
+use Rattle.dsec_nodes.specs.Judging.{Judged}
+use Rattle.dsec_nodes.specs.SoundDenials.{IsSoaFor}
+use Rattle.dsec_nodes.proofs.Lists.{from_position}
+
+none_longest : (ps : List Place) → longest ps ≡ None → (p : Place) → Contains ps p → ⊥
+unfolding longest
+none_longest [] e p there = not_in_none p there
+none_longest (q ∷ ps) e p there = absurd cc
+
+-- what is an island by the relation is it by the function
+island_told : (anchors : List Record) (name : Place) (rtype : ℕ) (top : Place) → IsIsland anchors name rtype top
+    → island anchors name rtype ≡ Some top
+island_told anchors name rtype top i = by (island anchors name rtype) refl
+  where
+    from_is : i.from ≡ looked_for_at name rtype
+    from_is = one_looked_for name rtype i.from i.looked_for
+
+    places : List Place
+    places = map (λ (anchor : Record). place anchor.owner) anchors
+
+    there : Contains (filter (is_below (looked_for_at name rtype)) places) (place i.anchor.owner)
+    there = in_filter (is_below (looked_for_at name rtype)) places (place i.anchor.owner) (in_map (λ (anchor : Record). place anchor.owner) anchors i.anchor i.listed)
+        ((below_decides (looked_for_at name rtype) (place i.anchor.owner)).1 (subst (IsAtOrBelow (looked_for_at name rtype)) (sym i.stands_at) (subst (λ (p : Place). IsAtOrBelow p top) from_is i.above)))
+
+    same : (other : Place) → IsIsland anchors name rtype other → other ≡ top
+    same other j =
+        let both : j.from ≡ i.from = one_looked_for name rtype j.from j.looked_for ∙ sym from_is in
+        let higher = subst (λ (p : Place). IsAtOrBelow p other) both j.above in
+        let lower = subst (λ (p : Place). IsAtOrBelow p top) (sym both) i.above in
+        below_antisymm other top
+        (subst (IsAtOrBelow other) i.stands_at (j.longest i.anchor i.listed (subst (IsAtOrBelow j.from) (sym i.stands_at) lower)))
+        (subst (IsAtOrBelow top) j.stands_at (i.longest j.anchor j.listed (subst (IsAtOrBelow i.from) (sym j.stands_at) higher)))
+
+    by : (o : Option Place) → island anchors name rtype ≡ o → o ≡ Some top
+    by None e = absurd (none_longest (filter (is_below (looked_for_at name rtype)) places) e (place i.anchor.owner) there)
+    by (Some other) e = ap (λ (p : Place). Some p) (same other (island_is anchors name rtype other e))
+
+-- a place that isn't above the island by the test isn't by the relation
+pub not_over : (anchors : List Record) (name : Place) (rtype : ℕ) (p : Place) → not (is_above (island anchors name rtype) p) ≡ true
+    → (top : Place) → IsIsland anchors name rtype top → IsStrictlyBelow top p → ⊥
+not_over anchors name rtype p e top i below =
+    let above : is_above (island anchors name rtype) p ≡ true =
+    ap (λ (o : Option Place). is_above o p) (island_told anchors name rtype top i) ∙ (strictly_below_decides top p).1 below in
+    true≢false (sym above ∙ not-true (is_above (island anchors name rtype) p) e)
+
+-- the SOA set at the index that is found counts (RFC 2308 2.1)
+pub soa_is : (w : World) (question : Question) (js : List Judged) (index : ℕ) (j : Judged)
+    → soa_at (island w.anchors (place question.name) question.rtype) (place question.name) question.class (λ (x : Judged). x.group) js ≡ Some index
+    → slice_get js index ≡ Some j → IsSoaFor w question j.group
+soa_is w question js index j e stands =
+    let n : Place = place question.name in
+    let top = island w.anchors n question.rtype in
+    let passes = from_position (λ (x : Judged). is_soa_for top n question.class x.group) js index j e stands in
+    let parts = and_parts _ _ passes in
+    let front = and_parts _ _ parts.0 in
+    let both = and_parts _ _ front.0 in
+    record {
+      of_type = eqb-true j.group.rtype SOA both.0;
+      of_class = eqb-true j.group.class question.class both.1;
+      over = (below_decides n (place j.group.owner)).0 front.1;
+      in_island = not_over w.anchors n question.rtype (place j.group.owner) parts.1;
+    }

@@ -1,0 +1,5 @@
+pub mod AnswerSteps
+pub mod FindingSteps
+pub mod DenialSteps
+pub mod EncloserSteps
+pub mod UsedSteps

@@ -1,0 +1,132 @@
+//! What a message comes to (RFC 4033 5, RFC 4035 4.3).
+
+ghost use Rattle.std.specs.Prelude.{◌≡◌, ◌∷◌, [], IfOk, None};
+ghost use Rattle.dsec_nodes.specs.Outcomes.{bogus_by, by_finding, by_nothing, not_built as not_built_of, secure_by as secure_of};
+ghost use Rattle.dsec_nodes.specs.Outcomes as outcomes;
+ghost use Rattle.dsec_spec.specs.Records as records;
+ghost use Rattle.dsec_found.specs.Outcomes.{state_view};
+ghost use Rattle.dsec_found.specs.Told.{signature_of};
+ghost use Rattle.dsec_outcome.specs.Outcomes.{unshown_why, why_view};
+
+use crate::used::UsedGroup;
+use dsec_cause::Cause;
+use dsec_crypto::Verifier;
+use dsec_found::JudgedGroup;
+use dsec_group::ValidationState;
+use dsec_name::NoMemory;
+use dsec_node::Node;
+use std::alloc::Global;
+use std::marker::Model;
+use std::sync::Arc;
+
+/// Why a state was found. Groups and nodes are shared with those that judging keeps.
+#[derive(Drop)]
+pub enum Why<V: Verifier> {
+    /// By judged groups, and by the groups that denials beside them use, each in order.
+    ByGroups(Vec<JudgedGroup<V>>, Vec<UsedGroup<V>>),
+    /// By the signed record that shows that no chain leads to the node's name (RFC 4035 5.2).
+    ByCause(Arc<Node<V>>),
+    /// By the links to the zone whose keys were tried, which are the node's; a bogus node has none.
+    ByLinks(Arc<Node<V>>),
+    /// By none of these.
+    ByNothing,
+}
+
+/// A state with its cause, if one is told, and why it was found.
+#[derive(Drop)]
+pub struct Outcome<V: Verifier> {
+    state: ValidationState,
+    cause: Option<Cause>,
+    why: Why<V>,
+}
+
+impl<V: Verifier> Model for Outcome<V> {
+    ghost use Rattle.dsec_nodes.specs.Outcomes as outcomes;
+    ghost use Rattle.dsec_found.specs.Outcomes.{state_view};
+    ghost use Rattle.dsec_outcome.specs.Outcomes.{why_view};
+
+    ghost Value = { outcomes.Outcome };
+
+    ghost view = { λ it. record { state = state_view it.state; cause = it.cause; why = why_view it.why } };
+}
+
+impl<V: Verifier> Outcome<V> {
+    /// A state with its cause, and why it was found.
+    pub(crate) fn new(state: ValidationState, cause: Option<Cause>, why: Why<V>) -> Outcome<V>
+        ensures { result ≡ record { state = state_view state; cause = cause; why = why_view why } }
+    {
+        Outcome { state, cause, why }
+    }
+
+    /// A secure outcome by a group that links show, and by the groups that a denial beside it uses.
+    pub(crate) fn secure_by(
+        alloc: Global,
+        judged: &JudgedGroup<V>,
+        used: Vec<UsedGroup<V>>,
+    ) -> Result<Outcome<V>, NoMemory>
+        ensures { IfOk result (λ outcome. outcome ≡ secure_of (judged.now ∷ []) used.items) }
+    {
+        let mut groups = Vec::with_capacity(alloc, 1)?;
+        groups.push(judged.clone()?)?;
+        let why = Why::ByGroups(groups, used);
+        Ok(Outcome::new(ValidationState::Secure, None, why))
+    }
+
+    /// The outcome by a group that links don't show.
+    pub(crate) fn unshown(judged: &JudgedGroup<V>) -> Result<Outcome<V>, NoMemory>
+        requires { signature_of judged.now.finding ≡ None }
+        ensures { IfOk result (λ outcome. (where_shown : records.Record → outcomes.Outcome) → outcome ≡ by_finding where_shown judged.now.finding) }
+    {
+        let why = unshown_by(judged)?;
+        Ok(Outcome::new(judged.state(), judged.cause(), why))
+    }
+
+    /// A bogus outcome for which nothing else speaks.
+    pub fn bogus(cause: Cause) -> Outcome<V>
+        ensures { result ≡ bogus_by cause by_nothing }
+    {
+        Outcome::new(ValidationState::Bogus, Some(cause), Why::ByNothing)
+    }
+
+    /// The outcome where judging came to a part that is left out.
+    pub(crate) fn not_built() -> Outcome<V>
+        ensures { result ≡ not_built_of }
+    {
+        Outcome::bogus(Cause::NotBuilt)
+    }
+
+    /// The security status of what the message answers (RFC 4033 5).
+    pub fn state(&self) -> ValidationState
+        ensures { state_view result ≡ self.now.state }
+    {
+        self.state
+    }
+
+    /// Why it is as it is, as an extended DNS error (RFC 8914); a bogus outcome has one, a secure one none.
+    pub fn cause(&self) -> Option<Cause>
+        ensures { result ≡ self.now.cause }
+    {
+        self.cause
+    }
+
+    /// What shows it.
+    pub fn why(&self) -> &Why<V>
+        ensures { why_view result.now ≡ self.now.why }
+    {
+        &self.why
+    }
+}
+
+/// Why a group that links don't show is as it is.
+fn unshown_by<V: Verifier>(judged: &JudgedGroup<V>) -> Result<Why<V>, NoMemory>
+    requires { signature_of judged.now.finding ≡ None }
+    ensures { IfOk result (λ why. why_view why ≡ unshown_why judged.now.finding) }
+{
+    if let Some(node) = judged.insecure()? {
+        return Ok(Why::ByCause(node));
+    }
+    match judged.bogus()? {
+        Some((_, node)) => Ok(Why::ByLinks(node)),
+        None => Ok(Why::ByNothing),
+    }
+}
