@@ -1,15 +1,20 @@
 -- The search for a DS record's key: what comes of a key, and how many digests are taken from an index on.
-use Rattle.std.proofs.Common.{◌≡◌, ℕ, zero, suc, ◌+◌, ◌-◌, ◌<◌, ◌≤◌, Bool, true, false, cond, List, [], ◌∷◌, ◌++◌, map, length, take, drop, get_or, refl, sym, ap, ◌∙◌, arith}
-use Rattle.std.specs.Prelude.{Option, None, ◌&&◌, ◌||◌, ◌==◌, filter}
+use Rattle.std.proofs.Common.{◌≡◌, ℕ, zero, suc, ◌+◌, ◌-◌, ◌<◌, ◌≤◌, Bool, true, false, cond, List, [], ◌∷◌, ◌++◌, map, length, take, drop, get_or, Bor, refl, sym, ap, ◌∙◌, arith}
+use Rattle.std.specs.Prelude.{Option, Some, None, IfSome, ◌||◌, ◌==◌, filter, slice_get}
 use Rattle.std.specs.List.{list_any, position_or_len}
+use Rattle.std.specs.Option.{option_map}
 use Rattle.std.proofs.Math.Bool.{not}
 use Rattle.std.proofs.lemmas.List.{drop_all}
+use Rattle.std.proofs.lemmas.Option.{slice_get-map, slice_get_read}
 use Rattle.dsec_spec.specs.Names.{Labels, canonical_octets}
-use Rattle.dsec_spec.specs.Records.{Record, Key, key_octets, Ds}
-use Rattle.dsec_spec.specs.DelegationSigner.{is_digest, names, speaks_of}
+use Rattle.dsec_spec.specs.KeyTag.{key_tag}
+use Rattle.dsec_spec.specs.Records.{Record, Key, key_octets, key_of, Ds}
+use Rattle.dsec_spec.specs.DelegationSigner.{has_digest, is_digest}
 use Rattle.dsec_spec.specs.Digests.{digest_by, is_supported_digest}
 use Rattle.dsec_spec.specs.KeySearch.{is_named, is_spoken_of}
 use Rattle.dsec_spec.proofs.ListLemmas.{drop_here}
+use Rattle.dsec_node.specs.KeyTags.{AreTags}
+use Rattle.dsec_node.proofs.KeyTagLaws.{tag_there}
 use Rattle.dsec_child.specs.Searches.{tested, digests_of, digests_for, trial_of}
 use Rattle.dsec_child.specs.declared.search.Trial.TheVariants.{Match, Mismatch, Other, Excess}
 
@@ -38,6 +43,12 @@ from_excess true spoken false e = (refl, refl)
 from_excess true true true e = absurd cc
 from_excess true false true e = absurd cc
 
+-- where there are tags, the tag of a key stands where its record does
+pub tags_there : (tags : Option (Bor (List ℕ))) (keys : List Record) (i : ℕ) (one : Record) (key : Key) → IfSome tags (λ all. AreTags all.now (map (λ r. r.rdata) keys))
+    → i < length keys → one ≡ get_or keys i one → Some key ≡ key_of one.rdata → IfSome tags (λ all. slice_get all.now i ≡ Some (key_tag key))
+tags_there None keys i one key are below is says = are
+tags_there (Some all) keys i one key are below is says = tag_there all.now (map (λ (r : Record). r.rdata) keys) i one.rdata key are (slice_get-map (λ (r : Record). r.rdata) keys i ∙ ap (option_map (λ (r : Record). r.rdata)) (slice_get_read keys (length keys) i one refl below is)) says
+
 -- a digest type that isn't supported has no digest
 no_digest : (n : ℕ) (message : List ℕ) → is_supported_digest n ≡ false → digest_by n message ≡ None
 no_digest n message e = by (n == 1) (n == 2) (n == 4) refl refl refl e
@@ -48,13 +59,8 @@ no_digest n message e = by (n == 1) (n == 2) (n == 4) refl refl refl e
     by false false true one two four f = absurd cc
     by false false false one two four f = rw (one, two, four) refl
 
-pub not_supported : (ds : Ds) (owner : Labels) (key : Key) → is_supported_digest ds.digest_type ≡ false → false ≡ speaks_of ds owner key
-not_supported ds owner key e =
-    sym (ap (λ (o : Option (List ℕ)). names ds key && is_digest ds.digest o) (no_digest ds.digest_type (canonical_octets owner ++ key_octets key) e) ∙ none (names ds key))
-  where
-    none : (b : Bool) → (b && false) ≡ false
-    none true = refl
-    none false = refl
+pub not_supported : (ds : Ds) (owner : Labels) (key : Key) → is_supported_digest ds.digest_type ≡ false → false ≡ has_digest ds owner key
+not_supported ds owner key e = sym (ap (is_digest ds.digest) (no_digest ds.digest_type (canonical_octets owner ++ key_octets key) e))
 
 module _ {A : Type 0} (p q : A → Bool) where
   abbrev pub tests_in : ℕ → List A → ℕ

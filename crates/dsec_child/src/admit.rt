@@ -1,10 +1,12 @@
 //! Key sets that anchors or DS records admit (RFC 4035 5, 5.2).
 
 ghost use Rattle.std.specs.Prelude.{◌≡◌, ◌≤◌, ◌<◌, ◌+◌, ◌↔◌, IfOk, filter, length, map, take};
+ghost use Rattle.dsec_spec.specs.Groups.{set_in};
 ghost use Rattle.dsec_spec.specs.Numbers.{DNSKEY};
 ghost use Rattle.dsec_wire.specs.DataViews.{ds_view};
 ghost use Rattle.dsec_nodes.specs.Admission.{anchor_search, cause_among};
 ghost use Rattle.dsec_nodes.specs.Causes.{BadSignature, BadSignatureForDnskey};
+ghost use Rattle.dsec_node.specs.KeyTags.{AreTags};
 ghost use Rattle.dsec_child.specs.Admissions.{IsAdmission, cause_left, ds_cause, ds_cause_left, tried_at, tried_ds, usable_ds};
 
 use crate::tries::{WayTries, try_ways};
@@ -13,7 +15,7 @@ use dsec_cause::Cause;
 use dsec_crypto::Verifier;
 use dsec_group::{Group, Memo, Steps};
 use dsec_name::NoMemory;
-use dsec_node::Config;
+use dsec_node::{Config, key_tags};
 use dsec_number::Timestamp;
 use dsec_wire::{Ds, Record};
 use std::alloc::Global;
@@ -48,9 +50,31 @@ pub fn admit_by_anchor<V: Verifier, L: Ledger>(
         (tried_at V.accepts group.now t (config.now.max_bad_signatures + 1) (anchor_search config.now.max_dnskeys_per_ds group.now) anchors.now)) }
     ensures bound { steps.new ≤ steps.old + (config.now.max_bad_signatures + 1) }
 {
+    let tags = key_tags(alloc, group)?;
+    admitted_by_anchor::<V, L>(alloc, anchors, group, &tags, config, t, memo, steps)
+}
+
+/// The same, where the tags of the set's keys are these.
+pub(crate) fn admitted_by_anchor<V: Verifier, L: Ledger>(
+    alloc: Global,
+    anchors: &[Record],
+    group: &Group,
+    tags: &[u16],
+    config: &Config,
+    t: Timestamp,
+    memo: &mut impl Memo<V>,
+    steps: &mut Steps<L>,
+) -> Result<Result<Admission, Cause>, NoMemory>
+    requires typed { group.now.rtype ≡ DNSKEY }
+    requires tags { AreTags tags.now (set_in group.now).datas }
+    ensures admitted { IfOk result (IsAdmission anchors.now group.now
+        (cause_among BadSignature group.now (anchor_search config.now.max_dnskeys_per_ds group.now) anchors.now)
+        (tried_at V.accepts group.now t (config.now.max_bad_signatures + 1) (anchor_search config.now.max_dnskeys_per_ds group.now) anchors.now)) }
+    ensures bound { steps.new ≤ steps.old + (config.now.max_bad_signatures + 1) }
+{
     let most = config.max_dnskeys_per_ds();
     let room = u16::from(config.max_bad_signatures()) + 1;
-    by_anchors::<V, L>(alloc, anchors, most, group, room, t, memo, steps)
+    by_anchors::<V, L>(alloc, anchors, most, group, tags, room, t, memo, steps)
 }
 
 /// Which of these DS records admits a key of the set that has signed it, or why none does: each the first key that it speaks
@@ -71,10 +95,32 @@ pub fn admit_by_ds<V: Verifier, L: Ledger>(
         (tried_ds V.accepts group.now t (config.now.max_bad_signatures + 1) config.now.max_dnskeys_per_ds config.now.max_ds_records (map ds_view ds.now))) }
     ensures bound { steps.new ≤ steps.old + (config.now.max_bad_signatures + 1) }
 {
+    let tags = key_tags(alloc, group)?;
+    admitted_by_ds::<V, L>(alloc, ds, group, &tags, config, t, memo, steps)
+}
+
+/// The same, where the tags of the set's keys are these.
+pub(crate) fn admitted_by_ds<V: Verifier, L: Ledger>(
+    alloc: Global,
+    ds: &[Ds<'_>],
+    group: &Group,
+    tags: &[u16],
+    config: &Config,
+    t: Timestamp,
+    memo: &mut impl Memo<V>,
+    steps: &mut Steps<L>,
+) -> Result<Result<Admission, Cause>, NoMemory>
+    requires typed { group.now.rtype ≡ DNSKEY }
+    requires tags { AreTags tags.now (set_in group.now).datas }
+    ensures admitted { IfOk result (IsAdmission (map ds_view ds.now) group.now
+        (ds_cause config.now.max_dnskeys_per_ds config.now.max_ds_records group.now (map ds_view ds.now))
+        (tried_ds V.accepts group.now t (config.now.max_bad_signatures + 1) config.now.max_dnskeys_per_ds config.now.max_ds_records (map ds_view ds.now))) }
+    ensures bound { steps.new ≤ steps.old + (config.now.max_bad_signatures + 1) }
+{
     let most = config.max_dnskeys_per_ds();
     let max = config.max_ds_records();
     let room = u16::from(config.max_bad_signatures()) + 1;
-    by_ds::<V, L>(alloc, ds, most, max, group, room, t, memo, steps)
+    by_ds::<V, L>(alloc, ds, most, max, group, tags, room, t, memo, steps)
 }
 
 /// The same by anchors, where `most` keys of a DS anchor are tried, and `room` pairs.
@@ -83,12 +129,14 @@ fn by_anchors<V: Verifier, L: Ledger>(
     anchors: &[Record],
     most: u8,
     group: &Group,
+    tags: &[u16],
     room: u16,
     t: Timestamp,
     memo: &mut impl Memo<V>,
     steps: &mut Steps<L>,
 ) -> Result<Result<Admission, Cause>, NoMemory>
     requires typed { group.now.rtype ≡ DNSKEY }
+    requires tags { AreTags tags.now (set_in group.now).datas }
     requires some { 0 < room }
     ensures admitted { IfOk result (IsAdmission anchors.now group.now
         (cause_among BadSignature group.now (anchor_search most group.now) anchors.now)
@@ -96,7 +144,7 @@ fn by_anchors<V: Verifier, L: Ledger>(
     ensures bound { steps.new ≤ steps.old + room }
 {
     let bad = Cause::BadSignature;
-    match try_ways::<V, L, Record>(alloc, anchors, most, group, room, bad, t, memo, steps)? {
+    match try_ways::<V, L, Record>(alloc, anchors, most, group, tags, room, bad, t, memo, steps)? {
         WayTries::Good(signature, via, key) => Ok(Ok(Admission {
             via,
             key,
@@ -113,12 +161,14 @@ fn by_ds<V: Verifier, L: Ledger>(
     most: u8,
     max: u8,
     group: &Group,
+    tags: &[u16],
     room: u16,
     t: Timestamp,
     memo: &mut impl Memo<V>,
     steps: &mut Steps<L>,
 ) -> Result<Result<Admission, Cause>, NoMemory>
     requires typed { group.now.rtype ≡ DNSKEY }
+    requires tags { AreTags tags.now (set_in group.now).datas }
     requires some { 0 < room }
     ensures admitted { IfOk result (IsAdmission (map ds_view ds.now) group.now
         (ds_cause most max group.now (map ds_view ds.now))
@@ -128,7 +178,7 @@ fn by_ds<V: Verifier, L: Ledger>(
     let front = front_of(ds, max);
     let tried = &ds[..front];
     let bad = Cause::BadSignatureForDnskey;
-    match try_ways::<V, L, Ds<'_>>(alloc, tried, most, group, room, bad, t, memo, steps)? {
+    match try_ways::<V, L, Ds<'_>>(alloc, tried, most, group, tags, room, bad, t, memo, steps)? {
         WayTries::Good(signature, via, key) => Ok(Ok(Admission {
             via,
             key,

@@ -2,6 +2,7 @@
 
 ghost use Rattle.std.specs.Prelude.{◌≡◌, ◌≤◌, ◌+◌, [], List, ℕ, IfOk, Some, map, true};
 ghost use Rattle.std.specs.Option.{option_map};
+ghost use Rattle.dsec_spec.specs.Groups.{set_in};
 ghost use Rattle.dsec_spec.specs.Numbers.{DNSKEY, DS};
 ghost use Rattle.dsec_spec.specs.Records.{ds_octets, ds_of};
 ghost use Rattle.dsec_wire.specs.DataViews.{ds_view};
@@ -13,18 +14,19 @@ ghost use Rattle.dsec_nodes.specs.Held.{IsPending};
 ghost use Rattle.dsec_nodes.specs.Nodes.{apex};
 ghost use Rattle.dsec_nodes.specs.Replies.{read_reply as reply_of};
 ghost use Rattle.dsec_nodes.specs.Signing.{is_set_at};
+ghost use Rattle.dsec_node.specs.KeyTags.{AreTags};
 ghost use Rattle.dsec_node.specs.Views.{bounds_of, world_of};
 ghost use Rattle.dsec_child.specs.Admissions.{IsAdmission};
 ghost use Rattle.dsec_child.specs.ChildKeys.{AreDs, HoldsByDs};
 
-use crate::admit::{Admission, admit_by_ds};
+use crate::admit::{Admission, admitted_by_ds};
 use crate::island::bogus;
 use crate::reply::{Reply, read_reply, set_at};
 use dsec_cause::Cause;
 use dsec_crypto::Verifier;
 use dsec_group::{Group, Memo, Steps};
 use dsec_name::NoMemory;
-use dsec_node::{Config, Node, Pending, apex_node};
+use dsec_node::{Config, Node, Pending, apex_node, key_tags};
 use dsec_number::{Rtype, Timestamp};
 use dsec_wire::{Data, Ds};
 use std::alloc::Global;
@@ -81,23 +83,27 @@ fn by_key_set<V: Verifier, L: Ledger>(
         (ways (world_of V.accepts [] (bounds_of config.now) now) pending.now))) }
     ensures bound { steps.new ≤ steps.old + (config.now.max_bad_signatures + 1) }
 {
-    match admitted::<V, L>(alloc, config, now, pending, group, memo, steps)? {
-        Ok(it) => made(alloc, config, now, zone, pending, group, it),
+    let tags = key_tags(alloc, group)?;
+    match admitted::<V, L>(alloc, config, now, pending, group, &tags, memo, steps)? {
+        Ok(it) => made(alloc, config, now, zone, pending, group, tags, it),
         Err(cause) => bogus(alloc, config, now, pending.name(), cause),
     }
 }
 
-/// Which of the DS data admits a key of the set that has signed it, at a moment in seconds since 1970.
+/// Which of the DS data admits a key of the set that has signed it, at a moment in seconds since 1970. The set's keys have these
+/// tags.
 fn admitted<V: Verifier, L: Ledger>(
     alloc: Global,
     config: &Config,
     now: u64,
     pending: &Pending,
     group: &Group,
+    tags: &[u16],
     memo: &mut impl Memo<V>,
     steps: &mut Steps<L>,
 ) -> Result<Result<Admission, Cause>, NoMemory>
     requires typed { group.now.rtype ≡ DNSKEY }
+    requires tags { AreTags tags.now (set_in group.now).datas }
     requires of_ds { pending.now.link.records.rtype ≡ DS }
     ensures admitted { IfOk result (IsAdmission pending.now.link.records.datas group.now
         (none_by (world_of V.accepts [] (bounds_of config.now) now) pending.now (cause_among BadSignatureForDnskey group.now
@@ -108,7 +114,7 @@ fn admitted<V: Verifier, L: Ledger>(
 {
     let all = read_all(alloc, pending.link().records().datas())?;
     let t = Timestamp::from_seconds(now);
-    admit_by_ds::<V, L>(alloc, &all, group, config, t, memo, steps)
+    admitted_by_ds::<V, L>(alloc, &all, group, tags, config, t, memo, steps)
 }
 
 /// What DS data say, in order.
@@ -139,7 +145,7 @@ fn read_one(one: &Data) -> Ds<'_>
     }
 }
 
-/// The zone, by the admission of its key set.
+/// The zone, by the admission of its key set, whose keys have these tags.
 fn made<V: Verifier>(
     alloc: Global,
     config: &Config,
@@ -147,8 +153,10 @@ fn made<V: Verifier>(
     zone: &Node<V>,
     pending: &Pending,
     group: &Group,
+    tags: Vec<u16>,
     it: Admission,
 ) -> Result<Node<V>, NoMemory>
+    requires tags { AreTags tags.items (set_in group.now).datas }
     requires at { is_set_at pending.now.name DNSKEY group.now ≡ true }
     requires ready { (keys : List (List ℕ)) × (zone.now.standing ≡ apex keys) × IsPending (world_of V.accepts [] (bounds_of config.now) now) zone.now keys pending.now }
     requires made { zone.now.made ≤ now }
@@ -167,6 +175,7 @@ fn made<V: Verifier>(
         zone,
         pending,
         group,
+        tags,
         via,
         it.key,
         it.signature,

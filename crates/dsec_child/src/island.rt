@@ -2,6 +2,7 @@
 
 ghost use Rattle.std.specs.Prelude.{◌≡◌, ◌≤◌, ◌+◌, List, IfOk, true};
 ghost use Rattle.std.specs.Option.{option_map};
+ghost use Rattle.dsec_spec.specs.Groups.{set_in};
 ghost use Rattle.dsec_spec.specs.Names.{place};
 ghost use Rattle.dsec_spec.specs.Numbers.{DNSKEY};
 ghost use Rattle.dsec_spec.specs.Records as records;
@@ -12,17 +13,18 @@ ghost use Rattle.dsec_nodes.specs.MissingDs.{bogus_at};
 ghost use Rattle.dsec_nodes.specs.Replies.{read_reply as reply_of};
 ghost use Rattle.dsec_nodes.specs.Signing.{is_set_at};
 ghost use Rattle.dsec_nodes.specs.Walk.{anchored_by, by_anchor_reply};
+ghost use Rattle.dsec_node.specs.KeyTags.{AreTags};
 ghost use Rattle.dsec_node.specs.Views.{bounds_of, world_of};
 ghost use Rattle.dsec_child.specs.Admissions.{IsAdmission};
 ghost use Rattle.dsec_child.specs.Anchored.{HoldsBy};
 
-use crate::admit::{Admission, admit_by_anchor};
+use crate::admit::{Admission, admitted_by_anchor};
 use crate::reply::{Reply, read_reply, set_at};
 use dsec_cause::Cause;
 use dsec_crypto::Verifier;
 use dsec_group::{Group, Memo, Steps};
 use dsec_name::{Name, NoMemory};
-use dsec_node::{Config, Node, anchor_node, bogus_node};
+use dsec_node::{Config, Node, anchor_node, bogus_node, key_tags};
 use dsec_number::{Rtype, Timestamp};
 use dsec_wire::Record;
 use std::alloc::Global;
@@ -71,41 +73,46 @@ fn by_key_set<V: Verifier, L: Ledger>(
         (tried_by (world_of V.accepts anchors.now (bounds_of config.now) now) group.now (anchor_search config.now.max_dnskeys_per_ds group.now) anchors.now)) }
     ensures bound { steps.new ≤ steps.old + (config.now.max_bad_signatures + 1) }
 {
-    match admitted::<V, L>(alloc, anchors, config, now, group, memo, steps)? {
-        Ok(it) => made(alloc, anchors, config, now, group, it),
+    let tags = key_tags(alloc, group)?;
+    match admitted::<V, L>(alloc, anchors, config, now, group, &tags, memo, steps)? {
+        Ok(it) => made(alloc, anchors, config, now, group, tags, it),
         Err(cause) => bogus(alloc, config, now, top, cause),
     }
 }
 
-/// Which anchor admits a key of the set that has signed it, at a moment in seconds since 1970.
+/// Which anchor admits a key of the set that has signed it, at a moment in seconds since 1970. The set's keys have these tags.
 fn admitted<V: Verifier, L: Ledger>(
     alloc: Global,
     anchors: &[Record],
     config: &Config,
     now: u64,
     group: &Group,
+    tags: &[u16],
     memo: &mut impl Memo<V>,
     steps: &mut Steps<L>,
 ) -> Result<Result<Admission, Cause>, NoMemory>
-    requires { group.now.rtype ≡ DNSKEY }
+    requires typed { group.now.rtype ≡ DNSKEY }
+    requires tags { AreTags tags.now (set_in group.now).datas }
     ensures admitted { IfOk result (IsAdmission anchors.now group.now
         (cause_among BadSignature group.now (anchor_search config.now.max_dnskeys_per_ds group.now) anchors.now)
         (tried_by (world_of V.accepts anchors.now (bounds_of config.now) now) group.now (anchor_search config.now.max_dnskeys_per_ds group.now) anchors.now)) }
     ensures bound { steps.new ≤ steps.old + (config.now.max_bad_signatures + 1) }
 {
     let t = Timestamp::from_seconds(now);
-    admit_by_anchor::<V, L>(alloc, anchors, group, config, t, memo, steps)
+    admitted_by_anchor::<V, L>(alloc, anchors, group, tags, config, t, memo, steps)
 }
 
-/// The zone, by the admission of its key set.
+/// The zone, by the admission of its key set, whose keys have these tags.
 fn made<V: Verifier>(
     alloc: Global,
     anchors: &[Record],
     config: &Config,
     now: u64,
     group: &Group,
+    tags: Vec<u16>,
     it: Admission,
 ) -> Result<Node<V>, NoMemory>
+    requires tags { AreTags tags.items (set_in group.now).datas }
     requires at { SetAt (place group.now.owner) DNSKEY group.now }
     requires admitted { HoldsBy (world_of V.accepts anchors.now (bounds_of config.now) now) group.now it }
     ensures { IfOk result (λ n. n ≡ anchored_by (world_of V.accepts anchors.now (bounds_of config.now) now) (place group.now.owner) group.now
@@ -119,6 +126,7 @@ fn made<V: Verifier>(
         now,
         anchors,
         group,
+        tags,
         anchor,
         it.key,
         it.signature,

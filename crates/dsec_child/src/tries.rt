@@ -2,8 +2,10 @@
 
 ghost use Rattle.std.specs.Prelude.{◌≡◌, ◌≤◌, ◌+◌, IfOk};
 ghost use Rattle.std.specs.Option.{option_map};
+ghost use Rattle.dsec_spec.specs.Groups.{set_in};
 ghost use Rattle.dsec_spec.specs.Numbers.{DNSKEY};
 ghost use Rattle.dsec_wire.specs.Views.{key_view};
+ghost use Rattle.dsec_node.specs.KeyTags.{AreTags};
 ghost use Rattle.dsec_child.specs.Tries.{AreWayTries, IsWayTry, TryLeaves, cause_of_key, earlier as earlier_of, key_in};
 ghost use Rattle.dsec_child.specs.Ways.{ways_trial};
 
@@ -13,6 +15,7 @@ use dsec_crypto::Verifier;
 use dsec_group::{Group, Memo, Steps, Tries, try_all};
 use dsec_link::{KeySearch, TaggedKey};
 use dsec_name::NoMemory;
+use dsec_node::tag_at;
 use dsec_number::Timestamp;
 use dsec_wire::Dnskey;
 use std::alloc::Global;
@@ -37,21 +40,23 @@ pub(crate) enum WayTry {
     Left(u16, Option<Cause>),
 }
 
-/// Tries the signatures of a key set with the keys that ways admit, by way and then by signature, in order, and at
-/// most `room` pairs, each in one step. Of each DS record's keys `most` are tried at most, and `bad` is the cause where
-/// none of a key's signatures is good.
+/// Tries the signatures of a key set, whose keys have these tags, with the keys that ways admit, by way and then by
+/// signature, in order, and at most `room` pairs, each in one step. Of each DS record's keys `most` are tried at most, and
+/// `bad` is the cause where none of a key's signatures is good.
 pub(crate) fn try_ways<V: Verifier, L: Ledger, W: Way>(
     alloc: Global,
     ways: &[W],
     most: u8,
     group: &Group,
+    tags: &[u16],
     room: u16,
     bad: Cause,
     t: Timestamp,
     memo: &mut impl Memo<V>,
     steps: &mut Steps<L>,
 ) -> Result<WayTries, NoMemory>
-    requires { group.now.rtype ≡ DNSKEY }
+    requires typed { group.now.rtype ≡ DNSKEY }
+    requires tags { AreTags tags.now (set_in group.now).datas }
     ensures tries { IfOk result (AreWayTries bad (W.picks most group.now) ways.now group.now
         (ways_trial V.accepts group.now t room (W.picks most group.now) ways.now)) }
     ensures bound { steps.new ≤ steps.old + room }
@@ -59,7 +64,8 @@ pub(crate) fn try_ways<V: Verifier, L: Ledger, W: Way>(
     let mut left = room;
     let mut cause: Option<Cause> = None;
     for index in 0..ways.len() {
-        match try_way::<V, L, W>(alloc, &ways[index], most, group, left, bad, t, memo, steps)? {
+        let way = &ways[index];
+        match try_way::<V, L, W>(alloc, way, most, group, tags, left, bad, t, memo, steps)? {
             WayTry::Good(signature, key) => return Ok(WayTries::Good(signature, index, key)),
             WayTry::Left(more, next) => {
                 left = more;
@@ -76,18 +82,20 @@ fn try_way<V: Verifier, L: Ledger, W: Way>(
     way: &W,
     most: u8,
     group: &Group,
+    tags: &[u16],
     room: u16,
     bad: Cause,
     t: Timestamp,
     memo: &mut impl Memo<V>,
     steps: &mut Steps<L>,
 ) -> Result<WayTry, NoMemory>
-    requires { group.now.rtype ≡ DNSKEY }
+    requires typed { group.now.rtype ≡ DNSKEY }
+    requires tags { AreTags tags.now (set_in group.now).datas }
     ensures tries { IfOk result (IsWayTry V.accepts group.now bad t room way.now (W.picks most group.now way.now)) }
     ensures bound { steps.new ≤ steps.old + room }
     ensures spent { IfOk result (λ tries. TryLeaves tries (λ more. steps.new + more ≤ steps.old + room)) }
 {
-    let index = match way.pick(most, group) {
+    let index = match way.pick(most, group, tags) {
         KeySearch::FoundAt(index) => index,
         KeySearch::NotFound => return Ok(WayTry::Left(room, None)),
         KeySearch::TooMany => return Ok(WayTry::Left(room, Some(Cause::TooManyDnskeysForDs))),
@@ -95,7 +103,8 @@ fn try_way<V: Verifier, L: Ledger, W: Way>(
     let Some(key) = key_at(group, index) else {
         return Ok(WayTry::Left(room, None));
     };
-    let keys = [TaggedKey::new(&key)];
+    let tag = tag_at(tags, index, &key);
+    let keys = [TaggedKey { key, tag }];
     match try_all::<V, L>(alloc, group, group.owner(), &keys, room, t, memo, steps)? {
         Tries::Good(signature, _) => Ok(WayTry::Good(signature, index)),
         Tries::Left(more) => Ok(WayTry::Left(more, cause_after(room, more, bad))),

@@ -3,6 +3,7 @@
 ghost use Rattle.std.specs.Prelude.{◌≡◌, ◌<◌, ℕ, Some, position};
 ghost use Rattle.std.specs.Str.{bytes_eq};
 ghost use Rattle.dsec_spec.specs.Groups as groups;
+ghost use Rattle.dsec_spec.specs.Groups.{set_in};
 ghost use Rattle.dsec_spec.specs.KeySearch as search;
 ghost use Rattle.dsec_spec.specs.Names.{place, same_place};
 ghost use Rattle.dsec_spec.specs.Numbers.{DNSKEY};
@@ -10,6 +11,7 @@ ghost use Rattle.dsec_wire.specs.DataViews.{ds_view};
 ghost use Rattle.dsec_link.specs.KeySearches.{search_view};
 ghost use Rattle.dsec_nodes.specs.Admission.{anchor_search, own_key, search_for};
 ghost use Rattle.dsec_nodes.specs.ByDs.{is_supported as supported};
+ghost use Rattle.dsec_node.specs.KeyTags.{AreTags};
 ghost use Rattle.dsec_child.specs.Ways.{supported_search};
 
 use crate::search::search_key;
@@ -26,16 +28,17 @@ pub(crate) trait Way {
     /// The key of the set that it admits, where so many keys of a DS record's algorithm and tag are tried.
     ghost picks: { ℕ → groups.Group → Self → search.KeySearch };
 
-    /// The key of the set that it admits.
-    fn pick(&self, most: u8, group: &Group) -> KeySearch
-        requires { group.now.rtype ≡ DNSKEY }
+    /// The key of the set that it admits, where the tags of the set's keys are these.
+    fn pick(&self, most: u8, group: &Group, tags: &[u16]) -> KeySearch
+        requires typed { group.now.rtype ≡ DNSKEY }
+        requires tags { AreTags tags.now (set_in group.now).datas }
         ensures { search_view result ≡ picks most group.now self.now };
 }
 
 impl Way for Record {
     ghost picks = { λ most group anchor. anchor_search most group anchor };
 
-    fn pick(&self, most: u8, group: &Group) -> KeySearch {
+    fn pick(&self, most: u8, group: &Group, tags: &[u16]) -> KeySearch {
         if !is_same(self.owner(), group.owner()) || self.class() != Class::IN {
             return KeySearch::NotFound;
         }
@@ -43,7 +46,7 @@ impl Way for Record {
             return with_data(group, self);
         }
         match self.rdata().ds() {
-            Some(ds) => spoken_by(most, group, &ds),
+            Some(ds) => spoken_by(most, group, tags, &ds),
             None => KeySearch::NotFound,
         }
     }
@@ -52,9 +55,9 @@ impl Way for Record {
 impl<'a> Way for Ds<'a> {
     ghost picks = { λ most group ds. supported_search most group (ds_view ds) };
 
-    fn pick(&self, most: u8, group: &Group) -> KeySearch {
+    fn pick(&self, most: u8, group: &Group, tags: &[u16]) -> KeySearch {
         if is_supported(self) {
-            spoken_by(most, group, self)
+            spoken_by(most, group, tags, self)
         } else {
             KeySearch::NotFound
         }
@@ -96,16 +99,24 @@ fn position_of(records: &[Record], other: &Record) -> Option<usize>
 }
 
 /// The first key of a set that a DS record speaks of: its digests are counted on a ledger of their own.
-fn spoken_by(most: u8, group: &Group, ds: &Ds<'_>) -> KeySearch
-    requires { group.now.rtype ≡ DNSKEY }
+fn spoken_by(most: u8, group: &Group, tags: &[u16], ds: &Ds<'_>) -> KeySearch
+    requires typed { group.now.rtype ≡ DNSKEY }
+    requires tags { AreTags tags.now (set_in group.now).datas }
     ensures { search_view result ≡ search_for most group.now (Some (ds_view ds.now)) }
 {
-    counted_search::<Brand>(most, group, ds, Blank::new(1))
+    counted_search::<Brand>(most, group, tags, ds, Blank::new(1))
 }
 
 /// The same, on the ledger that the blank opens.
-fn counted_search<L: Ledger>(most: u8, group: &Group, ds: &Ds<'_>, blank: Blank) -> KeySearch
+fn counted_search<L: Ledger>(
+    most: u8,
+    group: &Group,
+    tags: &[u16],
+    ds: &Ds<'_>,
+    blank: Blank,
+) -> KeySearch
     requires typed { group.now.rtype ≡ DNSKEY }
+    requires tags { AreTags tags.now (set_in group.now).datas }
     requires name { blank.name ≡ L.name }
     requires parts { blank.parts ≡ L.parts }
     requires shared { 0 < L.parts }
@@ -116,6 +127,7 @@ fn counted_search<L: Ledger>(most: u8, group: &Group, ds: &Ds<'_>, blank: Blank)
         ds,
         group.owner(),
         group.rr_set(),
+        Some(tags),
         usize::from(most),
         &mut steps,
     )

@@ -1,4 +1,5 @@
 pub mod KeyData
+pub mod KeyTagLaws
 pub mod CacheLaws
 pub mod NodeSteps
 pub mod CountingLaws

@@ -1,6 +1,7 @@
 //! The zone of an island of security, by its key set and its anchors (RFC 4033 2, RFC 4035 5).
 
 ghost use Rattle.std.specs.Prelude.{◌≡◌, ◌<◌, ◌∷◌, [], IfOk, length, min};
+ghost use Rattle.dsec_spec.specs.Groups.{set_in};
 ghost use Rattle.dsec_spec.specs.Lasting.{least_ttl, ttl_for_sig as ttl_of};
 ghost use Rattle.dsec_spec.specs.Names.{place};
 ghost use Rattle.dsec_spec.specs.Numbers.{DNSKEY, RRSIG};
@@ -11,6 +12,7 @@ ghost use Rattle.dsec_nodes.specs.Held.{SetAt};
 ghost use Rattle.dsec_nodes.specs.Walk.{anchor_kind as kind_by, anchored};
 ghost use Rattle.dsec_nodes.specs.World.{on_circle};
 ghost use Rattle.dsec_node.specs.Good.{IsGoodByAnchorAt, IsPair};
+ghost use Rattle.dsec_node.specs.KeyTags.{AreTags};
 ghost use Rattle.dsec_node.specs.Views.{bounds_view, world_of};
 
 use crate::bounds::Bounds;
@@ -27,18 +29,20 @@ use dsec_number::Rtype;
 use dsec_wire::Record;
 use std::alloc::Global;
 
-/// The node of an island: by the signature at one index of its key set, of the key that the record at another says, which the
-/// anchor admits, one of the anchors.
+/// The node of an island: by the signature at one index of its key set, whose keys have these tags, of the key that the record at another
+/// says, which the anchor admits, one of the anchors.
 pub fn anchor_node<V: Verifier>(
     alloc: Global,
     bounds: &Bounds,
     now: u64,
     anchors: &[Record],
     group: &Group,
+    tags: Vec<u16>,
     anchor: &Record,
     key: usize,
     signature: usize,
 ) -> Result<Node<V>, NoMemory>
+    requires tags { AreTags tags.items (set_in group.now).datas }
     requires key { key < length group.now.records }
     requires signature { signature < length group.now.signatures }
     requires at { SetAt (place group.now.owner) DNSKEY group.now }
@@ -51,7 +55,7 @@ pub fn anchor_node<V: Verifier>(
     let via = anchor.rdata().octets();
     let link = key_set_link(alloc, kind, group, sig, via, &group.rr_set()[key])?;
     let links = one_link(alloc, link)?;
-    let keys = Keys::of(alloc, group)?;
+    let keys = Keys::with_tags(alloc, group, tags)?;
     let anchor = record_copy(anchor)?;
     let name = copy_of(group.owner())?;
     let signer = copy_of(group.owner())?;

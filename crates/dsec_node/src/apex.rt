@@ -1,6 +1,7 @@
 //! A zone below a zone, by its DS set and its key set (RFC 4035 5.2).
 
 ghost use Rattle.std.specs.Prelude.{◌≡◌, ◌<◌, ◌≤◌, ◌+◌, ◌++◌, [], ◌∷◌, List, ℕ, IfOk, length, min};
+ghost use Rattle.dsec_spec.specs.Groups.{set_in};
 ghost use Rattle.dsec_spec.specs.Lasting.{least_ttl, ttl_for_sig as ttl_of};
 ghost use Rattle.dsec_spec.specs.Numbers.{DNSKEY, RRSIG};
 ghost use Rattle.dsec_spec.specs.Records as records;
@@ -10,6 +11,7 @@ ghost use Rattle.dsec_nodes.specs.Held.{IsPending, SetAt};
 ghost use Rattle.dsec_nodes.specs.Nodes.{apex, Kept};
 ghost use Rattle.dsec_nodes.specs.World.{on_circle};
 ghost use Rattle.dsec_node.specs.Good.{IsGoodAt, IsPair};
+ghost use Rattle.dsec_node.specs.KeyTags.{AreTags};
 ghost use Rattle.dsec_node.specs.Views.{bounds_view, world_of};
 
 use crate::bounds::Bounds;
@@ -26,8 +28,8 @@ use dsec_name::{NoMemory, Octets};
 use dsec_wire::Record;
 use std::alloc::Global;
 
-/// The node of a zone below a zone: by the signature at one index of the key set, of the key that the record at another says,
-/// of which the DS data `via` speak.
+/// The node of a zone below a zone: by the signature at one index of the key set, whose keys have these tags, of the key that the
+/// record at another says, of which the DS data `via` speak.
 pub fn apex_node<V: Verifier>(
     alloc: Global,
     bounds: &Bounds,
@@ -35,10 +37,12 @@ pub fn apex_node<V: Verifier>(
     zone: &Node<V>,
     pending: &Pending,
     group: &Group,
+    tags: Vec<u16>,
     via: &Octets,
     key: usize,
     signature: usize,
 ) -> Result<Node<V>, NoMemory>
+    requires tags { AreTags tags.items (set_in group.now).datas }
     requires key { key < length group.now.records }
     requires signature { signature < length group.now.signatures }
     requires at { SetAt pending.now.name DNSKEY group.now }
@@ -52,7 +56,7 @@ pub fn apex_node<V: Verifier>(
     let sig = &group.sig_set()[signature];
     let link = key_set_link(alloc, LinkKind::Key, group, sig, via, &group.rr_set()[key])?;
     let links = child_links(zone, pending, link)?;
-    let keys = Keys::of(alloc, group)?;
+    let keys = Keys::with_tags(alloc, group, tags)?;
     let anchor = zone.copied_anchor()?;
     let name = copy_of(pending.name())?;
     let signer = copy_of(pending.name())?;

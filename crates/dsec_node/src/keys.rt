@@ -1,19 +1,20 @@
 //! The keys of a zone, as the data of its DNSKEY set, with their tags, which are summed once (RFC 4034 2.1, B).
 
-ghost use Rattle.std.specs.Prelude.{◌≡◌, IfOk, find, map};
+ghost use Rattle.std.specs.Prelude.{◌≡◌, IfOk, Some, find, map, slice_get};
 ghost use Rattle.std.specs.Option.{option_map};
 ghost use Rattle.dsec_spec.specs.Groups.{set_in};
+ghost use Rattle.dsec_spec.specs.KeyTag.{key_tag};
 ghost use Rattle.dsec_spec.specs.Numbers.{DNSKEY};
 ghost use Rattle.dsec_wire.specs.Views.{dnskey_in, key_view};
-ghost use Rattle.dsec_link.specs.Sets.{AreOf, octets_of};
+ghost use Rattle.dsec_link.specs.Sets.{AreOf, AreRecordsOf, octets_of};
 ghost use Rattle.dsec_link.specs.TaggedKeys.{tagged_view};
 ghost use Rattle.dsec_nodes.specs.Signing.{data_of, keys_of, says_key};
-ghost use Rattle.dsec_node.specs.KeyTags.{tags_of};
+ghost use Rattle.dsec_node.specs.KeyTags.{AreTags, tag_in};
 
 use dsec_group::{Group, set_of};
 use dsec_link::TaggedKey;
 use dsec_name::{NoMemory, Octets};
-use dsec_wire::{Data, Dnskey};
+use dsec_wire::{Data, Dnskey, Record};
 use std::alloc::{AllocError, Global};
 use std::marker::Model;
 
@@ -25,16 +26,16 @@ pub struct Keys {
 }
 
 impl Model for Keys {
-    ghost use Rattle.std.specs.Prelude.{◌≡◌, List, ℕ};
+    ghost use Rattle.std.specs.Prelude.{List, ℕ};
     ghost use Rattle.dsec_spec.specs.Numbers.{DNSKEY};
     ghost use Rattle.dsec_link.specs.Sets.{AreOf, octets_of};
-    ghost use Rattle.dsec_node.specs.KeyTags.{tags_of};
+    ghost use Rattle.dsec_node.specs.KeyTags.{AreTags};
 
     ghost Value = { List (List ℕ) };
 
     ghost view = { λ it. octets_of it.datas.items };
 
-    ghost invariant = { λ it. AreOf DNSKEY it.datas.items × (it.tags.items ≡ tags_of (octets_of it.datas.items)) };
+    ghost invariant = { λ it. AreOf DNSKEY it.datas.items × AreTags it.tags.items (octets_of it.datas.items) };
 }
 
 impl Clone for Keys {
@@ -50,23 +51,24 @@ impl Clone for Keys {
 }
 
 impl Keys {
-    /// The keys of these data.
-    pub fn new(alloc: Global, datas: Vec<Data>) -> Result<Keys, NoMemory>
-        requires { AreOf DNSKEY datas.items }
-        ensures { IfOk result (λ keys. keys ≡ octets_of datas.items) }
-    {
-        let tags = summed(alloc, &datas)?;
-        Ok(Keys { datas, tags })
-    }
-
-    /// The keys of a DNSKEY set.
+    /// The keys of a DNSKEY set, whose tags are summed.
     pub fn of(alloc: Global, group: &Group) -> Result<Keys, NoMemory>
         requires { group.now.rtype ≡ DNSKEY }
         ensures { IfOk result (λ keys. keys ≡ (set_in group.now).datas) }
     {
+        let tags = key_tags(alloc, group)?;
+        Keys::with_tags(alloc, group, tags)
+    }
+
+    /// The keys of a DNSKEY set, whose tags these are.
+    pub(crate) fn with_tags(alloc: Global, group: &Group, tags: Vec<u16>) -> Result<Keys, NoMemory>
+        requires typed { group.now.rtype ≡ DNSKEY }
+        requires tags { AreTags tags.items (set_in group.now).datas }
+        ensures { IfOk result (λ keys. keys ≡ (set_in group.now).datas) }
+    {
         let set = set_of(alloc, group)?;
         let datas = copied(alloc, set.datas())?;
-        Keys::new(alloc, datas)
+        Ok(Keys { datas, tags })
     }
 
     /// The data.
@@ -150,18 +152,35 @@ fn says(one: &Data, key: &Dnskey<'_>) -> bool
     }
 }
 
-/// The tags of the keys that DNSKEY data say, in order.
-fn summed(alloc: Global, datas: &[Data]) -> Result<Vec<u16>, NoMemory>
-    requires { AreOf DNSKEY datas.now }
-    ensures { IfOk result (λ tags. tags.items ≡ tags_of (octets_of datas.now)) }
+/// The tags of the keys of a DNSKEY set, in order, each summed once (RFC 4034 B).
+pub fn key_tags(alloc: Global, group: &Group) -> Result<Vec<u16>, NoMemory>
+    requires { group.now.rtype ≡ DNSKEY }
+    ensures { IfOk result (λ tags. AreTags tags.items (set_in group.now).datas) }
 {
-    let mut tags = Vec::with_capacity(alloc, datas.len())?;
-    for index in 0..datas.len() {
-        if let Some(key) = datas[index].dnskey() {
-            tags.push(key.key_tag())?;
-        }
+    summed(alloc, group.rr_set())
+}
+
+/// The tags of the keys that DNSKEY records say, in order.
+fn summed(alloc: Global, records: &[Record]) -> Result<Vec<u16>, NoMemory>
+    requires { AreRecordsOf DNSKEY records.now }
+    ensures { IfOk result (λ tags. AreTags tags.items (map (λ one. one.rdata) records.now)) }
+{
+    let mut tags = Vec::with_capacity(alloc, records.len())?;
+    for one in records {
+        tags.push(sum_of(one))?;
     }
     Ok(tags)
+}
+
+/// The tag of the key that a DNSKEY record says.
+fn sum_of(one: &Record) -> u16
+    requires { one.now.rtype ≡ DNSKEY }
+    ensures { Some result ≡ tag_in one.now.rdata }
+{
+    match one.rdata().dnskey() {
+        Some(key) => key.key_tag(),
+        None => unreachable!(),
+    }
 }
 
 /// The keys that DNSKEY data say, in order, each with its tag of these.
@@ -171,15 +190,23 @@ fn tagged<'a>(
     tags: &[u16],
 ) -> Result<Vec<TaggedKey<'a>>, NoMemory>
     requires typed { AreOf DNSKEY datas.now }
-    requires tags { tags.now ≡ tags_of (octets_of datas.now) }
+    requires tags { AreTags tags.now (octets_of datas.now) }
     ensures { IfOk result (λ keys. map tagged_view keys.items ≡ keys_of (octets_of datas.now)) }
 {
     let mut keys = Vec::with_capacity(alloc, datas.len())?;
     for index in 0..datas.len() {
         if let Some(key) = datas[index].dnskey() {
-            let tag = tags[keys.len()];
+            let tag = tag_at(tags, index, &key);
             keys.extend_from_slice(&[TaggedKey { key, tag }])?;
         }
     }
     Ok(keys)
+}
+
+/// The tag of a key, which stands at an index among these.
+pub fn tag_at(tags: &[u16], index: usize, key: &Dnskey<'_>) -> u16
+    requires { slice_get tags.now index ≡ Some (key_tag (key_view key.now)) }
+    ensures { result ≡ key_tag (key_view key.now) }
+{
+    tags[index]
 }

@@ -23,7 +23,7 @@ pub use below::{bogus_node, insecure_node, within_node};
 pub use bounds::Bounds;
 pub use caches::{Caches, OwnedCaches};
 pub use config::Config;
-pub use keys::Keys;
+pub use keys::{Keys, key_tags, tag_at};
 pub use links::{kept_for, link_by_keys};
 pub use node::Node;
 pub use pending::Pending;

@@ -22,8 +22,8 @@ returns-clause-admitted g c =
     let all = map ds_view c.in_ok-all.all.items in
     let datas_are = c.datas.ensures.values ∙ ap (λ (r : RecordSet). r.datas) (c.records.ensures ∙ ap (λ (l : Link). l.records) c.link.ensures) in
     let read = subst (λ (xs : List (List ℕ)). AreDs xs all) datas_are c.in_ok-all.ensures in
-    if_ok c.admit_by_ds.result
+    if_ok c.admitted_by_ds.result
     (λ r h. by_data w group pending all read (omega arith) r
     (subst (λ (t : ℕ). IsAdmission all group (ds_cause most max group all) (tried_ds accepts group t room most max all) r) c.from_seconds-t.ensures
     (subst (λ (xs : List Ds). IsAdmission xs group (ds_cause most max group xs) (tried_ds accepts group c.from_seconds-t.result room most max xs) r) (ap (map ds_view) c.deref.ensures.value) h)))
-    c.admit_by_ds.ensures.admitted
+    c.admitted_by_ds.ensures.admitted

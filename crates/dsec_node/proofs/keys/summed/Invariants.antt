@@ -1,7 +1,6 @@
-use Rattle.std.proofs.Common.{◌≡◌, ◌++◌, drop}
-use Rattle.dsec_link.specs.Sets.{octets_of}
-use Rattle.dsec_node.specs.KeyTags.{tags_of}
+use Rattle.std.proofs.Common.{map, take}
+use Rattle.dsec_node.specs.KeyTags.{AreTags}
 use Rattle.dsec_node.proofs.keys.summed.Given as goal
 
-abbrev pub invariant-loop-index : goal.invariant-loop-index
-invariant-loop-index l = l.tags.items ++ tags_of (octets_of (drop l.index l.datas)) ≡ tags_of (octets_of l.datas)
+abbrev pub invariant-loop-one : goal.invariant-loop-one
+invariant-loop-one l = AreTags l.tags.items (map (λ one. one.rdata) (take l.one-index l.records))
