@@ -10,7 +10,8 @@ use Rattle.dsec_found.specs.Outcomes.{state_view}
 use Rattle.dsec_found.specs.Told.{cause_of, signature_of, state_of}
 use Rattle.dsec_outcome.specs.Outcomes.{unshown_why}
 
-told : ValidationState → Option Cause → Why → Outcome
+-- what is told of a group as an outcome
+abbrev pub told : ValidationState → Option Cause → Why → Outcome
 told s cause why = record { state = state_view s; cause = cause; why = why }
 
 by_told : (where_shown : Record → Outcome) (f : Finding) → signature_of f ≡ None → told (state_of f) (cause_of f) (unshown_why f) ≡ by_finding where_shown f

@@ -81,11 +81,9 @@ fn by_wildcard<V: Verifier>(
         &signer,
         encloser,
     )?;
-    match cause {
-        None => {
-            let used = used_by(alloc, authorities, used.as_slice())?;
-            Outcome::secure_by(alloc, judged, used)
-        }
-        Some(cause) => Ok(Outcome::bogus(cause)),
+    if let Some(cause) = cause {
+        return Ok(Outcome::bogus(cause));
     }
+    let used = used_by(alloc, authorities, used.as_slice())?;
+    Outcome::secure_by(alloc, judged, used)
 }

@@ -67,11 +67,10 @@ fn by_zone<V: Verifier>(
     let no_error = rcode == Rcode::NOERROR;
     let signer = soa.signer_name(alloc)?;
     let (name, class, rtype) = (question.qname(), question.qclass(), question.qtype());
-    match denied_at(alloc, no_error, name, authorities, rtype, class, &signer)? {
-        Conclusion::Proved(used) => {
-            let used = used_by(alloc, authorities, used.as_slice())?;
-            Outcome::secure_by(alloc, soa, used)
-        }
-        Conclusion::Unproved(cause) => Ok(Outcome::bogus(cause)),
-    }
+    let used = match denied_at(alloc, no_error, name, authorities, rtype, class, &signer)? {
+        Conclusion::Proved(used) => used,
+        Conclusion::Unproved(cause) => return Ok(Outcome::bogus(cause)),
+    };
+    let used = used_by(alloc, authorities, used.as_slice())?;
+    Outcome::secure_by(alloc, soa, used)
 }

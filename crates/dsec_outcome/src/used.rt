@@ -49,6 +49,7 @@ impl<V: Verifier> UsedGroup<V> {
 }
 
 /// The judged groups of an authority section at these indexes, in this order.
+#[tactic(auto, using(crate::proofs::UsedSteps::used_more))]
 pub(crate) fn used_by<V: Verifier>(
     alloc: Global,
     authorities: &[JudgedGroup<V>],
