@@ -1,6 +1,8 @@
 -- What a message comes to by a denial, as the calls tell of it.
-use Rattle.std.proofs.Common.{◌≡◌, ℕ, List, [], ◌∷◌, ◌==◌, ◌&&◌, Bool, true, false, cond, get_or, Option, Some, None, refl, sym, ap, ◌∙◌}
+use Rattle.std.proofs.Common.{◌≡◌, ℕ, List, [], ◌∷◌, ◌==◌, ◌&&◌, Bool, true, false, cond, get_or, Option, Some, None, sym, ap, ◌∙◌}
 use Rattle.std.specs.Prelude.{filter_map, slice_get, unwrap_or, position}
+use Rattle.std.specs.Option.{option_map}
+use Rattle.std.proofs.lemmas.Option.{get_or_from_slice_get}
 use Rattle.std.proofs.lemmas.Option.{same_Some}
 use Rattle.std.proofs.Math.Bool.{not}
 use Rattle.dsec_cause.specs.declared.cause.Cause.{Cause}
@@ -10,14 +12,15 @@ use Rattle.dsec_spec.specs.Records.{Record}
 use Rattle.dsec_spec.specs.Messages.{Question, rcode_of}
 use Rattle.dsec_spec.specs.Islands.{island}
 use Rattle.dsec_spec.specs.Numbers.{ANY}
-use Rattle.dsec_absence.specs.Replies.{Conclusion, proved, unproved, soa_at, no_soa_cause}
-use Rattle.dsec_negative.specs.declared.conclusion.Conclusion as code
+use Rattle.dsec_absence.specs.Replies.{Conclusion, proved, unproved, soa_at, soa_cause, no_soa_cause, answer_at, denied_at, closer_denied}
 use Rattle.dsec_negative.specs.declared.conclusion.Conclusion.TheVariants.{Proved, Unproved}
-use Rattle.dsec_negative.specs.Told.{conclusion_of, wildcard_told}
+use Rattle.dsec_negative.specs.Views.{source_of}
+use Rattle.dsec_negative.specs.Told.{conclusion_of, wildcard_told, index_in, answer_index_in}
 use Rattle.dsec_nodes.specs.World.{World}
 use Rattle.dsec_nodes.specs.Judging.{Judged}
-use Rattle.dsec_nodes.specs.Outcomes.{Used, Outcome, by_nothing, secure_by, bogus_by, by_finding}
+use Rattle.dsec_nodes.specs.Outcomes.{Used, Outcome, by_nothing, secure_by, bogus_by}
 use Rattle.dsec_nodes.specs.Causes.{MissingSoa}
+use Rattle.dsec_nodes.specs.ByDenial.{source_of as among}
 use Rattle.dsec_nodes.specs.ByDenial.{used_at, on_conclusion, encloser_of, by_wildcard, by_encloser, no_error_in, denied_under, at_soa, by_soa, by_denial}
 use Rattle.dsec_nodes.specs.Alone.{by_answer, is_answer, at_answer, by_answers, at_name}
 use Rattle.dsec_found.specs.Told.{signature_of}
@@ -36,10 +39,10 @@ pub unproved_by : (authorities : List Judged) (j : Judged) (d : Conclusion) (cau
 unproved_by authorities j (proved denial) cause o e is = absurd cc
 unproved_by authorities j (unproved other) cause o e is = is ∙ ap (λ (c : Cause). bogus_by c by_nothing) cc
 
-in_told : Bool × ValidationState × Option Cause × List ℕ → List ℕ
+abbrev in_told : Bool × ValidationState × Option Cause × List ℕ → List ℕ
 in_told t = t.3
 
-cause_told : Bool × ValidationState × Option Cause × List ℕ → Option Cause
+abbrev cause_told : Bool × ValidationState × Option Cause × List ℕ → Option Cause
 cause_told t = t.2
 
 -- the same of a closer name than a wildcard's
@@ -75,6 +78,59 @@ pub soa_is : (w : World) (message : List ℕ) (question : Question) (name : Plac
     → o ≡ at_soa w message question name authorities (Some soa)
 soa_is w message question name authorities soa signature o shown is =
     is ∙ sym (shown_is (λ s. on_conclusion authorities soa (denied_under message question name authorities soa)) soa.finding signature shown)
+
+-- the group at an index
+pub there_is : (js : List Judged) (i : ℕ) (x j : Judged) → slice_get js i ≡ Some j → x ≡ get_or js i x → slice_get js i ≡ Some x
+there_is js i x j e is = e ∙ ap (λ (y : Judged). Some y) (sym (is ∙ get_or_from_slice_get js i j x e))
+
+-- what is asked for is what the question asks
+module _ (anchors : List Record) (question : Question) (groups : List Judged) (asked : Labels) (rtype class : ℕ) (same_name : asked ≡ question.name)
+    (same_class : class ≡ question.class) (same_type : rtype ≡ question.rtype) where
+  abbrev soa_for : Labels → ℕ → ℕ → Option ℕ
+  soa_for n q c = soa_at (island anchors (place n) q) (place n) c (λ (j : Judged). j.group) groups
+
+  abbrev why_none : Labels → ℕ → Option Cause
+  why_none n c = no_soa_cause (place n) c (λ (j : Judged). j.group) groups
+
+  pub soa_asked : (found at : Option (ℕ × ValidationState)) → option_map index_in found ≡ soa_for asked rtype class → found ≡ at
+      → option_map index_in at ≡ soa_for question.name question.rtype question.class
+  soa_asked found at is e =
+      sym (ap (option_map index_in) e)
+      ∙ (is ∙ (ap (λ (n : Labels). soa_for n rtype class) same_name ∙ (ap (λ (q : ℕ). soa_for question.name q class) same_type ∙ ap (soa_for question.name question.rtype) same_class)))
+
+  pub why_asked : (found : Option (ℕ × ValidationState)) (cause : Option Cause) → cause ≡ soa_cause (place asked) class (λ (j : Judged). j.group) groups (option_map index_in found)
+      → found ≡ None → cause ≡ why_none question.name question.class
+  why_asked found cause is e =
+      is ∙ (ap (λ (o : Option (ℕ × ValidationState)). soa_cause (place asked) class (λ (j : Judged). j.group) groups (option_map index_in o)) e
+      ∙ (ap (λ (n : Labels). why_none n class) same_name ∙ ap (why_none question.name) same_class))
+
+  abbrev set_for : Labels → ℕ → ℕ → Option ℕ
+  set_for n q c = answer_at (place n) c q (λ (j : Judged). j.group) groups
+
+  pub answer_asked : (found at : Option (ℕ × ValidationState × Option Cause)) → option_map answer_index_in found ≡ set_for asked rtype class → found ≡ at
+      → option_map answer_index_in at ≡ position (is_answer (place question.name) question) groups
+  answer_asked found at is e =
+      sym (ap (option_map answer_index_in) e)
+      ∙ (is ∙ (ap (λ (n : Labels). set_for n rtype class) same_name ∙ (ap (λ (q : ℕ). set_for question.name q class) same_type ∙ ap (set_for question.name question.rtype) same_class)))
+
+-- the denials that are looked for are those of the question's class
+pub denied_asked : (message : List ℕ) (rcode : ℕ) (question : Question) (authorities : List Judged) (soa : Judged) (no_error : Bool) (signer asked : Labels) (class rtype : ℕ)
+    → rcode_of message ≡ Some rcode → no_error ≡ (rcode == 0) → place signer ≡ soa.signer → asked ≡ question.name → class ≡ question.class → rtype ≡ question.rtype
+    → denied_at no_error (source_of authorities class signer) (place asked) rtype ≡ denied_under message question (place question.name) authorities soa
+denied_asked message rcode question authorities soa no_error signer asked class rtype read no_error_is signed same_name same_class same_type =
+    ap (λ (b : Bool). denied_at b (source_of authorities class signer) (place asked) rtype) (no_error_is ∙ sym (ap no_error_in read))
+    ∙ (ap (λ (z : Place). denied_at (no_error_in (rcode_of message)) (among authorities class z) (place asked) rtype) signed
+    ∙ (ap (λ (n : Labels). denied_at (no_error_in (rcode_of message)) (among authorities class soa.signer) (place n) rtype) same_name
+    ∙ (ap (λ (c : ℕ). denied_at (no_error_in (rcode_of message)) (among authorities c soa.signer) (place question.name) rtype) same_class
+    ∙ ap (denied_at (no_error_in (rcode_of message)) (among authorities question.class soa.signer) (place question.name)) same_type)))
+
+pub closer_asked : (question : Question) (authorities : List Judged) (j : Judged) (signer asked encloser : Labels) (class : ℕ)
+    → place signer ≡ j.signer → asked ≡ question.name → class ≡ question.class
+    → closer_denied (source_of authorities class signer) (place asked) (place encloser) ≡ closer_denied (among authorities question.class j.signer) (place question.name) (place encloser)
+closer_asked question authorities j signer asked encloser class signed same_name same_class =
+    ap (λ (z : Place). closer_denied (among authorities class z) (place asked) (place encloser)) signed
+    ∙ (ap (λ (n : Labels). closer_denied (among authorities class j.signer) (place n) (place encloser)) same_name
+    ∙ ap (λ (c : ℕ). closer_denied (among authorities c j.signer) (place question.name) (place encloser)) same_class)
 
 -- the SOA set at the index where the first one that counts is
 pub soa_decides : (w : World) (message : List ℕ) (question : Question) (name : Place) (authorities : List Judged) (index : ℕ) (soa : Judged) (o : Outcome)

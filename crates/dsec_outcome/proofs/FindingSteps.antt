@@ -1,5 +1,5 @@
 -- The outcome by what was found of the group that decides.
-use Rattle.std.proofs.Common.{◌≡◌, ◌≢◌, Option, Some, None, refl, sym, ap, ◌∙◌}
+use Rattle.std.proofs.Common.{◌≡◌, Option, Some, None, refl, ap, ◌∙◌}
 use Rattle.std.proofs.lemmas.Option.{same_Some}
 use Rattle.dsec_spec.specs.Records.{Record}
 use Rattle.dsec_group.specs.declared.state.ValidationState.{ValidationState}

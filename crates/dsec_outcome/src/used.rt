@@ -49,7 +49,6 @@ impl<V: Verifier> UsedGroup<V> {
 }
 
 /// The judged groups of an authority section at these indexes, in this order.
-#[tactic(auto, using(crate::proofs::UsedSteps::used_more))]
 pub(crate) fn used_by<V: Verifier>(
     alloc: Global,
     authorities: &[JudgedGroup<V>],
@@ -65,7 +64,7 @@ pub(crate) fn used_by<V: Verifier>(
 }
 
 /// Adds the judged group at an index, if there is one.
-#[tactic(auto, using(crate::proofs::UsedSteps::one_used, crate::proofs::UsedSteps::none_used))]
+#[tactic(auto, using(crate::proofs::UsedSteps::one_used))]
 fn push_used<V: Verifier>(
     used: &mut Vec<UsedGroup<V>>,
     authorities: &[JudgedGroup<V>],
@@ -73,9 +72,12 @@ fn push_used<V: Verifier>(
 ) -> Result<(), NoMemory>
     ensures { OnOk result (used.new.items ≡ used.old.items ++ filter_map (used_at authorities.now) (index ∷ [])) }
 {
-    if let Some(judged) = authorities.get(index) {
-        let judged = judged.clone()?;
-        used.push(UsedGroup::new(index, judged))?;
+    match authorities.get(index) {
+        Some(judged) => {
+            let judged = judged.clone()?;
+            used.push(UsedGroup::new(index, judged))?;
+            Ok(())
+        }
+        None => Ok(()),
     }
-    Ok(())
 }

@@ -1,4 +1,3 @@
-use Rattle.std.proofs.Common.{sym, ◌∙◌}
 use Rattle.dsec_node.specs.Views.{world_of}
 use Rattle.dsec_outcome.proofs.AnswerSteps.{one_question}
 use Rattle.dsec_outcome.proofs.answer.on_questions.Goals as goal
