@@ -1,8 +1,6 @@
 -- The lines of a judged group.
-use Rattle.std.proofs.Common.{◌≡◌, ℕ, List, [], ◌∷◌, ◌++◌, Option, Some, None, refl, sym, ap, ◌∙◌}
-use Rattle.std.specs.List.{flat_map}
+use Rattle.std.proofs.Common.{◌≡◌, List, [], ◌∷◌, ◌++◌, Some, None, refl, ap, ◌∙◌}
 use Rattle.dsec_spec.specs.Chain.{Link}
-use Rattle.dsec_link.specs.LinkTexts.{link_line}
 use Rattle.dsec_nodes.specs.Judging.{Finding, is_shown, has_no_set, is_insecure, is_bogus, is_indeterminate}
 use Rattle.dsec_found.specs.Told.{own_link, zone_links}
 use Rattle.dsec_answer.specs.Texts.{links_in}

@@ -1,12 +1,12 @@
 -- Texts of outcomes go out one after the other.
-use Rattle.std.proofs.Common.{◌≡◌, ℕ, suc, ◌+◌, ◌<◌, List, [], ◌∷◌, ◌++◌, length, take, drop, get_or, Option, Ok, Err, Result, Bool, true, false, cond, refl, sym, ap, ◌∙◌, subst, arith}
-use Rattle.std.specs.Prelude.{nat_lt, IfOk, ◌≤◌}
+use Rattle.std.proofs.Common.{◌≡◌, ℕ, suc, ◌+◌, ◌<◌, List, [], ◌∷◌, ◌++◌, length, take, get_or, Option, Ok, Err, Result, Bool, true, false, refl, sym, ap, ◌∙◌, subst, arith}
+use Rattle.std.specs.Prelude.{nat_lt, ◌≤◌}
 use Rattle.std.specs.Io.KnownBytes.{Appends}
-use Rattle.std.proofs.lemmas.List.{take_more, take-append-drop, length-take-le}
+use Rattle.std.proofs.lemmas.List.{take_more, length_push, length-take-le}
 use Rattle.dsec_spec.specs.Accepts.{Accepts}
 use Rattle.dsec_spec.specs.Outside.{Table, SentFront}
 use Rattle.dsec_spec.specs.Records.{Record}
-use Rattle.std.proofs.lemmas.Bool.{cond-true, cond-false}
+use Rattle.std.proofs.lemmas.Bool.{ltb-true, ltb-false}
 use Rattle.dsec_nodes.specs.World.{World}
 use Rattle.dsec_nodes.specs.Outcomes as outcomes
 use Rattle.dsec_nodes.specs.Alone.{Refusal, alone}
@@ -15,14 +15,14 @@ use Rattle.dsec_node.specs.Configs.{default_settings}
 use Rattle.dsec_serve.specs.Outside.{replies_of}
 use Rattle.dsec_answer.specs.declared.outcome.Unjudged.TheVariants.{ShortMessage}
 use Rattle.dsec_outside.specs.Sending.{SentBut}
-use Rattle.dsec_outside.proofs.Pieces.{but_front, but_front_more, more_gathered, more_went, rest_went}
+use Rattle.dsec_outside.proofs.Pieces.{but_front, but_front_more, more_gathered, more_went, none_sent, rest_went}
 use Rattle.dsec_script.specs.declared.items.Item.{Item}
-use Rattle.dsec_answer.specs.declared.outcome.Unjudged.{Unjudged}
 use Rattle.dsec_answer.specs.Told.{Outcome}
 use Rattle.dsec_answer.specs.Texts.{outcome_text}
 use Rattle.dsec_answer.specs.Outcomes.{told_by, unjudged_by, world_of_script, IsOutcome, IsText, AreOutcomes, texts_from}
 use Rattle.dsec_answer.specs.Sending.{SoFar}
-use Rattle.dsec_answer.proofs.AnswerLoop.{texts_append, one_text}
+use Rattle.dsec_answer.proofs.AnswerLoop.{texts_append, one_text, no_texts}
+use Rattle.dsec_answer.proofs.OutcomeLaws.{is_outcome, short_outcome, with_header}
 
 -- outcomes of messages, and of more
 pub both_outcomes : (accepts : Accepts) (anchors : List Record) (table : Table) (items more : List Item) (xs ys : List Outcome)
@@ -50,35 +50,21 @@ some_outcome accepts anchors table item = by (nat_lt (length item.octets) 12) re
     w : World
     w = world_of_script accepts anchors item.seconds
 
-    judged : nat_lt (length item.octets) 12 ≡ false → (r : Result outcomes.Outcome Refusal) → alone w most (replies_of table) item.octets ≡ r
+    judged : 12 ≤ length item.octets → (r : Result outcomes.Outcome Refusal) → alone w most (replies_of table) item.octets ≡ r
         → (o : Outcome) × IsOutcome accepts anchors table item o
     judged long (Ok o) e = (
       Ok (record { outcome = o; questions = 0 }),
-      record {
-        exact = sym (cond-false (nat_lt (length item.octets) 12) (Err ShortMessage) (told_by (alone w most (replies_of table) item.octets)) long ∙ ap told_by e);
-        sound = alone_justified w most (replies_of table) item.octets o e;
-        few = omega arith;
-      },
+      is_outcome accepts anchors table item (Ok (record { outcome = o; questions = 0 })) (sym (with_header accepts anchors table item.seconds item.octets long ∙ ap told_by e))
+          (alone_justified w most (replies_of table) item.octets o e) (omega arith),
     )
     judged long (Err x) e = (
       Err (unjudged_by x),
-      record {
-        exact = sym (cond-false (nat_lt (length item.octets) 12) (Err ShortMessage) (told_by (alone w most (replies_of table) item.octets)) long ∙ ap told_by e);
-        sound = tt;
-        few = tt;
-      },
+      is_outcome accepts anchors table item (Err (unjudged_by x)) (sym (with_header accepts anchors table item.seconds item.octets long ∙ ap told_by e)) tt tt,
     )
 
     by : (b : Bool) → nat_lt (length item.octets) 12 ≡ b → (o : Outcome) × IsOutcome accepts anchors table item o
-    by true e = (
-      Err ShortMessage,
-      record {
-        exact = sym (cond-true (nat_lt (length item.octets) 12) (Err ShortMessage) (told_by (alone w most (replies_of table) item.octets)) e);
-        sound = tt;
-        few = tt;
-      },
-    )
-    by false e = judged e (alone w most (replies_of table) item.octets) refl
+    by true e = (Err ShortMessage, short_outcome accepts anchors table item (ltb-true (length item.octets) 12 e))
+    by false e = judged (ltb-false (length item.octets) 12 e) (alone w most (replies_of table) item.octets) refl
 
 -- and so have all of these
 pub some_outcomes : (accepts : Accepts) (anchors : List Record) (table : Table) (items : List Item) → (os : List Outcome) × AreOutcomes accepts anchors table items os
@@ -87,6 +73,26 @@ some_outcomes accepts anchors table (item ∷ items) =
     let one = some_outcome accepts anchors table item in
     let others = some_outcomes accepts anchors table items in
     (one.0 ∷ others.0, (one.1, others.1))
+
+-- the first messages, and the next one
+pub one_more : (items yielded : List Item) (item : Item) → length yielded < length items → item ≡ get_or items (length yielded) item
+    → take (length yielded) items ++ item ∷ [] ≡ take (length (yielded ++ item ∷ [])) items
+one_more items yielded item l same =
+    ap (λ x. take (length yielded) items ++ x ∷ []) same
+    ∙ (sym (take_more items (length yielded) item l) ∙ ap (λ n. take n items) (sym (length_push yielded item)))
+
+-- how many they are
+pub first_many : (items yielded : List Item) (index : ℕ) → length yielded < length items → index ≡ length yielded → index ≡ length (take (length yielded) items)
+first_many items yielded index l e = e ∙ sym (length-take-le (length yielded) items (omega (arith, l)))
+
+-- before the first message nothing went out
+pub so_far_none : (accepts : Accepts) (anchors : List Record) (table : Table) (before : Option (List ℕ)) (gathered : List ℕ) → gathered ≡ []
+    → SoFar accepts anchors table [] before before gathered
+so_far_none accepts anchors table before gathered e = record {
+  outcomes = [];
+  each = tt;
+  sent = subst (SentBut before before (texts_from 0 [])) (sym e) (subst (λ t. SentBut before before t []) (sym no_texts) (none_sent before []));
+}
 
 -- with outcomes for the rest, what went out is a front of a text of all
 pub so_far_front : (accepts : Accepts) (anchors : List Record) (table : Table) (items more all : List Item) (before after : Option (List ℕ)) (rest : List ℕ)

@@ -7,8 +7,8 @@ use Rattle.dsec_nodes.specs.World.{World}
 use Rattle.dsec_nodes.specs.Outcomes as outcomes
 use Rattle.dsec_nodes.specs.Alone.{Refusal, unreadable, not_one_question, alone}
 use Rattle.dsec_nodes.specs.SoundOutcomes.{IsJustified}
+use Rattle.dsec_plain.specs.PlainAnswers.{IsPlainAnswer}
 use Rattle.dsec_node.specs.Configs.{default_settings}
-use Rattle.dsec_serve.specs.Verdicts.{Verdict}
 use Rattle.dsec_serve.specs.Outside.{replies_of}
 use Rattle.dsec_serve.specs.Calls.{most_questions}
 use Rattle.dsec_answer.specs.declared.outcome.Unjudged.{Unjudged}
@@ -45,11 +45,18 @@ outcome_of accepts anchors table seconds message =
     if nat_lt (length message) 12 then Err ShortMessage
     else told_by (alone (world_of_script accepts anchors seconds) default_settings.max_cname_dname (replies_of table) message)
 
--- What the outcome of a message is: exactly what the recursion comes to, its state, its cause and why; it is justified; and it took no more
--- questions than a message of its groups may, which nodes that are kept can lessen (RFC 4033 5, RFC 4035 4.5)
+-- an outcome is the verdict Secure
+abbrev pub IsSecureOutcome : Outcome → Type 0
+IsSecureOutcome (Ok v) = v.outcome.state ≡ outcomes.secure
+IsSecureOutcome (Err why) = ⊥
+
+-- What the outcome of a message is: exactly what the recursion comes to, its state, its cause and why; it is justified; it is Secure where the
+-- message is an ordinary reply from the zone at the anchor; and it took no more questions than a message of its groups may, which nodes that are
+-- kept can lessen (RFC 4033 5, RFC 4035 4.5, 5)
 pub record IsOutcome (accepts : Accepts) (anchors : List Record) (table : Table) (item : Item) (outcome : Outcome) : Type 0 where
   pub exact : without_questions outcome ≡ outcome_of accepts anchors table item.seconds item.octets
   pub sound : IfOk outcome (λ v. IsJustified (world_of_script accepts anchors item.seconds) default_settings.max_cname_dname item.octets v.outcome v.outcome.state)
+  pub complete : IsPlainAnswer (world_of_script accepts anchors item.seconds) (replies_of table) item.octets → IsSecureOutcome outcome
   pub few : IfOk outcome (λ v. v.questions ≤ most_questions default_settings.max_cname_dname item.octets)
 
 -- one outcome for each message, in order

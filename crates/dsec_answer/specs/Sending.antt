@@ -1,5 +1,5 @@
 -- How far the texts of a script's outcomes have gone out, in code.
-use Rattle.std.specs.Prelude.{◌≡◌, ℕ, List, Option}
+use Rattle.std.specs.Prelude.{ℕ, List, Option}
 use Rattle.dsec_spec.specs.Records.{Record}
 use Rattle.dsec_spec.specs.Accepts.{Accepts}
 use Rattle.dsec_spec.specs.Outside.{Table}

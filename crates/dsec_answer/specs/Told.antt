@@ -1,7 +1,10 @@
 -- Outcomes of messages, as they are told.
-use Rattle.std.specs.Prelude.{Result, Ok, Err}
+use Rattle.std.specs.Prelude.{Option, Some, None, Result, Ok, Err}
+use Rattle.dsec_found.specs.declared.error.Error.{Error}
+use Rattle.dsec_found.specs.declared.error.Error.TheVariants as errors
 use Rattle.dsec_serve.specs.Verdicts.{Verdict}
 use Rattle.dsec_answer.specs.declared.outcome.Unjudged.{Unjudged}
+use Rattle.dsec_answer.specs.declared.outcome.Unjudged.TheVariants.{FormError, ParseError}
 
 -- a verdict, or why there is none
 abbrev pub Outcome : Type 0
@@ -11,3 +14,10 @@ Outcome = Result Verdict Unjudged
 abbrev pub told_as : {X : Type 0} → (X → Verdict) → Result X Unjudged → Outcome
 told_as view (Ok verdict) = Ok (view verdict)
 told_as view (Err why) = Err why
+
+-- what is told of an answer; of want of memory nothing is
+abbrev pub told_of : Result Verdict Error → Option Outcome
+told_of (Ok v) = Some (Ok v)
+told_of (Err errors.FormError) = Some (Err FormError)
+told_of (Err errors.ParseError) = Some (Err ParseError)
+told_of (Err errors.NoMemory) = None

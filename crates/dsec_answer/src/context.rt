@@ -1,10 +1,15 @@
 //! Contexts: what messages are judged by, and the nodes that are kept between them.
 
-ghost use Rattle.std.specs.Prelude.{◌≡◌, ◌≤◌, [], Some, IfOk, IfSome};
+ghost use Rattle.std.specs.Prelude.{◌≡◌, ◌≤◌, [], length, ⊤, Some, None, IfOk, IfSome};
+ghost use Rattle.dsec_nodes.specs.Alone.{sections_of};
+ghost use Rattle.dsec_nodes.specs.Outcomes.{secure};
 ghost use Rattle.dsec_nodes.specs.SoundOutcomes.{IsJustified};
+ghost use Rattle.dsec_plain.specs.Coming.{HasNotOneQuestion, IsReadable};
+ghost use Rattle.dsec_plain.specs.PlainAnswers.{IsPlainAnswer};
+ghost use Rattle.dsec_found.specs.declared.error.Error.TheVariants.{FormError, ParseError};
 ghost use Rattle.dsec_node.specs.Caches.{held_in};
 ghost use Rattle.dsec_node.specs.Configs.{default_settings};
-ghost use Rattle.dsec_serve.specs.Calls.{AgreesWith, IsCall, most_questions};
+ghost use Rattle.dsec_serve.specs.Calls.{AgreesWith, IsCall, OkOrNoMemory, RefusedOrBogus, RefusedOrNoMemory, most_questions};
 ghost use Rattle.dsec_serve.specs.Outside.{replies_of, HoldsTable};
 ghost use Rattle.dsec_answer.specs.Setting.{world_at};
 
@@ -76,6 +81,12 @@ impl<V: Verifier> ValidationContext<V> {
         ensures told { IfSome (U.table upstream.old) (λ t. HoldsTable (world_at V.accepts self.old.anchors self.old.config now) (replies_of t) (Some (held_in self.old.nodes))
             → AgreesWith (world_at V.accepts self.old.anchors self.old.config now) self.old.config.max_cname_dname message.old
             (record { held = Some (held_in self.new.nodes); asked = U.asked upstream.new; faults = U.faults upstream.new }) result (replies_of t)) }
+        ensures complete { IfSome (U.table upstream.old) (λ t. HoldsTable (world_at V.accepts self.old.anchors self.old.config now) (replies_of t) (Some (held_in self.old.nodes))
+            → IsPlainAnswer (world_at V.accepts self.old.anchors self.old.config now) (replies_of t) message.old
+            → OkOrNoMemory (λ v. v.outcome.state ≡ secure) result) }
+        ensures readable { (read : IsReadable message.old) → length read.questions ≡ 1 → OkOrNoMemory (λ v. ⊤) result }
+        ensures unreadable { sections_of message.old ≡ None → RefusedOrNoMemory ParseError result }
+        ensures not_one { HasNotOneQuestion message.old → RefusedOrBogus FormError result }
         ensures few { IfOk result (λ v. v.questions ≤ most_questions self.old.config.max_cname_dname message.old) }
         ensures same_table { U.table upstream.new ≡ U.table upstream.old }
         ensures same_message { message.new ≡ message.old }

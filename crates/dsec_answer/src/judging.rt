@@ -3,6 +3,7 @@
 ghost use Rattle.std.specs.Prelude.{◌≡◌, ◌≤◌, ◌++◌, [], ℕ, List, Some, IfOk, OnOk, IsErrOf};
 ghost use Rattle.std.specs.Io.KnownBytes.{Appends};
 ghost use Rattle.dsec_spec.specs.Outside.{Rose, SentFront};
+ghost use Rattle.dsec_nodes.specs.World.{Replies};
 ghost use Rattle.dsec_node.specs.Caches.{held_in};
 ghost use Rattle.dsec_node.specs.Configs.{default_settings};
 ghost use Rattle.dsec_outside.specs.Faults.{CountsWrites};
@@ -18,7 +19,6 @@ use dsec_crypto::Verifier;
 use dsec_name::NoMemory;
 use dsec_outside::{Halt, Sink, TableUpstream, send, send_block};
 use dsec_script::Item;
-use dsec_serve::Error;
 use dsec_wire::Message;
 use std::alloc::Global;
 
@@ -27,25 +27,31 @@ fn judge_one<V: Verifier>(
     alloc: Global,
     context: &mut ValidationContext<V>,
     upstream: &mut TableUpstream,
-    item: &Item,
+    item: Item,
 ) -> Result<Outcome<V>, NoMemory>
     requires config { context.old.config ≡ default_settings }
-    requires holds { HoldsTable (world_of_script V.accepts context.old.anchors item.now.seconds) (replies_of upstream.old.replies) (Some (held_in context.old.nodes)) }
-    ensures outcome { IfOk result (λ outcome. IsOutcome V.accepts context.old.anchors upstream.old.replies item.now outcome) }
-    ensures holds { HoldsTable (world_of_script V.accepts context.old.anchors item.now.seconds) (replies_of upstream.old.replies) (Some (held_in context.new.nodes)) }
+    requires holds { HoldsTable (world_of_script V.accepts context.old.anchors item.seconds) (replies_of upstream.old.replies) (Some (held_in context.old.nodes)) }
+    ensures outcome { IfOk result (λ outcome. IsOutcome V.accepts context.old.anchors upstream.old.replies item outcome) }
+    ensures holds { HoldsTable (world_of_script V.accepts context.old.anchors item.seconds) (replies_of upstream.old.replies) (Some (held_in context.new.nodes)) }
     ensures same_anchors { context.new.anchors ≡ context.old.anchors }
     ensures same_config { context.new.config ≡ context.old.config }
     ensures same_table { upstream.new.replies ≡ upstream.old.replies }
 {
-    let octets = item.octets.as_slice().to_vec(alloc)?;
-    let Ok(mut message) = Message::from_octets(octets) else {
+    let Ok(mut message) = Message::from_octets(item.octets.into_vec()) else {
         return Ok(Outcome::refused(Unjudged::ShortMessage));
     };
-    match context.validate_msg(alloc, &mut message, upstream, item.seconds) {
-        Ok(verdict) => Ok(Outcome::judged(verdict)),
-        Err(Error::FormError) => Ok(Outcome::refused(Unjudged::FormError)),
-        Err(Error::ParseError) => Ok(Outcome::refused(Unjudged::ParseError)),
-        Err(Error::NoMemory) => Err(NoMemory),
+    Outcome::told(context.validate_msg(alloc, &mut message, upstream, item.seconds))
+}
+
+/// Forgets nodes of another moment, and before the first message after a `now` all nodes.
+fn forget_others<V: Verifier>(context: &mut ValidationContext<V>, moment: u64, item: &Item)
+    ensures holds { (replies : Replies) → HoldsTable (world_of_script V.accepts context.old.anchors moment) replies (Some (held_in context.old.nodes))
+        → HoldsTable (world_of_script V.accepts context.old.anchors item.now.seconds) replies (Some (held_in context.new.nodes)) }
+    ensures same_anchors { context.new.anchors ≡ context.old.anchors }
+    ensures same_config { context.new.config ≡ context.old.config }
+{
+    if item.opens || item.seconds != moment {
+        context.forget();
     }
 }
 
@@ -56,21 +62,19 @@ fn push_one<V: Verifier>(
     upstream: &mut TableUpstream,
     moment: u64,
     index: u64,
-    item: &Item,
+    item: Item,
     out: &mut Vec<u8>,
 ) -> Result<(), NoMemory>
     requires config { context.old.config ≡ default_settings }
     requires holds { HoldsTable (world_of_script V.accepts context.old.anchors moment) (replies_of upstream.old.replies) (Some (held_in context.old.nodes)) }
-    ensures text { OnOk result ((outcome : outcomes.Outcome) × IsOutcome V.accepts context.old.anchors upstream.old.replies item.now outcome
+    ensures text { OnOk result ((outcome : outcomes.Outcome) × IsOutcome V.accepts context.old.anchors upstream.old.replies item outcome
         × (out.new.items ≡ out.old.items ++ outcome_text index outcome)) }
-    ensures holds { HoldsTable (world_of_script V.accepts context.old.anchors item.now.seconds) (replies_of upstream.old.replies) (Some (held_in context.new.nodes)) }
+    ensures holds { HoldsTable (world_of_script V.accepts context.old.anchors item.seconds) (replies_of upstream.old.replies) (Some (held_in context.new.nodes)) }
     ensures same_anchors { context.new.anchors ≡ context.old.anchors }
     ensures same_config { context.new.config ≡ context.old.config }
     ensures same_table { upstream.new.replies ≡ upstream.old.replies }
 {
-    if item.opens || item.seconds != moment {
-        context.forget();
-    }
+    forget_others(context, moment, &item);
     let outcome = judge_one(alloc, context, upstream, item)?;
     push_text(alloc, out, index, &outcome)
 }
@@ -80,7 +84,7 @@ pub fn judge_all<V: Verifier, K: Sink>(
     alloc: Global,
     context: &mut ValidationContext<V>,
     upstream: &mut TableUpstream,
-    items: &[Item],
+    items: Vec<Item>,
     sink: &mut K,
 ) -> Result<(), Halt>
     requires config { context.old.config ≡ default_settings }
@@ -88,15 +92,16 @@ pub fn judge_all<V: Verifier, K: Sink>(
     ensures later { K.faults sink.old ≤ K.faults sink.new }
     ensures write { IsErrOf result Halt.Write → Rose (K.faults sink.old) (K.faults sink.new) }
     ensures counts { CountsWrites (K.faults sink.old) (K.faults sink.new) result }
-    ensures sent { OnOk result ((text : List ℕ) × IsText V.accepts context.old.anchors upstream.old.replies items.now text × Appends (K.written sink.old) (K.written sink.new) text) }
-    ensures front { (text : List ℕ) × IsText V.accepts context.old.anchors upstream.old.replies items.now text × SentFront (K.written sink.old) (K.written sink.new) text }
+    ensures sent { OnOk result ((text : List ℕ) × IsText V.accepts context.old.anchors upstream.old.replies items.items text × Appends (K.written sink.old) (K.written sink.new) text) }
+    ensures front { (text : List ℕ) × IsText V.accepts context.old.anchors upstream.old.replies items.items text × SentFront (K.written sink.old) (K.written sink.new) text }
 {
     let mut gathered = Vec::new(alloc);
     let mut index = 0u64;
     let mut moment = 0u64;
     for item in items {
+        let seconds = item.seconds;
         push_one(alloc, context, upstream, moment, index, item, &mut gathered)?;
-        moment = item.seconds;
+        moment = seconds;
         send_block(sink, &mut gathered)?;
         index += 1;
     }

@@ -1,10 +1,11 @@
 //! What comes of a message.
 
-ghost use Rattle.std.specs.Prelude.{◌≡◌, Ok, Err};
+ghost use Rattle.std.specs.Prelude.{◌≡◌, Some, Ok, Err, IfOk};
 ghost use Rattle.dsec_answer.specs.Told as outcomes;
 
 use dsec_crypto::Verifier;
-use dsec_serve::Verdict;
+use dsec_name::NoMemory;
+use dsec_serve::{Error, Verdict};
 use std::marker::Model;
 
 /// Why a message has no verdict.
@@ -47,6 +48,18 @@ impl<V: Verifier> Outcome<V> {
         ensures { result ≡ Err why }
     {
         Outcome { answer: Err(why) }
+    }
+
+    /// What is told of an answer.
+    pub(crate) fn told(answer: Result<Verdict<V>, Error>) -> Result<Outcome<V>, NoMemory>
+        ensures { IfOk result (λ outcome. outcomes.told_of answer ≡ Some outcome) }
+    {
+        match answer {
+            Ok(verdict) => Ok(Outcome::judged(verdict)),
+            Err(Error::FormError) => Ok(Outcome::refused(Unjudged::FormError)),
+            Err(Error::ParseError) => Ok(Outcome::refused(Unjudged::ParseError)),
+            Err(Error::NoMemory) => Err(NoMemory),
+        }
     }
 
     /// The verdict, or why there is none.

@@ -40,7 +40,7 @@ fn judge_script<V: Verifier, K: Sink>(
         alloc,
         &mut context,
         &mut upstream,
-        script.items.as_slice(),
+        script.items.into_vec(),
         sink,
     )
 }

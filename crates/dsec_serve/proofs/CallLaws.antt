@@ -23,6 +23,7 @@ use Rattle.dsec_serve.specs.Serving.{IsServing}
 use Rattle.dsec_serve.specs.Calls.{Verdict, WereHeard, AgreesWith, IsCall, count_of, most_questions}
 use Rattle.dsec_serve.proofs.CountLaws.{counted_lost, counted_none}
 use Rattle.dsec_serve.proofs.HoldingLaws.{held_of_table, holds_after}
+use Rattle.dsec_serve.proofs.ReadLaws.{begun_reads}
 use Rattle.dsec_serve.proofs.ServingLaws.{serving_holds}
 
 -- where all that was held and heard is of a table, so is all that is held
@@ -67,7 +68,7 @@ ends_ok w most message table before now r o s e = record {
   counted = s.counted;
   few = refl;
   in_turn = inr (were_heard w most message table before now r s);
-  so = (refl, sound_end w most message table before now r (Ok o) s e);
+  so = (refl, sound_end w most message table before now r (Ok o) s e, begun_reads most message s.course s.begins);
   agrees = λ replies h asked. record {
     says = sym (end_so w most message table before now r replies (Ok o) s e h asked);
     holds = held_so w most message table before now r replies s h asked;
@@ -83,7 +84,7 @@ ends_refused w most message table before now r s e = record {
   counted = s.counted;
   few = refl;
   in_turn = inr (were_heard w most message table before now r s);
-  so = (sound_end w most message table before now r (Err not_one_question) s e).1;
+  so = (begun_reads most message s.course s.begins, (sound_end w most message table before now r (Err not_one_question) s e).1);
   agrees = λ replies h asked. record {
     says = ap answer_of (sym (end_so w most message table before now r replies (Err not_one_question) s e h asked));
     holds = held_so w most message table before now r replies s h asked;

@@ -1,7 +1,9 @@
 pub mod CountLaws
 pub mod HoldingLaws
 pub mod ServingLaws
+pub mod ReadLaws
 pub mod CallLaws
+pub mod TellingLaws
 pub mod TurnLaws
 pub mod FewLaws
 pub mod AskedLaws

@@ -6,9 +6,10 @@ use Rattle.dsec_nodes.specs.World.{World, Replies}
 use Rattle.dsec_nodes.specs.Nodes.{Node}
 use Rattle.dsec_nodes.specs.Machine.{Question as Asked, Input}
 use Rattle.dsec_nodes.specs.InStep.{AskedOf}
-use Rattle.dsec_nodes.specs.Outcomes.{Outcome}
+use Rattle.dsec_nodes.specs.Outcomes.{Outcome, bogus}
 use Rattle.dsec_nodes.specs.SoundOutcomes.{IsJustified}
 use Rattle.dsec_nodes.specs.Alone.{Refusal, sections_of, alone}
+use Rattle.dsec_plain.specs.Coming.{IsReadable}
 use Rattle.dsec_found.specs.declared.error.Error.{Error}
 use Rattle.dsec_found.specs.declared.error.Error.TheVariants.{FormError, ParseError, NoMemory}
 use Rattle.dsec_found.specs.Errors.{answer_of}
@@ -34,11 +35,12 @@ IsLost (Err NoMemory) lost = lost ≤ 1
 IsLost (Err FormError) lost = lost ≡ 0
 IsLost (Err ParseError) lost = lost ≡ 0
 
--- An outcome is justified, and its questions are told; FormError comes only where there isn't one question; ParseError only where the sections
--- can't be read, and then nothing is asked (RFC 4033 5, RFC 1035 4.1)
+-- An outcome is justified, its questions are told, and the message's sections can be read; FormError comes only where they can and there isn't one
+-- question; ParseError only where they can't, and then nothing is asked (RFC 4033 5, RFC 1035 4.1)
 abbrev pub IsAnswer : World → ℕ → List ℕ → List Asked → Result Verdict Error → Type 0
-IsAnswer w most message asked (Ok v) = (v.questions ≡ length asked) × IsJustified w most message v.outcome v.outcome.state
-IsAnswer w most message asked (Err FormError) = (question : Question) (rest : ℕ) → questions_of message ≡ Some (question ∷ [], rest) → ⊥
+IsAnswer w most message asked (Ok v) = (v.questions ≡ length asked) × IsJustified w most message v.outcome v.outcome.state × IsReadable message
+IsAnswer w most message asked (Err FormError) =
+    IsReadable message × ((question : Question) (rest : ℕ) → questions_of message ≡ Some (question ∷ [], rest) → ⊥)
 IsAnswer w most message asked (Err ParseError) = (sections_of message ≡ None) × (asked ≡ [])
 IsAnswer w most message asked (Err NoMemory) = Unit {0}
 
@@ -75,3 +77,18 @@ count_of (Err e) = 0
 -- how many questions a message takes at most: 255 for each of its groups (RFC 1035 2.3.4, RFC 4035 5.2)
 abbrev pub most_questions : ℕ → List ℕ → ℕ
 most_questions most message = 255 * count_of (begun most message)
+
+-- a verdict of this kind, or want of memory
+abbrev pub OkOrNoMemory : (Verdict → Type 0) → Result Verdict Error → Type 0
+OkOrNoMemory Holds (Ok v) = Holds v
+OkOrNoMemory Holds (Err e) = e ≡ NoMemory
+
+-- a refusal for this reason, or want of memory
+abbrev pub RefusedOrNoMemory : Error → Result Verdict Error → Type 0
+RefusedOrNoMemory why (Ok v) = ⊥
+RefusedOrNoMemory why (Err e) = (e ≡ why) ⊎ (e ≡ NoMemory)
+
+-- a refusal for this reason, a bogus verdict, or want of memory
+abbrev pub RefusedOrBogus : Error → Result Verdict Error → Type 0
+RefusedOrBogus why (Ok v) = v.outcome.state ≡ bogus
+RefusedOrBogus why (Err e) = (e ≡ why) ⊎ (e ≡ NoMemory)

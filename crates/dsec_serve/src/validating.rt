@@ -1,13 +1,18 @@
 //! Messages judged over caches, a memo and an upstream (RFC 4033 5, RFC 4035 4.3, 4.5, 5).
 
-ghost use Rattle.std.specs.Prelude.{◌≡◌, ◌<◌, ◌≤◌, ℕ, List, length, Ok, IfOk, IfSome, true};
+ghost use Rattle.std.specs.Prelude.{◌≡◌, ◌<◌, ◌≤◌, ℕ, List, length, ⊤, None, Ok, IfOk, IfSome, true};
+ghost use Rattle.dsec_nodes.specs.Alone.{sections_of};
+ghost use Rattle.dsec_nodes.specs.Outcomes.{secure};
 ghost use Rattle.dsec_nodes.specs.SoundOutcomes.{IsJustified};
+ghost use Rattle.dsec_plain.specs.Coming.{HasNotOneQuestion, IsReadable};
+ghost use Rattle.dsec_plain.specs.PlainAnswers.{IsPlainAnswer};
+ghost use Rattle.dsec_found.specs.declared.error.Error.TheVariants.{FormError, ParseError};
 ghost use Rattle.dsec_node.specs.Views.{bounds_of, world_of};
 ghost use Rattle.dsec_course.specs.Advancing.{begun};
 ghost use Rattle.dsec_course.specs.Course.{asked_in, end_with};
 ghost use Rattle.dsec_core.specs.Validating.{most_of, world_by};
 ghost use Rattle.dsec_core.specs.Views.{step_view};
-ghost use Rattle.dsec_serve.specs.Calls.{AgreesWith, IsCall, most_questions};
+ghost use Rattle.dsec_serve.specs.Calls.{AgreesWith, IsCall, OkOrNoMemory, RefusedOrBogus, RefusedOrNoMemory, most_questions};
 ghost use Rattle.dsec_serve.specs.Outside.{replies_of, HoldsTable, Outside};
 ghost use Rattle.dsec_serve.specs.Turns.{ends, IsAt};
 
@@ -45,6 +50,12 @@ pub fn validate_in<V: Verifier, C: Caches<V>, M: Memo<V>, U: Upstream>(
     ensures told { IfSome (U.table upstream.old) (λ t. HoldsTable (world_of V.accepts anchors.now (bounds_of config.now) now) (replies_of t) (C.held caches.old)
         → AgreesWith (world_of V.accepts anchors.now (bounds_of config.now) now) config.now.max_cname_dname message.now
         (record { held = C.held caches.new; asked = U.asked upstream.new; faults = U.faults upstream.new }) result (replies_of t)) }
+    ensures complete { IfSome (U.table upstream.old) (λ t. HoldsTable (world_of V.accepts anchors.now (bounds_of config.now) now) (replies_of t) (C.held caches.old)
+        → IsPlainAnswer (world_of V.accepts anchors.now (bounds_of config.now) now) (replies_of t) message.now
+        → OkOrNoMemory (λ v. v.outcome.state ≡ secure) result) }
+    ensures readable { (read : IsReadable message.now) → length read.questions ≡ 1 → OkOrNoMemory (λ v. ⊤) result }
+    ensures unreadable { sections_of message.now ≡ None → RefusedOrNoMemory ParseError result }
+    ensures not_one { HasNotOneQuestion message.now → RefusedOrBogus FormError result }
     ensures few { IfOk result (λ v. v.questions ≤ most_questions config.now.max_cname_dname message.now) }
     ensures same_table { U.table upstream.new ≡ U.table upstream.old }
 {
