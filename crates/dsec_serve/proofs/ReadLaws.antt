@@ -7,7 +7,7 @@ use Rattle.dsec_spec.proofs.ReadingLemmas.{from_bind}
 use Rattle.dsec_spec.specs.Groups.{Group}
 use Rattle.dsec_nodes.specs.World.{World}
 use Rattle.dsec_nodes.specs.Outcomes.{State, secure, insecure, bogus, indeterminate, Outcome}
-use Rattle.dsec_nodes.specs.SoundOutcomes.{IsAnswered, IsJustified}
+use Rattle.dsec_nodes.specs.SoundOutcomes.{EndsThere, Decides, IsJustified}
 use Rattle.dsec_nodes.specs.Alone.{sections_of}
 use Rattle.dsec_plain.specs.Coming.{IsReadable, HasNotOneQuestion}
 use Rattle.dsec_course.specs.Course.{Course}
@@ -54,20 +54,26 @@ asks_one message r one =
     let the = the_one r.questions one in
     (the.0, asked.0, asked.1 ∙ ap (λ (qs : List Question). Some (qs, asked.0)) the.1)
 
--- one that hasn't one question isn't answered
-pub unanswered : (w : World) (most : ℕ) (message : List ℕ) (group : Group) → HasNotOneQuestion message → IsAnswered w most message group → ⊥
-unanswered w most message group h a =
+-- in one that hasn't one question no group decides
+pub unasked : (w : World) (most : ℕ) (message : List ℕ) → HasNotOneQuestion message → EndsThere w most message → ⊥
+unasked w most message h end =
     let asked = asked_is message h.readable in
-    let same = same_Some _ _ (sym asked.1 ∙ a.read.asked) in
+    let same = same_Some _ _ (sym asked.1 ∙ end.read.asked) in
     h.not_one (ap (λ (p : List Question × ℕ). length p.0) same)
+
+pub undecided : (w : World) (most : ℕ) (message : List ℕ) (group : Group) → HasNotOneQuestion message → Decides w most message group → ⊥
+undecided w most message group h (inl answered) = unasked w most message h answered.end
+undecided w most message group h (inr denied) = unasked w most message h denied.end
 
 -- so its outcome can only be bogus
 pub only_bogus : (w : World) (most : ℕ) (message : List ℕ) (o : Outcome) → HasNotOneQuestion message → IsJustified w most message o o.state → o.state ≡ bogus
 only_bogus w most message o h = by o.state refl
   where
     by : (s : State) → o.state ≡ s → IsJustified w most message o s → s ≡ bogus
-    by secure e j = absurd (unanswered w most message j.judged.group h j.answered)
-    by insecure e (inl j) = absurd (unanswered w most message j.group h j.answered)
-    by insecure e (inr j) = absurd (unanswered w most message j.group h j.answered)
+    by secure e (inl j, none) = absurd (unasked w most message h j.answered.end)
+    by secure e (inr (inl j), none) = absurd (unasked w most message h j.answered.end)
+    by secure e (inr (inr j), none) = absurd (unasked w most message h j.has_soa.end)
+    by insecure e (inl j) = absurd (undecided w most message j.group h j.decides)
+    by insecure e (inr j) = absurd (undecided w most message j.group h j.decides)
     by bogus e j = refl
-    by indeterminate e j = absurd (unanswered w most message j.group h j.answered)
+    by indeterminate e j = absurd (undecided w most message j.group h j.decides)
