@@ -72,6 +72,7 @@ fn push_used_group<V: Verifier>(
 }
 
 /// Adds the line of a group that a denial uses, which is its link's with another first word.
+#[tactic(auto, unfolding(dsec_link::specs::LinkTexts::link_head))]
 fn push_used(alloc: Global, out: &mut Vec<u8>, index: u64, link: &Link) -> Result<(), NoMemory>
     ensures { OnOk result (out.new.items ≡ out.old.items ++ used_line index link.now) }
 {
