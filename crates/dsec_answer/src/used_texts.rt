@@ -1,6 +1,8 @@
 //! What is written for the groups that denials use.
 
 ghost use Rattle.std.specs.Prelude.{◌≡◌, ◌++◌, [], OnOk};
+ghost use Rattle.std.specs.List.{flat_map};
+ghost use Rattle.dsec_link.specs.LinkTexts.{link_line};
 ghost use Rattle.dsec_answer.specs.Texts.{first_lines, is_among as among, used_groups_lines, used_line, used_lines};
 
 use crate::texts::push_links;
@@ -63,16 +65,26 @@ fn push_used_group<V: Verifier>(
 {
     let last = judged.last_link(alloc)?;
     match (judged.links(), last) {
-        (Some(links), Some(last)) => {
-            push_links(out, index, links.as_slice())?;
-            push_used(alloc, out, index, &last)
-        }
+        (Some(links), Some(last)) => push_chain(alloc, out, index, links.as_slice(), &last),
         _ => Ok(()),
     }
 }
 
+/// Adds the lines of links, and of that of a group that a denial uses.
+fn push_chain(
+    alloc: Global,
+    out: &mut Vec<u8>,
+    index: u64,
+    links: &[Link],
+    last: &Link,
+) -> Result<(), NoMemory>
+    ensures { OnOk result (out.new.items ≡ out.old.items ++ (flat_map (λ link. link_line index link) links.now ++ used_line index last.now)) }
+{
+    push_links(out, index, links)?;
+    push_used(alloc, out, index, last)
+}
+
 /// Adds the line of a group that a denial uses, which is its link's with another first word.
-#[tactic(auto, unfolding(dsec_link::specs::LinkTexts::link_head))]
 fn push_used(alloc: Global, out: &mut Vec<u8>, index: u64, link: &Link) -> Result<(), NoMemory>
     ensures { OnOk result (out.new.items ≡ out.old.items ++ used_line index link.now) }
 {
