@@ -21,7 +21,7 @@ use std::alloc::Global;
 use std::sync::Arc;
 
 /// What answers a step that isn't the end. Where caches find no memory, a node is none, or isn't kept.
-pub(crate) fn answer_to<V: Verifier, C: Caches<V>, U: Upstream>(
+pub fn answer_to<V: Verifier, C: Caches<V>, U: Upstream>(
     alloc: Global,
     caches: &mut C,
     upstream: &mut U,

@@ -7,6 +7,7 @@ mod turn;
 mod validating;
 mod verdict;
 
+pub use answering::answer_to;
 pub use dsec_found::Error;
 pub use validating::validate_in;
 pub use verdict::Verdict;
