@@ -9,7 +9,7 @@ ghost use Rattle.dsec_node.specs.Caches.{Adds, IsHeld, Keeps};
 ghost use Rattle.dsec_walk.specs.Views.{input_view};
 ghost use Rattle.dsec_core.specs.Views.{step_view};
 ghost use Rattle.dsec_serve.specs.Outside.{faults_after, replies_of, IsServed};
-ghost use Rattle.dsec_serve.specs.Turns.{ends};
+ghost use Rattle.dsec_serve.specs.Turns.{asks, ends};
 
 use dsec_core::{Input, Step};
 use dsec_crypto::Verifier;
@@ -32,6 +32,7 @@ pub fn answer_to<V: Verifier, C: Caches<V>, U: Upstream>(
         (record { held = C.held caches.old; asked = U.asked upstream.old; faults = U.faults upstream.old })
         (record { held = C.held caches.new; asked = U.asked upstream.new; faults = U.faults upstream.new }) (step_view step) (input_view input)) }
     ensures lost { OnErr result ((C.held caches.new ≡ C.held caches.old) × (U.asked upstream.new ≡ risen (U.asked upstream.old)) × (U.faults upstream.new ≡ U.faults upstream.old)) }
+    ensures asked { OnErr result (asks (step_view step) ≡ 1) }
     ensures same_table { U.table upstream.new ≡ U.table upstream.old }
 {
     match step {

@@ -1,14 +1,15 @@
 -- What is told of a single group: its status, why, and how far its TTLs are cut (RFC 4033 5, RFC 4035 5.3.3, 5.3.4).
-use Rattle.std.specs.Prelude.{◌≡◌, ℕ, Option, Some, None}
-use Rattle.dsec_spec.specs.Names.{Labels, Place, place}
+use Rattle.std.specs.Prelude.{◌≡◌, ℕ, Option, Some, None, IsSome}
+use Rattle.dsec_spec.specs.Names.{Labels, Place}
 use Rattle.dsec_spec.specs.Records.{Rrsig, rrsig_of}
 use Rattle.dsec_spec.specs.Accepts.{Accepts}
 use Rattle.dsec_spec.specs.Groups.{Group}
 use Rattle.dsec_spec.specs.Lasting.{adjusted_ttl, ttl_for_sig}
-use Rattle.dsec_spec.specs.JudgedGroups.{encloser_in}
+use Rattle.dsec_spec.specs.JudgedGroups.{encloser_in, ShowsGroup}
 use Rattle.dsec_link.specs.Shown.{ShownSet}
 use Rattle.dsec_group.specs.declared.state.ValidationState.{ValidationState}
-use Rattle.dsec_validated.specs.Validated.{Validated, IsJustified}
+use Rattle.dsec_group.specs.declared.state.ValidationState.TheVariants.{Secure, Insecure, Bogus, Indeterminate}
+use Rattle.dsec_validated.specs.Validated.{Validated}
 use Rattle.dsec_nodes.specs.Causes.{Cause}
 use Rattle.dsec_nodes.specs.Judging.{Finding, is_shown, has_no_set, is_insecure, is_bogus, is_indeterminate}
 use Rattle.dsec_found.specs.Told.{state_of, cause_of}
@@ -75,7 +76,21 @@ told_in v = record {
   shown = v.shown;
 }
 
--- This can be told of the group and the zone: a Secure answer is shown by links from an anchor to the group, of which the last is the zone's, and
--- by its signature are the closest encloser and the TTL; a bogus one has a cause (RFC 4033 5, RFC 4035 5.3)
+-- an answer that isn't Secure has no closest encloser, and cuts no TTL
+pub record HasNoGround (answer : Answer) : Type 0 where
+  pub no_encloser : answer.closest_encloser ≡ None
+  pub not_cut : answer.adjusted ≡ None
+
+-- A Secure answer is shown by links from an anchor to the group, of which the last is the zone's, by its signature are the closest encloser and
+-- the TTL, and it has no cause; any other has nothing to show, and a bogus one has a cause (RFC 4033 5, RFC 4035 5.3)
+abbrev pub ToldBy : Accepts → Group → Place → Answer → ValidationState → Option ShownSet → Type 0
+ToldBy accepts group zone a Secure (Some shown) =
+    ShowsGroup accepts shown.anchor shown.links shown.moment group zone a.closest_encloser a.adjusted × (a.cause ≡ None)
+ToldBy accepts group zone a Bogus None = HasNoGround a × IsSome a.cause
+ToldBy accepts group zone a Insecure None = HasNoGround a
+ToldBy accepts group zone a Indeterminate None = HasNoGround a
+ToldBy accepts group zone a _ _ = ⊥
+
+-- this can be told of a group and the zone that has signed it, or was to
 abbrev pub CanBeTold : Accepts → Group → Place → Told → Type 0
-CanBeTold accepts group zone told = (signer : Labels) → place signer ≡ zone → IsJustified accepts (validated_by group signer told)
+CanBeTold accepts group zone told = ToldBy accepts group zone told.answer told.answer.state told.shown

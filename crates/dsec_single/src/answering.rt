@@ -3,7 +3,7 @@
 ghost use Rattle.std.specs.Prelude.{◌≡◌, false, IfOk, OnErr};
 ghost use Rattle.dsec_spec.specs.Outside.{risen};
 ghost use Rattle.dsec_walk.specs.Views.{input_view, step_view};
-ghost use Rattle.dsec_single.specs.Turns.{is_last, IsWalkServed};
+ghost use Rattle.dsec_single.specs.Progress.{is_last, IsAsking, IsWalkServed};
 
 use dsec_core::Step as CourseStep;
 use dsec_crypto::Verifier;
@@ -26,6 +26,7 @@ pub(crate) fn answer_to_walk<V: Verifier, C: Caches<V>, U: Upstream>(
         (record { held = C.held caches.old; asked = U.asked upstream.old; faults = U.faults upstream.old })
         (record { held = C.held caches.new; asked = U.asked upstream.new; faults = U.faults upstream.new }) (step_view step) (input_view input)) }
     ensures lost { OnErr result ((C.held caches.new ≡ C.held caches.old) × (U.asked upstream.new ≡ risen (U.asked upstream.old)) × (U.faults upstream.new ≡ U.faults upstream.old)) }
+    ensures asking { OnErr result (IsAsking (step_view step)) }
     ensures same_table { U.table upstream.new ≡ U.table upstream.old }
 {
     match step {

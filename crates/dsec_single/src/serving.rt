@@ -6,7 +6,8 @@ ghost use Rattle.dsec_spec.specs.Names.{Place, place, IsAtOrBelow};
 ghost use Rattle.dsec_nodes.specs.Machine.{done};
 ghost use Rattle.dsec_serve.specs.Outside.{Outside};
 ghost use Rattle.dsec_walk.specs.Views.{step_view, world_in};
-ghost use Rattle.dsec_single.specs.Turns.{is_last, EndsOn, IsOn};
+ghost use Rattle.dsec_single.specs.Progress.{is_last, IsOn};
+ghost use Rattle.dsec_single.specs.Turns.{EndsOn};
 
 use crate::turn::turn;
 use dsec_crypto::Verifier;

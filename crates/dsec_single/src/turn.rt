@@ -5,7 +5,8 @@ ghost use Rattle.dsec_spec.specs.Names.{Place};
 ghost use Rattle.dsec_course.specs.Ending.{steps_ahead};
 ghost use Rattle.dsec_serve.specs.Outside.{Outside};
 ghost use Rattle.dsec_walk.specs.Views.{step_view, world_in};
-ghost use Rattle.dsec_single.specs.Turns.{is_last, ComesOn, IsOn};
+ghost use Rattle.dsec_single.specs.Progress.{is_last, IsOn};
+ghost use Rattle.dsec_single.specs.Turns.{ComesOn};
 
 use crate::answering::answer_to_walk;
 use dsec_crypto::Verifier;

@@ -1,0 +1,10 @@
+pub mod NameLaws
+pub mod TripLaws
+pub mod ServeLaws
+pub mod StepLaws
+pub mod WayLaws
+pub mod DsLaws
+pub mod GroundLaws
+pub mod EndLaws
+pub mod CallLaws
+pub mod SoundLaws
