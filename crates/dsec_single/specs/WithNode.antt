@@ -3,6 +3,7 @@ use Rattle.std.specs.Prelude.{ℕ, ◌==◌, ◌&&◌, min, [], Bool, true, fals
 use Rattle.std.proofs.Math.Bool.{not}
 use Rattle.dsec_spec.specs.Names.{Place, place, same_place, is_strictly_below}
 use Rattle.dsec_spec.specs.Numbers.{DS}
+use Rattle.dsec_spec.specs.Records.{Record}
 use Rattle.dsec_spec.specs.Groups.{Group}
 use Rattle.dsec_spec.specs.Lasting.{least_ttl, ttl_for_sig}
 use Rattle.dsec_group.specs.declared.state.ValidationState.TheVariants.{Indeterminate}
@@ -39,10 +40,14 @@ undetermined = record { state = Indeterminate; closest_encloser = None; cause = 
 abbrev pub answer_with : World → Group → Node → Answer
 answer_with w group n = if is_in_time w n then answer_by group (moment w) (found_with w group n) else undetermined
 
--- for how many seconds a finding by a Secure node's zone may be kept: no longer than the node, the group's least TTL, and what its signature
--- allows; a bogus one as long as is set (RFC 4035 4.7, 5.3.3)
+-- for how many seconds a group may be kept that a signature shows: no longer than the node, the group's least TTL, and what the signature allows
+-- (RFC 4035 5.3.3)
+abbrev pub signed_for : World → Group → Node → Record → ℕ
+signed_for w group n signature = min (seconds_kept n w.now) (min (least_ttl group.records) (ttl_for_sig signature (moment w)))
+
+-- for how many seconds what is found by a Secure node's zone may be kept; a bogus group as long as is set (RFC 4035 4.7, 5.3.3)
 abbrev pub seconds_by : World → Group → Node → Finding → ℕ
-seconds_by w group n (is_shown links last signature) = min (seconds_kept n w.now) (min (least_ttl group.records) (ttl_for_sig signature (moment w)))
+seconds_by w group n (is_shown links last signature) = signed_for w group n signature
 seconds_by w group n (is_bogus cause links) = w.bounds.max_bogus_validity
 seconds_by w group n has_no_set = seconds_kept n w.now
 seconds_by w group n (is_insecure cause signed) = seconds_kept n w.now

@@ -6,13 +6,13 @@ mod answering;
 mod by_node;
 mod call;
 mod grounds;
+mod group;
 mod serving;
 mod told;
 mod turn;
-mod validated;
 
 pub use answer::{WithContext, WithNode};
 pub use by_node::{validate_with_node, validate_with_node_in_steps};
 pub use call::validate_with_vc;
 pub use told::Told;
-pub use validated::validated;
+pub use group::validated;

@@ -69,15 +69,18 @@ impl<V: Verifier> Told<V> {
         requires { CanBeTold V.accepts group (place signer) self }
         ensures { result ≡ validated_by group signer self }
     {
-        match self.shown {
-            Some(shown) => ValidatedGroup::secure(
-                group,
-                signer,
-                self.closest_encloser,
-                self.adjusted,
-                shown,
-            ),
-            None => ValidatedGroup::unsecured(group, self.state, signer, self.cause),
+        let Told {
+            state,
+            closest_encloser,
+            cause,
+            adjusted,
+            shown,
+        } = self;
+        match shown {
+            Some(shown) => {
+                ValidatedGroup::secure(group, signer, closest_encloser, adjusted, shown)
+            }
+            None => ValidatedGroup::unsecured(group, state, signer, cause),
         }
     }
 

@@ -38,6 +38,8 @@ pub(crate) fn turn<V: Verifier, C: Caches<V>, M: Memo<V>, U: Upstream, L: Ledger
     ensures nearer { IfOk result (λ _. steps_ahead walk.new < steps_ahead walk.old) }
     ensures same_table { U.table upstream.new ≡ U.table upstream.old }
 {
-    let input = answer_to_walk(alloc, caches, upstream, step)?;
-    walk.advance::<L>(alloc, setting, input, memo, steps)
+    match answer_to_walk(alloc, caches, upstream, step) {
+        Ok(input) => walk.advance::<L>(alloc, setting, input, memo, steps),
+        Err(NoMemory) => Err(NoMemory),
+    }
 }
