@@ -93,8 +93,8 @@ found_same w group n own = by n.standing refl
 
 -- the node with which a walk for a group ends
 pub end_of : (w : World) (table : Option Table) (before now : Outside) (group : Group) (top : Place) (n : Node) → way_of w group ≡ by_walk top
-    → Kept w.accepts n → IsEnded w table before now top (target_of group (Some top)) n → IsEndOf w group top n
-end_of w table before now group top n way kept (t, e, s) = record {
+    → IsEnded w table before now top (target_of group (Some top)) n → IsEndOf w group top n
+end_of w table before now group top n way (t, e, s) = record {
   from_island = needs.from_island;
   in_time = ap (λ (b : Bool). b && nat_le w.now (n.made + n.valid_for)) (le-leb n.made w.now from) ∙ le-leb w.now (n.made + n.valid_for) to;
   rests = subst (Rests w.anchors top) same on.node_rests;
@@ -111,6 +111,9 @@ end_of w table before now group top n way kept (t, e, s) = record {
 
     h : HoldsTrip w (WasHeld w.accepts before.held) top target t
     h = trip_holds w table before now top target 0 t s
+
+    kept : Kept w.accepts n
+    kept = (subst (StepKept w t.walk.top) e h.step_kept).0
 
     at : (labels : ℕ) × (r : Reached) × (r.node ≡ n) × OnTheWay w t.walk.top t.walk.target labels r
     at = at_end w t.walk t.walk.reached n h.under_way.is_sound.on_way (subst (λ (x : Step). HasReached x t.walk.reached) e h.reached)

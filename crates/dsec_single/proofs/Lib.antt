@@ -10,3 +10,4 @@ pub mod TellingLaws
 pub mod EndLaws
 pub mod CallLaws
 pub mod SoundLaws
+pub mod ClosingLaws

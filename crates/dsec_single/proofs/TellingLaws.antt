@@ -153,7 +153,7 @@ signed_own is_indeterminate s e = absurd cc
 
 module _ (accepts : Accepts) (group : Group) (n : Node) (t : ℕ) where
   pub rests_anchor : (f : Finding) → IsSome (own_link f) → RestsOn accepts group n t f → IsSome n.anchor
-  rests_anchor (is_shown links last signature) e (same, (anchor, (its, shows))) = subst IsSome (sym its) refl
+  rests_anchor (is_shown links last signature) e (same, (anchor, its, shows)) = subst IsSome (sym its) refl
   rests_anchor has_no_set e h = absurd cc
   rests_anchor (is_insecure cause signed) e h = absurd cc
   rests_anchor (is_bogus cause links) e h = absurd cc
@@ -163,7 +163,7 @@ module _ (accepts : Accepts) (group : Group) (n : Node) (t : ℕ) where
   pub rests_shows : (f : Finding) (s : Record) (anchor : Record) (links : List Link) → signature_of f ≡ Some s → n.anchor ≡ Some anchor
       → IfSome (own_link f) (λ last. links ≡ n.links ++ last ∷ []) → RestsOn accepts group n t f
       → ShowsGroup accepts anchor links t group n.signer (encloser_by group (rrsig_of s.rdata)) (adjusted_ttl group (ttl_for_sig s t))
-  rests_shows (is_shown old last signature) s anchor links e its are (same, (own, (has, shows))) =
+  rests_shows (is_shown old last signature) s anchor links e its are (same, (own, has, shows)) =
       subst (λ (r : Record). ShowsGroup accepts anchor links t group n.signer (encloser_by group (rrsig_of r.rdata)) (adjusted_ttl group (ttl_for_sig r t))) (same_Some signature s e)
       (subst (λ (ls : List Link). ShowsGroup accepts anchor ls t group n.signer (encloser_by group (rrsig_of signature.rdata)) (adjusted_ttl group (ttl_for_sig signature t))) (sym are)
       (subst (λ (a : Record). ShowsGroup accepts a (n.links ++ last ∷ []) t group n.signer (encloser_by group (rrsig_of signature.rdata)) (adjusted_ttl group (ttl_for_sig signature t)))

@@ -1,11 +1,10 @@
 -- One step of a walk that is served over caches and an upstream, in code.
 use Rattle.std.specs.Prelude.{Option, Result, Ok, Err}
-use Rattle.std.specs.Arc.{Arc, arc_value}
 use Rattle.dsec_spec.specs.Names.{Place}
 use Rattle.dsec_spec.specs.Outside.{Table}
 use Rattle.dsec_nodes.specs.World.{World}
+use Rattle.dsec_nodes.specs.Nodes.{Node}
 use Rattle.dsec_nodes.specs.Machine.{Walking}
-use Rattle.dsec_node.specs.declared.node.Node.{Node}
 use Rattle.dsec_walk.specs.declared.steps.Step.{Step}
 use Rattle.dsec_walk.specs.Views.{step_view}
 use Rattle.dsec_serve.specs.Outside.{Outside}
@@ -17,6 +16,6 @@ ComesOn w table before now top target walk (Ok step) = IsOn w table before now t
 ComesOn w table before now top target walk (Err e) = IsStuck w table before now top target
 
 -- it has come to its end with a node, or there was no memory
-abbrev pub EndsOn : {V E : Type 0} → World → Option Table → Outside → Outside → Place → Place → Result (Arc (Node V)) E → Type 0
-EndsOn w table before now top target (Ok node) = IsEnded w table before now top target (arc_value node)
-EndsOn w table before now top target (Err e) = IsStuck w table before now top target
+abbrev pub EndsOn : {A E : Type 0} → World → Option Table → Outside → Outside → Place → Place → Result A E → (A → Node) → Type 0
+EndsOn w table before now top target (Ok a) node_in = IsEnded w table before now top target (node_in a)
+EndsOn w table before now top target (Err e) node_in = IsStuck w table before now top target

@@ -1,7 +1,6 @@
 //! What is told of a judged group, with what it rests on (RFC 4033 2, RFC 4035 5.3).
 
-ghost use Rattle.std.specs.Prelude.{◌≡◌, ◌++◌, ◌∷◌, ◌<◌, [], List, ℕ, IfOk, IfSome, IsSome, Some, min, if◌then◌else◌};
-ghost use Rattle.dsec_spec.specs.Groups as groups;
+ghost use Rattle.std.specs.Prelude.{◌≡◌, ◌++◌, ◌∷◌, [], IfOk, IfSome, IsSome, Some, min, if◌then◌else◌};
 ghost use Rattle.dsec_spec.specs.Lasting.{adjusted_ttl, least_ttl, ttl_for_sig as ttl_of};
 ghost use Rattle.dsec_spec.specs.Numbers.{RRSIG};
 ghost use Rattle.dsec_spec.specs.Records.{rrsig_of};
@@ -9,7 +8,7 @@ ghost use Rattle.dsec_nodes.specs.Judging.{by_node};
 ghost use Rattle.dsec_nodes.specs.World.{on_circle};
 ghost use Rattle.dsec_node.specs.Counting.{seconds_kept};
 ghost use Rattle.dsec_node.specs.Views.{bounds_of, world_of};
-ghost use Rattle.dsec_found.specs.Told.{expands, own_link, signature_of};
+ghost use Rattle.dsec_found.specs.Told.{own_link, signature_of};
 ghost use Rattle.dsec_single.specs.Answers.{CanBeTold, answer_by, encloser_by};
 ghost use Rattle.dsec_single.specs.Grounds.{RestsOn};
 ghost use Rattle.dsec_single.specs.WithNode.{is_secure as secure, seconds_by};
@@ -97,14 +96,18 @@ fn closest_encloser<V: Verifier>(
     signature: &Record,
 ) -> Result<Option<Name>, NoMemory>
     requires its { signature_of judged.now.finding ≡ Some signature.now }
+    requires typed { signature.now.rtype ≡ RRSIG }
     ensures { IfOk result (λ name. name ≡ encloser_by judged.now.group (rrsig_of signature.now.rdata)) }
 {
+    if !judged.is_expanded() {
+        return Ok(None);
+    }
     match signature.rdata().rrsig() {
-        Some(rrsig) if judged.is_expanded() => {
+        Some(rrsig) => {
             let labels = usize::from(rrsig.labels);
             Ok(Some(judged.group().owner().ancestor(alloc, labels)?))
         }
-        _ => Ok(None),
+        None => Ok(None),
     }
 }
 
