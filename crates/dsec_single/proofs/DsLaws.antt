@@ -1,14 +1,31 @@
 -- Which zones a DS set can be of.
-use Rattle.std.proofs.Common.{◌≡◌, ℕ, ◌==◌, ◌&&◌, Bool, true, false, [], refl, sym, ap, ◌∙◌, arith}
+use Rattle.std.proofs.Common.{◌≡◌, ℕ, ◌+◌, ◌==◌, ◌&&◌, Bool, true, false, [], ◌∷◌, length, refl, sym, ap, ◌∙◌, arith}
 use Rattle.std.specs.Prelude.{◌≢◌}
 use Rattle.std.proofs.Math.Bool.{not}
-use Rattle.std.proofs.lemmas.Bool.{true≢false, false≢true, eqb-true, eq-eqb}
-use Rattle.dsec_spec.specs.Names.{Place, place, same_place, is_strictly_below, IsStrictlyBelow}
+use Rattle.std.proofs.lemmas.Bool.{true≢false, false≢true, eqb-true, eq-eqb, ne_eqb}
+use Rattle.dsec_spec.specs.Names.{Labels, Place, place, same_place, is_strictly_below, IsStrictlyBelow}
 use Rattle.dsec_spec.specs.Numbers.{DS}
 use Rattle.dsec_spec.specs.Groups.{Group}
 use Rattle.dsec_spec.proofs.SignedTests.{strictly_below_decides}
 use Rattle.dsec_spec.proofs.CanonicalNames.{same_place_decides}
+use Rattle.dsec_walk.proofs.Places.{length_of_place}
 use Rattle.dsec_single.specs.WithNode.{is_ds_of_another}
+
+no_labels : (p : Place) → length p ≡ 0 → p ≡ []
+no_labels [] e = refl
+no_labels (label ∷ p) e = absurd cc
+
+-- the root is the name of one label, its own
+pub root_test : (name : Labels) → same_place (place name) [] ≡ (length name + 1 == 1)
+root_test name = by (same_place (place name) []) refl
+  where
+    by : (b : Bool) → same_place (place name) [] ≡ b → b ≡ (length name + 1 == 1)
+    by true e =
+        let none : length (place name) ≡ 0 = ap length ((same_place_decides (place name) []).0 e) in
+        sym (eq-eqb (length name + 1) 1 (omega (arith, none, length_of_place name)))
+    by false e = sym (ne_eqb (length name + 1) 1 (λ one.
+        let none : length (place name) ≡ 0 = omega (arith, one, length_of_place name) in
+        absurd (true≢false (sym ((same_place_decides (place name) []).1 (no_labels (place name) none)) ∙ e))))
 
 module _ (group : Group) (zone : Place) where
   -- a DS set that stands strictly below a zone can be the zone's

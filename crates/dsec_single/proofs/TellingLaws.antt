@@ -5,7 +5,7 @@ use Rattle.std.proofs.lemmas.Option.{same_Some}
 use Rattle.dsec_spec.specs.Names.{Labels, Place}
 use Rattle.dsec_spec.specs.Accepts.{Accepts}
 use Rattle.dsec_spec.specs.Records.{Record, RecordSet, Key, rrsig_of}
-use Rattle.dsec_spec.specs.Groups.{Group}
+use Rattle.dsec_spec.specs.Groups.{Group, set_in}
 use Rattle.dsec_spec.specs.Lasting.{adjusted_ttl, ttl_for_sig}
 use Rattle.dsec_spec.specs.JudgedGroups.{ShowsGroup}
 use Rattle.dsec_spec.specs.Trying.{Tried, good, nothing, all_bad, too_many_bad}
@@ -172,3 +172,13 @@ module _ (accepts : Accepts) (group : Group) (n : Node) (t : ℕ) where
   rests_shows (is_insecure cause signed) s anchor links e its are h = absurd cc
   rests_shows (is_bogus cause other) s anchor links e its are h = absurd cc
   rests_shows is_indeterminate s anchor links e its are h = absurd cc
+
+  -- they lead to a set
+  pub rests_holds : (f : Finding) (anchor : Record) (links : List Link) → IsSome (own_link f) → n.anchor ≡ Some anchor
+      → IfSome (own_link f) (λ last. links ≡ n.links ++ last ∷ []) → RestsOn accepts group n t f → (set : RecordSet) × Holds accepts (anchor ∷ []) links set t
+  rests_holds (is_shown old last signature) anchor links e its are h =
+      (set_in group, (rests_shows (is_shown old last signature) signature anchor links refl its are h).holds)
+  rests_holds has_no_set anchor links e its are h = absurd cc
+  rests_holds (is_insecure cause signed) anchor links e its are h = absurd cc
+  rests_holds (is_bogus cause other) anchor links e its are h = absurd cc
+  rests_holds is_indeterminate anchor links e its are h = absurd cc

@@ -2,7 +2,6 @@
 
 ghost use Rattle.std.specs.Prelude.{◌≡◌, ◌≢◌, ◌<◌, ◌≤◌, ◌+◌, [], List, IfOk, IfSome, Some, true, if◌then◌else◌};
 ghost use Rattle.std.specs.Arc.{arc_value};
-ghost use Rattle.dsec_spec.specs.Names.{place};
 ghost use Rattle.dsec_spec.specs.Records as records;
 ghost use Rattle.dsec_nodes.specs.Nodes.{Kept};
 ghost use Rattle.dsec_nodes.specs.Taking.{is_in_time};
@@ -10,18 +9,18 @@ ghost use Rattle.dsec_nodes.specs.World.{on_circle};
 ghost use Rattle.dsec_node.specs.Counting.{seconds_kept};
 ghost use Rattle.dsec_node.specs.Views.{bounds_of, world_of};
 ghost use Rattle.dsec_single.specs.Answers.{CanBeTold, answer_by};
-ghost use Rattle.dsec_single.specs.WithNode.{answer_with, found_with, is_ds_of_another as ds_of_another, is_secure as secure, seconds_by, seconds_with};
+ghost use Rattle.dsec_single.specs.WithNode.{answer_with, found_with, is_secure as secure, seconds_by, seconds_with};
 
 use crate::answer::WithNode;
 use crate::grounds::by_judged;
 use crate::told::Told;
+use crate::zone::is_ds_of_another;
 use dsec_cause::Cause;
 use dsec_crypto::Verifier;
 use dsec_found::judged_by_node;
 use dsec_group::{Group, Memo, Steps, ValidationState};
-use dsec_name::{Name, NoMemory};
+use dsec_name::NoMemory;
 use dsec_node::{Config, Node, Standing};
-use dsec_number::Rtype;
 use std::alloc::Global;
 use std::marker::Brand;
 use std::sync::Arc;
@@ -136,13 +135,4 @@ pub(crate) fn is_secure<V: Verifier>(node: &Node<V>) -> bool
         Standing::Apex(_) | Standing::Within(_) => true,
         Standing::Insecure(_, _) | Standing::Bogus(_) => false,
     }
-}
-
-/// Whether a group is a DS set, not the root's, that doesn't stand strictly below a zone.
-fn is_ds_of_another(group: &Group, zone: &Name) -> bool
-    ensures { result ≡ ds_of_another group.now (place zone.now) }
-{
-    let owner = group.owner();
-    let is_below = owner.ends_with(zone) && zone.label_count() < owner.label_count();
-    group.rtype() == Rtype::DS && owner.label_count() != 1 && !is_below
 }

@@ -10,6 +10,7 @@ mod group;
 mod serving;
 mod told;
 mod turn;
+mod zone;
 
 pub use answer::{WithContext, WithNode};
 pub use by_node::{validate_with_node, validate_with_node_in_steps};
