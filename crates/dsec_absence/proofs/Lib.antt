@@ -8,3 +8,5 @@ pub mod AnswerLaws
 pub mod SearchSteps
 pub mod Checking
 pub mod Examples
+pub mod RefusalLaws
+pub mod CauseLaws
