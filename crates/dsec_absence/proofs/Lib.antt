@@ -10,3 +10,4 @@ pub mod Checking
 pub mod Examples
 pub mod RefusalLaws
 pub mod CauseLaws
+pub mod SoaLaws
