@@ -1,5 +1,5 @@
 -- What a finding by a node that is kept at the moment rests on.
-use Rattle.std.proofs.Common.{◌≡◌, ℕ, ◌+◌, ◌≤◌, ◌&&◌, Bool, true, false, List, [], ◌∷◌, length, Some, refl, sym, ap, ◌∙◌, subst, arith}
+use Rattle.std.proofs.Common.{◌≡◌, ℕ, ◌+◌, ◌≤◌, ◌&&◌, Bool, true, false, List, [], ◌∷◌, length, Some, Result, Ok, Err, IfOk, refl, sym, ap, ◌∙◌, subst, arith}
 use Rattle.std.specs.Prelude.{◌≢◌, nat_le}
 use Rattle.std.proofs.lemmas.Bool.{and_parts, leb-true}
 use Rattle.dsec_spec.specs.Names.{Place, place, IsStrictlyBelow}
@@ -13,10 +13,10 @@ use Rattle.dsec_nodes.specs.Nodes.{Node, Standing, apex, within, insecure, bogus
 use Rattle.dsec_nodes.specs.Signing.{under_keys, link_under}
 use Rattle.dsec_nodes.specs.Taking.{is_in_time}
 use Rattle.dsec_nodes.specs.Held.{HeldZone, GoodPair}
-use Rattle.dsec_nodes.specs.Judging.{is_shown, found_by, found_at}
+use Rattle.dsec_nodes.specs.Judging.{is_shown, Judged, found_by, found_at, by_node}
 use Rattle.dsec_nodes.proofs.KeptLaws.{held}
 use Rattle.dsec_nodes.proofs.Signs.{from_under}
-use Rattle.dsec_single.specs.Answers.{encloser_by}
+use Rattle.dsec_single.specs.Answers.{encloser_by, Told, CanBeTold}
 use Rattle.dsec_single.specs.Grounds.{RestsOn}
 use Rattle.dsec_single.specs.WithNode.{is_secure, is_ds_of_another}
 use Rattle.dsec_single.proofs.DsLaws.{strictly_below}
@@ -91,3 +91,27 @@ rests_on w group n some kept in_time own = by n.standing refl
     by (within last) e = tt
     by (insecure cause signed) e = tt
     by (bogus cause) e = tt
+
+-- the same of a judged group, by the same node
+module _ (w : World) (group : Group) (n m : Node) (j : Judged) (is : j ≡ by_node w group n) (same : m ≡ n) where
+  its_group : j.group ≡ group
+  its_group = ap (λ (x : Judged). x.group) is
+
+  pub judged_found : j ≡ by_node w j.group m
+  judged_found = is ∙ (ap (λ (g : Group). by_node w g n) (sym its_group) ∙ ap (by_node w j.group) (sym same))
+
+  pub judged_rests : group.records ≢ [] → Kept w.accepts n → is_in_time w n ≡ true → (is_secure n.standing && is_ds_of_another group n.signer) ≡ false
+      → RestsOn w.accepts j.group m (moment w) j.finding
+  judged_rests some kept in_time own =
+      subst (λ (x : Node). RestsOn w.accepts j.group x (moment w) j.finding) (sym same)
+      (subst (λ (x : Judged). RestsOn w.accepts x.group n (moment w) x.finding) (sym is) (rests_on w group n some kept in_time own))
+
+  -- what can be told of it can be told of the group
+  pub judged_can : (told : Told) → CanBeTold w.accepts j.group m.signer told → CanBeTold w.accepts group n.signer told
+  judged_can told h =
+      subst (λ (x : Node). CanBeTold w.accepts group x.signer told) same (subst (λ (g : Group). CanBeTold w.accepts g m.signer told) its_group h)
+
+  pub judged_can_if : {A E : Type 0} (told_in : A → Told) (result : Result A E) → IfOk result (λ a. CanBeTold w.accepts j.group m.signer (told_in a))
+      → IfOk result (λ a. CanBeTold w.accepts group n.signer (told_in a))
+  judged_can_if told_in (Ok a) h = judged_can (told_in a) h
+  judged_can_if told_in (Err e) h = tt

@@ -182,3 +182,17 @@ module _ (accepts : Accepts) (group : Group) (n : Node) (t : ℕ) where
   rests_holds (is_insecure cause signed) anchor links e its are h = absurd cc
   rests_holds (is_bogus cause other) anchor links e its are h = absurd cc
   rests_holds is_indeterminate anchor links e its are h = absurd cc
+
+  -- what is told with a signature that shows the group can be told
+  pub signed_can : (f : Finding) (one : Record) (s : ShownSet) (enc : Option Labels) (adjusted : Option ℕ) (told : Told) → signature_of f ≡ Some one
+      → RestsOn accepts group n t f → n.anchor ≡ Some s.anchor → s.moment ≡ t → IfSome (own_link f) (λ last. s.links ≡ n.links ++ last ∷ [])
+      → enc ≡ encloser_by group (rrsig_of one.rdata) → adjusted ≡ adjusted_ttl group (ttl_for_sig one t)
+      → told ≡ record { answer = record { state = Secure; closest_encloser = enc; cause = None; adjusted = adjusted }; shown = Some s }
+      → CanBeTold accepts group n.signer told
+  signed_can f one s enc adjusted told e rests its at are encloser cut is =
+      let shows = rests_shows f one s.anchor s.links e its are rests in
+      let moved : ShowsGroup accepts s.anchor s.links s.moment group n.signer enc adjusted =
+      subst (λ (m : ℕ). ShowsGroup accepts s.anchor s.links m group n.signer enc adjusted) (sym at)
+      (subst (λ (x : Option Labels). ShowsGroup accepts s.anchor s.links t group n.signer x adjusted) (sym encloser)
+      (subst (λ (x : Option ℕ). ShowsGroup accepts s.anchor s.links t group n.signer (encloser_by group (rrsig_of one.rdata)) x) (sym cut) shows)) in
+      subst (CanBeTold accepts group n.signer) (sym is) (moved, refl)

@@ -1,6 +1,6 @@
 //! Groups validated by a node (RFC 4035 4.3, 4.5, 5.3).
 
-ghost use Rattle.std.specs.Prelude.{◌≡◌, ◌≢◌, ◌<◌, ◌≤◌, ◌+◌, [], List, IfOk, IfSome, Some, true, if◌then◌else◌};
+ghost use Rattle.std.specs.Prelude.{◌≡◌, ◌≢◌, ◌<◌, ◌≤◌, ◌+◌, ◌&&◌, [], List, IfOk, IfSome, Some, true, if◌then◌else◌};
 ghost use Rattle.std.specs.Arc.{arc_value};
 ghost use Rattle.dsec_spec.specs.Records as records;
 ghost use Rattle.dsec_nodes.specs.Nodes.{Kept};
@@ -9,7 +9,7 @@ ghost use Rattle.dsec_nodes.specs.World.{on_circle};
 ghost use Rattle.dsec_node.specs.Counting.{seconds_kept};
 ghost use Rattle.dsec_node.specs.Views.{bounds_of, world_of};
 ghost use Rattle.dsec_single.specs.Answers.{CanBeTold, answer_by};
-ghost use Rattle.dsec_single.specs.WithNode.{answer_with, found_with, is_secure as secure, seconds_by, seconds_with};
+ghost use Rattle.dsec_single.specs.WithNode.{answer_with, found_with, is_ds_of_another as ds_of_another, is_secure as secure, seconds_by, seconds_with};
 
 use crate::answer::WithNode;
 use crate::grounds::by_judged;
@@ -115,15 +115,23 @@ pub(crate) fn by_kept_node<V: Verifier, L: Ledger>(
     ensures shown { IfOk result (λ it. IfSome it.told.shown (λ shown. ((arc_value node.now).anchor ≡ Some shown.anchor) × (shown.moment ≡ on_circle now))) }
     ensures bound { steps.new ≤ steps.old + (config.now.max_bad_signatures + 1) }
 {
-    if is_secure(node) && is_ds_of_another(group, node.signer_name()) {
+    if is_of_another(group, node) {
         return Ok(WithNode {
             told: Told::unsecured(ValidationState::Bogus, Some(Cause::NoSignature)),
             seconds: config.max_bogus_validity(),
         });
     }
-    let (own, shared) = (group.clone()?, Arc::try_clone(node)?);
+    let (own, shared) = (group.clone()?, shared_copy(node)?);
     let judged = judged_by_node::<V, L>(alloc, config, now, own, shared, memo, steps)?;
     by_judged(alloc, config, now, node, &judged)
+}
+
+/// Whether a node is Secure, and a group is a DS set that isn't its zone's.
+fn is_of_another<V: Verifier>(group: &Group, node: &Node<V>) -> bool
+    ensures value { result ≡ (secure node.now.standing && ds_of_another group.now node.now.signer) }
+    ensures kept { Kept V.accepts node.now }
+{
+    is_secure(node) && is_ds_of_another(group, node.signer_name())
 }
 
 /// Whether a node is Secure.
@@ -135,4 +143,11 @@ pub(crate) fn is_secure<V: Verifier>(node: &Node<V>) -> bool
         Standing::Apex(_) | Standing::Within(_) => true,
         Standing::Insecure(_, _) | Standing::Bogus(_) => false,
     }
+}
+
+/// The same node, shared once more.
+fn shared_copy<V: Verifier>(node: &Arc<Node<V>>) -> Result<Arc<Node<V>>, NoMemory>
+    ensures { IfOk result (λ copy. arc_value copy ≡ arc_value node.now) }
+{
+    Ok(Arc::try_clone(node)?)
 }

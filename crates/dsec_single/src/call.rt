@@ -132,7 +132,7 @@ fn walked<V: Verifier, C: Caches<V>, M: Memo<V>, U: Upstream, L: Ledger>(
     ensures justified { IfOk result (λ it. CanBeTold V.accepts group.now (place zone) it.told) }
     ensures same_table { U.table upstream.new ≡ U.table upstream.old }
 {
-    let target = zone.clone()?;
+    let target = copy_of(&zone)?;
     let node = node_for(alloc, setting, top, zone, caches, memo, upstream, steps)?;
     let (config, moment) = (setting.config, setting.moment);
     let found = by_kept_node::<V, L>(alloc, group, &node, config, memo, moment, steps)?;
@@ -140,4 +140,11 @@ fn walked<V: Verifier, C: Caches<V>, M: Memo<V>, U: Upstream, L: Ledger>(
         told: found.told,
         target,
     })
+}
+
+/// A copy of a name.
+fn copy_of(name: &Name) -> Result<Name, NoMemory>
+    ensures { IfOk result (λ copy. copy ≡ name.now) }
+{
+    Ok(name.clone()?)
 }
