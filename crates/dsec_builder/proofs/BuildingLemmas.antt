@@ -298,6 +298,7 @@ written_reads_back w good most =
     let back = reads_back w good most in
     record {
       octets = refl;
+      at_most = most;
       header = back.header;
       questions = rw back.questions refl;
       answers = rw back.answers refl;

@@ -26,9 +26,10 @@ read_back message = record {
   additionals = items_or_none (additionals_of message);
 }
 
--- a message that says just what was written
+-- a message that says just what was written, in no more octets than TCP carries (RFC 1035 4.2.2)
 pub record IsMessageOf (written : Written) (message : List ℕ) : Type 0 where
   pub octets : message ≡ message_octets written
+  pub at_most : length message ≤ 65535
   pub header : header_of message ≡ Some (header_for written)
   pub questions : items_of (questions_of message) ≡ Some written.questions
   pub answers : items_of (answers_of message) ≡ Some written.answers

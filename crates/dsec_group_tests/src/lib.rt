@@ -1,4 +1,4 @@
-//! Tests of signatures, links and groups: records from outside, and memos that keep a verifier's answers.
+//! Tests of signatures, links and groups: records from outside, memos that keep a verifier's answers, and messages rewritten.
 #![tactic(auto)]
 
 #[cfg(test)]
@@ -17,6 +17,8 @@ mod links;
 mod memos;
 #[cfg(test)]
 mod moved;
+#[cfg(test)]
+mod rewritten;
 #[cfg(test)]
 mod signatures;
 #[cfg(test)]

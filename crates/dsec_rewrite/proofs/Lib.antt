@@ -1,0 +1,4 @@
+pub mod KeepingLaws
+pub mod WritingLaws
+pub mod RewritingLaws
+pub mod CuttingLaws
