@@ -1,5 +1,6 @@
 """Checks that the documents say what the repository has: the drawing of crates in ARCHITECTURE.md is that of crates.txt,
-and THEOREMS.md names each bug of must-fail/ in bold, each of planted/ plainly, and no other.
+THEOREMS.md names each bug of must-fail/ in bold, each of planted/ plainly, and no other, USING.md has each cause's text, and
+examples/README.md each example.
 
 usage: docs/check.py
 """
@@ -91,7 +92,19 @@ def named():
         yield "THEOREMS.md doesn't name %s of %s" % (name, ", ".join(tried.get(name, planted.get(name, []))))
 
 
-faults = list(drawn()) + list(named())
+def explained():
+    using, shown = read("docs", "USING.md"), read("examples", "README.md")
+    texts = re.findall(r'=>\s*"([^"]+)"', read("crates", "dsec_cause", "src", "cause.rt"))
+    for text in texts:
+        if "`%s`" % text not in using:
+            yield "USING.md doesn't say what the cause %r means" % text
+    for file in sorted(os.listdir(os.path.join(TOP, "examples"))):
+        name, _, kind = file.rpartition(".")
+        if kind in ("script", "words", "zone") and "`%s" % name not in shown:
+            yield "examples/README.md doesn't name %s" % file
+
+
+faults = list(drawn()) + list(named()) + list(explained())
 for fault in faults:
     print(fault)
 print("docs: %d faults" % len(faults))
