@@ -1,0 +1,5 @@
+pub mod Candidates
+pub mod Replies
+pub mod Ends
+pub mod Turns
+pub mod Ways
