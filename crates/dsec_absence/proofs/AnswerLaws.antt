@@ -21,7 +21,7 @@ abbrev pub Proves : Source → Place → ℕ → Denial ℕ → Type 0
 Proves s n q d = IsProof s.class s.signer s.groups n q d
 
 -- the wildcard under a name is under it
-star_is : (c star : Place) → star_closest_encloser c ≡ Some star → wildcard c ≡ star
+pub star_is : (c star : Place) → star_closest_encloser c ≡ Some star → wildcard c ≡ star
 star_is c star e = by (nat_lt 255 (wire_length (wildcard c))) e
   where
     by : (x : Bool) → cond x None (Some (wildcard c)) ≡ Some star → wildcard c ≡ star

@@ -1,11 +1,11 @@
 -- Where a reply answers, and what its groups come to where it denies (RFC 2308 2.1, 2.2, RFC 4035 5.4).
-use Rattle.std.specs.Prelude.{ℕ, ◌==◌, ◌&&◌, List, position, Bool, Option, Some, None, unwrap_or, if◌then◌else◌}
+use Rattle.std.specs.Prelude.{◌≡◌, ℕ, ◌==◌, ◌&&◌, List, position, Bool, Option, Some, None, unwrap_or, if◌then◌else◌}
 use Rattle.std.proofs.Math.Bool.{not}
 use Rattle.std.specs.List.{list_any}
 use Rattle.std.specs.Option.{option_or}
 use Rattle.dsec_cause.specs.declared.cause.Cause.{Cause}
 use Rattle.dsec_cause.specs.declared.cause.Cause.TheVariants.{SoaWrongClass, SoaWrongName, NoDenialProof, NotBuilt}
-use Rattle.dsec_spec.specs.Names.{Place, place, same_place, is_below}
+use Rattle.dsec_spec.specs.Names.{Place, place, same_place, is_below, IsAtOrBelow, IsStrictlyBelow}
 use Rattle.dsec_spec.specs.Numbers.{SOA, NSEC3}
 use Rattle.dsec_spec.specs.Groups.{Group}
 use Rattle.dsec_spec.specs.Islands.{is_above}
@@ -29,6 +29,13 @@ is_soa class group = (group.rtype == SOA) && (group.class == class)
 -- above the island (RFC 2308 2.1, RFC 4033 2)
 abbrev pub is_soa_for : Option Place → Place → ℕ → Group → Bool
 is_soa_for top n class group = is_soa class group && is_below n (place group.owner) && not (is_above top (place group.owner))
+
+-- the same as facts
+pub record IsSoaFor (top : Option Place) (n : Place) (class : ℕ) (group : Group) : Type 0 where
+  pub of_type : group.rtype ≡ SOA
+  pub of_class : group.class ≡ class
+  pub over : IsAtOrBelow n (place group.owner)
+  pub in_island : (island : Place) → top ≡ Some island → IsStrictlyBelow island (place group.owner) → ⊥
 
 -- the index of the first SOA set that counts for a name whose island this is
 abbrev pub soa_at : {A : Type 0} → Option Place → Place → ℕ → (A → Group) → List A → Option ℕ
