@@ -20,7 +20,7 @@ use std::alloc::Global;
 use std::process::Abort;
 
 /// The keys of `example.` for who asks for them.
-fn replies(alloc: Global) -> Option<Replies> {
+pub(crate) fn replies(alloc: Global) -> Option<Replies> {
     let Ok(reply) = hex::decode(alloc, KEYS) else {
         return None;
     };
@@ -34,7 +34,7 @@ fn replies(alloc: Global) -> Option<Replies> {
     Some(replies)
 }
 
-fn message(alloc: Global, text: &str) -> Option<Message> {
+pub(crate) fn message(alloc: Global, text: &str) -> Option<Message> {
     let Ok(octets) = hex::decode(alloc, text) else {
         return None;
     };

@@ -1,4 +1,4 @@
-//! Tests of keys, signatures, links, groups, validation and the commands: values and scripts from outside, and calls that fail.
+//! Tests of keys, signatures, links, groups, validation, single groups and the commands: values and scripts from outside, and calls that fail.
 #![tactic(auto)]
 
 #[cfg(test)]
@@ -11,5 +11,7 @@ mod keys;
 mod lines;
 #[cfg(test)]
 mod runs;
+#[cfg(test)]
+mod single;
 #[cfg(test)]
 mod vectors;

@@ -1,0 +1,100 @@
+-- What a call comes to in code: by its walk's end, or at once.
+use Rattle.std.proofs.Common.{◌≡◌, ℕ, true, List, [], Option, Some, None, IfSome, refl, sym, ap, ◌∙◌, subst, inl, inr}
+use Rattle.std.specs.Prelude.{◌≢◌}
+use Rattle.dsec_spec.specs.Names.{Place, place}
+use Rattle.dsec_spec.specs.Outside.{Table}
+use Rattle.dsec_spec.specs.Groups.{Group}
+use Rattle.dsec_spec.specs.Islands.{island}
+use Rattle.dsec_group.specs.declared.state.ValidationState.TheVariants.{Insecure, Indeterminate}
+use Rattle.dsec_nodes.specs.World.{World, moment}
+use Rattle.dsec_nodes.specs.Causes.{RrsigWithoutRrset, NoTrustAnchor}
+use Rattle.dsec_nodes.specs.Nodes.{Node}
+use Rattle.dsec_nodes.specs.Judging.{by_node, target_of}
+use Rattle.dsec_course.specs.Course.{by_walk, at_once, way_of}
+use Rattle.dsec_serve.specs.Outside.{Outside}
+use Rattle.dsec_single.specs.Answers.{Answer, answer_by, Told, CanBeTold}
+use Rattle.dsec_single.specs.WithNode.{tells_of}
+use Rattle.dsec_single.specs.Progress.{IsStuck, IsEnded}
+use Rattle.dsec_single.specs.Calls.{zone_for, IsSingleCall}
+use Rattle.dsec_single.specs.Sound.{IsSoundOn}
+use Rattle.dsec_single.proofs.WayLaws.{no_set, no_island, way_without_set, way_without_island}
+use Rattle.dsec_single.proofs.EndLaws.{IsEndOf, end_of}
+use Rattle.dsec_single.proofs.CallLaws.{ended_call, ended_without, stuck_call, once_call, zone_is}
+use Rattle.dsec_single.proofs.SoundLaws.{IsAnchored, can_tell, sound_on}
+
+-- what a call promises of what it tells
+pub record IsToldSo (w : World) (group : Group) (table : Option Table) (before after : Outside) (zone : Place) (told : Told) : Type 0 where
+  pub call : IsSingleCall w group table before after (Some told.answer)
+  pub sound : IsSoundOn w group zone told
+  pub justified : CanBeTold w.accepts group zone told
+
+module _ (w : World) (group : Group) (table : Option Table) (before after : Outside) (top zone : Place) (way : way_of w group ≡ by_walk top)
+    (its : zone ≡ target_of group (Some top)) where
+  module _ (n : Node) (ended : IsEnded w table before after top zone n) where
+    to_target : IsEnded w table before after top (target_of group (Some top)) n
+    to_target = subst (λ (z : Place). IsEnded w table before after top z n) its ended
+
+    end : IsEndOf w group top n
+    end = end_of w table before after group top n way to_target
+
+    -- the node tells something of the group
+    pub end_tells : tells_of w group n ≡ true
+    end_tells = end.tells
+
+    -- what is told by it
+    pub told_at_end : (told : Told) → told.answer ≡ answer_by group (moment w) (by_node w group n).finding → CanBeTold w.accepts group n.signer told
+        → IsAnchored w n told.shown → IsToldSo w group table before after zone told
+    told_at_end told is can anchored = record {
+      call = ended_call w group table before after top n told.answer way to_target is;
+      sound = subst (λ (z : Place). IsSoundOn w group z told) (sym its) (sound_on w group top n end told is can anchored);
+      justified = subst (λ (z : Place). CanBeTold w.accepts group z told) (sym its) (can_tell w group top n end told is can);
+    }
+
+    -- or there is no memory for that
+    pub untold_at_end : IsSingleCall w group table before after None
+    untold_at_end = ended_without w group table before after top n way to_target
+
+  -- or the walk doesn't come to its end
+  pub stuck : IsStuck w table before after top zone → IsSingleCall w group table before after None
+  stuck s = stuck_call w group table before after top way (subst (IsStuck w table before after top) its s)
+
+  -- the zone is the group's
+  pub zone_of_walk : zone ≡ zone_for w group
+  zone_of_walk = its ∙ sym (zone_is w group table before (by_walk top) way)
+
+module _ (w : World) (group : Group) (table : Option Table) (before : Outside) (told : Told) where
+  -- a group of signatures alone
+  pub told_without_set : group.records ≡ []
+      → told ≡ record { answer = record { state = Insecure; closest_encloser = None; cause = Some RrsigWithoutRrset; adjusted = None }; shown = None }
+      → IsToldSo w group table before before (zone_for w group) told
+  told_without_set none is =
+      let way = way_without_set w group none in
+      let whole : Told = record { answer = record { state = Insecure; closest_encloser = None; cause = Some RrsigWithoutRrset; adjusted = None }; shown = None } in
+      let so : IsToldSo w group table before before (zone_for w group) whole = record {
+        call = once_call w group table before (no_set group) (Some whole.answer) way refl refl;
+        sound = inr (none, refl);
+        justified = record { no_encloser = refl; not_cut = refl };
+      } in
+      subst (IsToldSo w group table before before (zone_for w group)) (sym is) so
+
+  -- a group without an island
+  pub told_without_island : group.records ≢ [] → island w.anchors (place group.owner) group.rtype ≡ None
+      → told ≡ record { answer = record { state = Indeterminate; closest_encloser = None; cause = Some NoTrustAnchor; adjusted = None }; shown = None }
+      → IsToldSo w group table before before (zone_for w group) told
+  told_without_island some none is =
+      let way = way_without_island w group some none in
+      let whole : Told = record { answer = record { state = Indeterminate; closest_encloser = None; cause = Some NoTrustAnchor; adjusted = None }; shown = None } in
+      let so : IsToldSo w group table before before (zone_for w group) whole = record {
+        call = once_call w group table before (no_island group) (Some whole.answer) way refl refl;
+        sound = (none, refl);
+        justified = record { no_encloser = refl; not_cut = refl };
+      } in
+      subst (IsToldSo w group table before before (zone_for w group)) (sym is) so
+
+-- the zones of both
+module _ (w : World) (group : Group) (table : Option Table) (before : Outside) where
+  pub zone_without_set : group.records ≡ [] → [] ≡ zone_for w group
+  zone_without_set none = sym (zone_is w group table before (at_once (no_set group)) (way_without_set w group none))
+
+  pub zone_without_island : group.records ≢ [] → island w.anchors (place group.owner) group.rtype ≡ None → target_of group None ≡ zone_for w group
+  zone_without_island some none = sym (zone_is w group table before (at_once (no_island group)) (way_without_island w group some none))
