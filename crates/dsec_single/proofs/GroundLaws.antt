@@ -1,7 +1,7 @@
 -- What a finding by a node that is kept at the moment rests on.
 use Rattle.std.proofs.Common.{◌≡◌, ℕ, ◌+◌, ◌≤◌, ◌&&◌, Bool, true, false, cond, List, [], ◌∷◌, length, Option, Some, Result, Ok, Err, IfOk, IfSome, refl, sym, ap, ◌∙◌, subst, arith}
 use Rattle.std.specs.Prelude.{◌≢◌, nat_le}
-use Rattle.std.proofs.lemmas.Bool.{and_parts, leb-true}
+use Rattle.std.proofs.lemmas.Bool.{and_parts, leb-true, true≢false}
 use Rattle.dsec_spec.specs.Names.{Place, place, IsStrictlyBelow}
 use Rattle.dsec_spec.specs.Numbers.{DS}
 use Rattle.dsec_spec.specs.Records.{Record, Key}
@@ -24,7 +24,7 @@ use Rattle.dsec_node.specs.Counting.{seconds_kept}
 use Rattle.dsec_node.specs.Views.{world_of}
 use Rattle.dsec_single.specs.Answers.{Answer, answer_by, encloser_by, Told, CanBeTold}
 use Rattle.dsec_single.specs.Grounds.{RestsOn}
-use Rattle.dsec_single.specs.WithNode.{is_over, tells_of, is_secure, seconds_by, seconds_found}
+use Rattle.dsec_single.specs.WithNode.{is_over, tells_of, answer_with, undetermined, is_secure, seconds_by, seconds_found, seconds_with}
 use Rattle.dsec_single.proofs.DsLaws.{strictly_over}
 
 -- a group by a good pair of one of its signatures and a key of a held zone is shown
@@ -119,7 +119,7 @@ pub judged_same : (w : World) (group own : Group) (n shared : Node) (j : Judged)
 judged_same w group own n shared j e f is = is ∙ (ap (λ (g : Group). by_node w g shared) e ∙ ap (by_node w group) f)
 
 -- what holds of each result holds of one that may be
-if_ok : {A E : Type 0} (P Q : A → Type 0) (result : Result A E) → ((a : A) → P a → Q a) → IfOk result P → IfOk result Q
+pub if_ok : {A E : Type 0} (P Q : A → Type 0) (result : Result A E) → ((a : A) → P a → Q a) → IfOk result P → IfOk result Q
 if_ok P Q (Ok a) h p = h a p
 if_ok P Q (Err e) h p = tt
 
@@ -167,3 +167,29 @@ module _ (accepts : Accepts) (bounds : Bounds) (now : ℕ) (group : Group) (n m 
         if_ok (λ a. IfSome (shown a) (λ s. (m.anchor ≡ Some s.anchor) × (s.moment ≡ on_circle now)))
         (λ a. IfSome (shown a) (λ s. (n.anchor ≡ Some s.anchor) × (s.moment ≡ on_circle now))) result
         (λ a e. subst (λ (x : Node). IfSome (shown a) (λ s. (x.anchor ≡ Some s.anchor) × (s.moment ≡ on_circle now))) same e) h
+
+-- what a node tells that tells something, and one that doesn't
+module _ (accepts : Accepts) (bounds : Bounds) (now : ℕ) (group : Group) (n : Node) where
+  module _ {A E : Type 0} (result : Result A E) (tells : tells_of (world_of accepts [] bounds now) group n ≡ true) where
+    pub answer_told : (answer : A → Answer)
+        → IfOk result (λ a. (anchors : List Record) → answer a ≡ answer_by group (on_circle now) (by_node (world_of accepts anchors bounds now) group n).finding)
+        → IfOk result (λ a. answer a ≡ answer_with (world_of accepts [] bounds now) group n)
+    answer_told answer h =
+        if_ok (λ a. (anchors : List Record) → answer a ≡ answer_by group (on_circle now) (by_node (world_of accepts anchors bounds now) group n).finding)
+        (λ a. answer a ≡ answer_with (world_of accepts [] bounds now) group n) result
+        (λ a f. f [] ∙ ap (λ (b : Bool). cond b (answer_by group (on_circle now) (by_node (world_of accepts [] bounds now) group n).finding) undetermined) (sym tells)) h
+
+    pub seconds_told : (seconds : A → ℕ) → IfOk result (λ a. seconds a ≡ seconds_found (world_of accepts [] bounds now) group n)
+        → IfOk result (λ a. seconds a ≡ seconds_with (world_of accepts [] bounds now) group n)
+    seconds_told seconds h =
+        if_ok (λ a. seconds a ≡ seconds_found (world_of accepts [] bounds now) group n) (λ a. seconds a ≡ seconds_with (world_of accepts [] bounds now) group n) result
+        (λ a f. f ∙ ap (λ (b : Bool). cond b (seconds_found (world_of accepts [] bounds now) group n) 0) (sym tells)) h
+
+  pub answer_untold : tells_of (world_of accepts [] bounds now) group n ≡ false → undetermined ≡ answer_with (world_of accepts [] bounds now) group n
+  answer_untold silent = ap (λ (b : Bool). cond b (answer_by group (on_circle now) (by_node (world_of accepts [] bounds now) group n).finding) undetermined) (sym silent)
+
+  pub seconds_untold : tells_of (world_of accepts [] bounds now) group n ≡ false → 0 ≡ seconds_with (world_of accepts [] bounds now) group n
+  seconds_untold silent = ap (λ (b : Bool). cond b (seconds_found (world_of accepts [] bounds now) group n) 0) (sym silent)
+
+  pub not_elsewhere : tells_of (world_of accepts [] bounds now) group n ≡ true → is_over n group ≡ false → ⊥
+  not_elsewhere tells no = true≢false (sym (and_parts (is_in_time (world_of accepts [] bounds now) n) (is_over n group) tells).1 ∙ no)

@@ -1,7 +1,7 @@
 -- How a group is judged: at once, or by a walk.
 use Rattle.std.proofs.Common.{◌≡◌, ℕ, ◌==◌, Bool, true, false, cond, List, [], ◌∷◌, length, Option, Some, None, refl, sym, ap, ◌∙◌, arith}
 use Rattle.std.specs.Prelude.{◌≢◌}
-use Rattle.std.proofs.lemmas.Bool.{ne_eqb}
+use Rattle.std.proofs.lemmas.Bool.{eqb-true, eqb-false, ne_eqb}
 use Rattle.dsec_spec.specs.Names.{Place, place}
 use Rattle.dsec_spec.specs.Records.{Record}
 use Rattle.dsec_spec.specs.Groups.{Group}
@@ -20,6 +20,17 @@ no_island group = record { group = group; signer = target_of group None; finding
 some_records : (rs : List Record) → rs ≢ [] → (length rs == 0) ≡ false
 some_records [] some = absurd (some refl)
 some_records (r ∷ rs) some = ne_eqb (length (r ∷ rs)) 0 (λ e. omega (arith, e))
+
+no_records : (rs : List Record) → length rs ≡ 0 → rs ≡ []
+no_records [] e = refl
+no_records (r ∷ rs) e = absurd cc
+
+-- whether a group has a record, by the test of what is shown of it
+pub none_of : (rs records : List Record) → true ≡ (length rs == 0) → rs ≡ records → records ≡ []
+none_of rs records test same = sym same ∙ no_records rs (eqb-true (length rs) 0 (sym test))
+
+pub some_of : (rs records : List Record) → false ≡ (length rs == 0) → rs ≡ records → records ≢ []
+some_of rs records test same none = eqb-false (length rs) 0 (sym test) (ap length (same ∙ none))
 
 by_choice : (b c : Bool) (x y : Way) → b ≡ c → cond b x y ≡ cond c x y
 by_choice b c x y e = ap (λ (t : Bool). cond t x y) e

@@ -134,8 +134,8 @@ fn walked<V: Verifier, C: Caches<V>, M: Memo<V>, U: Upstream, L: Ledger>(
         (record { held = C.held caches.old; asked = U.asked upstream.old; faults = U.faults upstream.old })
         (record { held = C.held caches.new; asked = U.asked upstream.new; faults = U.faults upstream.new }) (answered result (λ it. it.told.answer)) }
     ensures target { IfOk result (λ it. place it.target ≡ place zone) }
-    ensures sound { IfOk result (λ it. IsSoundOn (world_in V.accepts setting.now) group.now (place zone) it.told) }
-    ensures justified { IfOk result (λ it. CanBeTold V.accepts group.now (place zone) it.told) }
+    ensures sound { IfOk result (λ it. IsSoundOn (world_in V.accepts setting.now) group.now (place it.target) it.told) }
+    ensures justified { IfOk result (λ it. CanBeTold V.accepts group.now (place it.target) it.told) }
     ensures same_table { U.table upstream.new ≡ U.table upstream.old }
 {
     let Ok(target) = copy_of(&zone) else {

@@ -19,7 +19,7 @@ returns-in-Err-ParseError c =
     without_groups c.in-Some.octets.items (ap groups_and_place (sym c.in-Ok.ensures.value) ∙ none)
     ∙ sym (ap (λ (o : Option (Vec ℕ Global)). reply_of (option_map (λ (v : Vec ℕ Global). v.items) o)) c.in-Some.is)
 
-pub returns-in-Ok : goal.returns-in-Ok
-returns-in-Ok c =
-    by_groups c.in-Some.octets.items (c.in-Ok-2.sections, c.in-Ok-2.field-0-1) (ap groups_and_place (sym c.in-Ok.ensures.value) ∙ c.in-Ok-2.ensures)
+pub returns-in-Ok-read_groups : goal.returns-in-Ok-read_groups
+returns-in-Ok-read_groups c =
+    by_groups c.in-Some.octets.items (c.in-Ok-read_groups.sections, c.in-Ok-read_groups.field-0-1) (ap groups_and_place (sym c.in-Ok.ensures.value) ∙ c.in-Ok-read_groups.ensures)
     ∙ sym (ap (λ (o : Option (Vec ℕ Global)). reply_of (option_map (λ (v : Vec ℕ Global). v.items) o)) c.in-Some.is)
