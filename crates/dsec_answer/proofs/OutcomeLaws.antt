@@ -140,6 +140,12 @@ item_judged accepts anchors config table item message before after answer e same
         (is_outcome accepts anchors table item (Err ParseError)
         (sym (told ∙ parse_told (alone (world_of_script accepts anchors item.seconds) most (replies_of table) item.octets) g.says)) tt tt)
     by (Err errors.NoMemory) c g = λ outcome e. absurd cc
+    by (Err (errors.InplaceError x)) c g = λ outcome e. absurd cc
+    by (Err errors.OctetsConversion) c g = λ outcome e. absurd cc
+    by (Err errors.PushError) c g = λ outcome e. absurd cc
+    by (Err errors.PushNameError) c g = λ outcome e. absurd cc
+    by (Err errors.ReadError) c g = λ outcome e. absurd cc
+    by (Err errors.ShortMessage) c g = λ outcome e. absurd cc
 
 -- where no node is kept, all that are kept are of any table
 pub none_held : (w : World) (replies : Replies) (nodes : List (Labels × Node)) → nodes ≡ [] → HoldsTable w replies (Some (held_in nodes))

@@ -20,4 +20,4 @@ abbrev pub told_of : Result Verdict Error → Option Outcome
 told_of (Ok v) = Some (Ok v)
 told_of (Err errors.FormError) = Some (Err FormError)
 told_of (Err errors.ParseError) = Some (Err ParseError)
-told_of (Err errors.NoMemory) = None
+told_of (Err _) = None

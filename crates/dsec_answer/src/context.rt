@@ -9,7 +9,7 @@ ghost use Rattle.dsec_plain.specs.PlainAnswers.{IsPlainAnswer};
 ghost use Rattle.dsec_found.specs.declared.error.Error.TheVariants.{FormError, ParseError};
 ghost use Rattle.dsec_node.specs.Caches.{held_in};
 ghost use Rattle.dsec_node.specs.Configs.{default_settings};
-ghost use Rattle.dsec_serve.specs.Calls.{AgreesWith, IsCall, OkOrNoMemory, RefusedOrBogus, RefusedOrNoMemory, most_questions};
+ghost use Rattle.dsec_serve.specs.Calls.{AgreesWith, CanCome, IsCall, OkOrNoMemory, RefusedOrBogus, RefusedOrNoMemory, most_questions};
 ghost use Rattle.dsec_serve.specs.Outside.{replies_of, HoldsTable};
 ghost use Rattle.dsec_answer.specs.Setting.{world_at};
 
@@ -87,6 +87,7 @@ impl<V: Verifier> ValidationContext<V> {
         ensures readable { (read : IsReadable message.old) → length read.questions ≡ 1 → OkOrNoMemory (λ v. ⊤) result }
         ensures unreadable { sections_of message.old ≡ None → RefusedOrNoMemory ParseError result }
         ensures not_one { HasNotOneQuestion message.old → RefusedOrBogus FormError result }
+        ensures refusals { CanCome result }
         ensures few { IfOk result (λ v. v.questions ≤ most_questions self.old.config.max_cname_dname message.old) }
         ensures same_table { U.table upstream.new ≡ U.table upstream.old }
         ensures same_message { message.new ≡ message.old }

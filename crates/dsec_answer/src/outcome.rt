@@ -1,6 +1,7 @@
 //! What comes of a message.
 
 ghost use Rattle.std.specs.Prelude.{◌≡◌, Some, Ok, Err, IfOk};
+ghost use Rattle.dsec_serve.specs.Calls.{CanCome};
 ghost use Rattle.dsec_answer.specs.Told as outcomes;
 
 use dsec_crypto::Verifier;
@@ -52,6 +53,7 @@ impl<V: Verifier> Outcome<V> {
 
     /// What is told of an answer.
     pub(crate) fn told(answer: Result<Verdict<V>, Error>) -> Result<Outcome<V>, NoMemory>
+        requires { CanCome answer }
         ensures { IfOk result (λ outcome. outcomes.told_of answer ≡ Some outcome) }
     {
         match answer {
@@ -59,6 +61,7 @@ impl<V: Verifier> Outcome<V> {
             Err(Error::FormError) => Ok(Outcome::refused(Unjudged::FormError)),
             Err(Error::ParseError) => Ok(Outcome::refused(Unjudged::ParseError)),
             Err(Error::NoMemory) => Err(NoMemory),
+            Err(_) => unreachable!(),
         }
     }
 

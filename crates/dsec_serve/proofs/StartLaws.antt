@@ -9,7 +9,7 @@ use Rattle.dsec_nodes.specs.Alone.{Refusal, unreadable, not_one_question}
 use Rattle.dsec_node.specs.Configs.{Settings}
 use Rattle.dsec_node.specs.Views.{bounds_of, world_of}
 use Rattle.dsec_found.specs.declared.error.Error.{Error}
-use Rattle.dsec_found.specs.declared.error.Error.TheVariants.{FormError, ParseError, NoMemory}
+use Rattle.dsec_found.specs.declared.error.Error.TheVariants.{FormError, ParseError, NoMemory, InplaceError, OctetsConversion, PushError, PushNameError, ReadError, ShortMessage}
 use Rattle.dsec_found.specs.Errors.{wants_memory}
 use Rattle.dsec_course.specs.Course.{Course}
 use Rattle.dsec_course.specs.Advancing.{begun}
@@ -64,6 +64,14 @@ pub started_begins : (anchors : List Record) (config : Settings) (moment : ℕ) 
 started_begins anchors config moment message it s =
     subst (λ (x : Settings). begun x.max_cname_dname message ≡ Ok it.course) (sym s.same_config) s.begins
 
+-- a message isn't started for no other reason than that it can't be read
+only_unreadable : (anchors : List Record) (config : Settings) (moment : ℕ) (message : List ℕ) (e : Error) → (ParseError ≡ e → ⊥) → (r : Result Course Refusal)
+    → begun config.max_cname_dname message ≡ r → begun_as anchors config moment r ≡ Err e → ⊥
+only_unreadable anchors config moment message e other (Ok c) f g = absurd cc
+only_unreadable anchors config moment message e other (Err unreadable) f g = other (let same : ParseError ≡ e = cc in same)
+only_unreadable anchors config moment message e other (Err not_one_question) f g =
+    let u = (begun_refused config.max_cname_dname message not_one_question f).refusal in absurd cc
+
 -- a message that wasn't started
 pub unstarted : (w : World) (anchors : List Record) (config : Settings) (moment : ℕ) (message : List ℕ) (table : Option Table) (before : Outside) (e : Error)
     → OnFalse (wants_memory e) (begun_as anchors config moment (begun config.max_cname_dname message) ≡ Err e)
@@ -78,10 +86,16 @@ unstarted w anchors config moment message table before ParseError h =
     by (Err unreadable) f g = ends_unread w config.max_cname_dname message table before f
     by (Err not_one_question) f g = absurd cc
 unstarted w anchors config moment message table before FormError h =
-    by (begun config.max_cname_dname message) refl h
-  where
-    by : (r : Result Course Refusal) → begun config.max_cname_dname message ≡ r → begun_as anchors config moment r ≡ Err FormError
-        → IsCall w config.max_cname_dname message table before before (Err FormError)
-    by (Ok c) f g = absurd cc
-    by (Err unreadable) f g = absurd cc
-    by (Err not_one_question) f g = let u = (begun_refused config.max_cname_dname message not_one_question f).refusal in absurd cc
+    absurd (only_unreadable anchors config moment message FormError (λ e. cc) (begun config.max_cname_dname message) refl h)
+unstarted w anchors config moment message table before (InplaceError x) h =
+    absurd (only_unreadable anchors config moment message (InplaceError x) (λ e. cc) (begun config.max_cname_dname message) refl h)
+unstarted w anchors config moment message table before OctetsConversion h =
+    absurd (only_unreadable anchors config moment message OctetsConversion (λ e. cc) (begun config.max_cname_dname message) refl h)
+unstarted w anchors config moment message table before PushError h =
+    absurd (only_unreadable anchors config moment message PushError (λ e. cc) (begun config.max_cname_dname message) refl h)
+unstarted w anchors config moment message table before PushNameError h =
+    absurd (only_unreadable anchors config moment message PushNameError (λ e. cc) (begun config.max_cname_dname message) refl h)
+unstarted w anchors config moment message table before ReadError h =
+    absurd (only_unreadable anchors config moment message ReadError (λ e. cc) (begun config.max_cname_dname message) refl h)
+unstarted w anchors config moment message table before ShortMessage h =
+    absurd (only_unreadable anchors config moment message ShortMessage (λ e. cc) (begun config.max_cname_dname message) refl h)

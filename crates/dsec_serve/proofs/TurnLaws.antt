@@ -5,7 +5,7 @@ use Rattle.dsec_spec.specs.Outside.{Table, risen}
 use Rattle.dsec_nodes.specs.World.{World}
 use Rattle.dsec_nodes.specs.Machine.{Input, begin, node, stored, reply}
 use Rattle.dsec_found.specs.declared.error.Error.{Error}
-use Rattle.dsec_found.specs.declared.error.Error.TheVariants.{FormError, ParseError, NoMemory}
+use Rattle.dsec_found.specs.declared.error.Error.TheVariants.{FormError, ParseError, NoMemory, InplaceError, OctetsConversion, PushError, PushNameError, ReadError, ShortMessage}
 use Rattle.dsec_course.specs.Course.{Waiting, Course, CourseStep, get_node, put_node, ask_for, end_with, CourseAnswers, Awaits}
 use Rattle.dsec_course.specs.Advancing.{begun, course_advanced}
 use Rattle.dsec_course.specs.Hearing.{Run, first_run, ran_on}
@@ -46,6 +46,12 @@ comes_by w most message table before now r course (Ok step) s e = (r, ap (λ (p 
 comes_by w most message table before now r course (Err FormError) s e =
     ends_refused w most message table before now r s (ap (λ (p : Course × CourseStep). p.1) (sym e))
 comes_by w most message table before now r course (Err ParseError) s e = absurd e
+comes_by w most message table before now r course (Err (InplaceError e)) s x = absurd x
+comes_by w most message table before now r course (Err OctetsConversion) s x = absurd x
+comes_by w most message table before now r course (Err PushError) s x = absurd x
+comes_by w most message table before now r course (Err PushNameError) s x = absurd x
+comes_by w most message table before now r course (Err ReadError) s x = absurd x
+comes_by w most message table before now r course (Err ShortMessage) s x = absurd x
 comes_by w most message table before now r course (Err NoMemory) s e = ends_without_memory w most message table before now r s
 
 -- a step that was answered

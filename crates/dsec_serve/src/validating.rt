@@ -12,7 +12,7 @@ ghost use Rattle.dsec_course.specs.Advancing.{begun};
 ghost use Rattle.dsec_course.specs.Course.{asked_in, end_with};
 ghost use Rattle.dsec_core.specs.Validating.{most_of, world_by};
 ghost use Rattle.dsec_core.specs.Views.{step_view};
-ghost use Rattle.dsec_serve.specs.Calls.{AgreesWith, IsCall, OkOrNoMemory, RefusedOrBogus, RefusedOrNoMemory, most_questions};
+ghost use Rattle.dsec_serve.specs.Calls.{AgreesWith, CanCome, IsCall, OkOrNoMemory, RefusedOrBogus, RefusedOrNoMemory, most_questions};
 ghost use Rattle.dsec_serve.specs.Outside.{replies_of, HoldsTable, Outside};
 ghost use Rattle.dsec_serve.specs.Turns.{ends, IsAt};
 
@@ -56,6 +56,7 @@ pub fn validate_in<V: Verifier, C: Caches<V>, M: Memo<V>, U: Upstream>(
     ensures readable { (read : IsReadable message.now) → length read.questions ≡ 1 → OkOrNoMemory (λ v. ⊤) result }
     ensures unreadable { sections_of message.now ≡ None → RefusedOrNoMemory ParseError result }
     ensures not_one { HasNotOneQuestion message.now → RefusedOrBogus FormError result }
+    ensures refusals { CanCome result }
     ensures few { IfOk result (λ v. v.questions ≤ most_questions config.now.max_cname_dname message.now) }
     ensures same_table { U.table upstream.new ≡ U.table upstream.old }
 {

@@ -20,6 +20,7 @@ const ANCHOR: &str = "example. 3600 IN DNSKEY 257 3 13 AQI=";
 
 /// The moment of judging, and one at which the zone's node is kept no more.
 const NOW: u64 = 500;
+
 const LATER: u64 = 2000;
 
 /// The first group of a message's answer section.
@@ -167,6 +168,7 @@ fn by_node(
 
 /// What is told of the signed set, and what a node tells that tells nothing.
 const SHOWN: Says = (ValidationState::Secure, None, Some(500));
+
 const NOTHING: Says = (ValidationState::Indeterminate, None, None);
 
 /// A message, the zone that is to have signed the group of its answer section, and what is said of the group.

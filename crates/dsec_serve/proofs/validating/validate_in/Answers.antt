@@ -1,12 +1,20 @@
 use Rattle.std.proofs.Common.{arith}
 use Rattle.dsec_node.specs.Views.{bounds_of, world_of}
 use Rattle.dsec_serve.proofs.CallLaws.{call_few, call_told}
-use Rattle.dsec_serve.proofs.TellingLaws.{call_complete, call_not_one, call_readable, call_unreadable}
+use Rattle.dsec_serve.proofs.TellingLaws.{call_comes, call_complete, call_not_one, call_readable, call_unreadable}
 use Rattle.dsec_serve.proofs.validating.validate_in.Goals as goal
 
 pub returns-clause-told : goal.returns-clause-told
 returns-clause-told g c =
     call_told (world_of g.V.Verifier.accepts c.args.anchors.now (bounds_of c.args.config.now) c.args.now) c.args.config.now.max_cname_dname c.args.message.now
+    (g.U.Upstream.table c.args.upstream.now)
+    (record { held = g.C.Caches.held c.args.caches.now; asked = g.U.Upstream.asked c.args.upstream.now; faults = g.U.Upstream.faults c.args.upstream.now })
+    (record { held = g.C.Caches.held c.counted.new.caches; asked = g.U.Upstream.asked c.counted.new.upstream; faults = g.U.Upstream.faults c.counted.new.upstream })
+    c.counted.result c.counted.ensures.call
+
+pub returns-clause-refusals : goal.returns-clause-refusals
+returns-clause-refusals g c =
+    call_comes (world_of g.V.Verifier.accepts c.args.anchors.now (bounds_of c.args.config.now) c.args.now) c.args.config.now.max_cname_dname c.args.message.now
     (g.U.Upstream.table c.args.upstream.now)
     (record { held = g.C.Caches.held c.args.caches.now; asked = g.U.Upstream.asked c.args.upstream.now; faults = g.U.Upstream.faults c.args.upstream.now })
     (record { held = g.C.Caches.held c.counted.new.caches; asked = g.U.Upstream.asked c.counted.new.upstream; faults = g.U.Upstream.faults c.counted.new.upstream })
