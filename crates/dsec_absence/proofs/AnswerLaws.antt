@@ -1,5 +1,5 @@
 -- What the calls deny is denied by records that count (RFC 4035 5.3, 5.4).
-use Rattle.std.proofs.Common.{◌≡◌, ℕ, ◌<◌, Bool, true, false, cond, List, Option, Some, None, refl, ◌∙◌, subst, inl, inr, ◌⊎◌}
+use Rattle.std.proofs.Common.{◌≡◌, ℕ, Bool, true, false, cond, Option, Some, None, refl, ◌∙◌, subst, inl, inr, ◌⊎◌}
 use Rattle.std.specs.Prelude.{nat_lt}
 use Rattle.dsec_cause.specs.declared.cause.Cause.TheVariants.{WildcardElsewhere}
 use Rattle.dsec_spec.specs.Names.{Place, same_place, wire_length, IsAtOrBelow}
@@ -7,10 +7,10 @@ use Rattle.dsec_spec.specs.Zones.{wildcard}
 use Rattle.dsec_spec.specs.DenyingRecords.{NsecAt}
 use Rattle.dsec_spec.proofs.CanonicalNames.{same_place_decides}
 use Rattle.dsec_absence.specs.Denials.{Denial, no_type, no_name, no_type_by_wildcard, no_closer}
-use Rattle.dsec_absence.specs.Evidence.{Evidence, CountsAt, type_read, name_read, wildcard_read, closer_read, IsProof}
+use Rattle.dsec_absence.specs.Evidence.{CountsAt, type_read, name_read, wildcard_read, closer_read, IsProof}
 use Rattle.dsec_absence.specs.Tests.{shows_type, shows_missing}
 use Rattle.dsec_absence.specs.Answers.{Search, found, refuted, undecided, Answer, denied, refused, nothing, Source, type_at, missing, star_closest_encloser, nsec_for_nodata, type_answer, nsec_for_not_exists, missing_answer, nsec_for_nodata_wildcard, type_below, type_by_star, type_by_encloser, nsec_for_nxdomain, name_below, name_by_star, name_by_encloser, not_exists_for_wildcard, closer_answer}
-use Rattle.dsec_absence.specs.Replies.{proved, concluded, then_answer, type_denied, name_denied, closer_denied, denied_at}
+use Rattle.dsec_absence.specs.Replies.{then_answer}
 use Rattle.dsec_absence.proofs.TestLaws.{DeniesType, type_shown, missing_shown}
 use Rattle.dsec_absence.proofs.NameLaws.{ShowsMissing}
 use Rattle.dsec_absence.proofs.SearchLaws.{found_at}
@@ -21,7 +21,7 @@ abbrev pub Proves : Source → Place → ℕ → Denial ℕ → Type 0
 Proves s n q d = IsProof s.class s.signer s.groups n q d
 
 -- the wildcard under a name is under it
-star_is : (c star : Place) → star_closest_encloser c ≡ Some star → wildcard c ≡ star
+pub star_is : (c star : Place) → star_closest_encloser c ≡ Some star → wildcard c ≡ star
 star_is c star e = by (nat_lt 255 (wire_length (wildcard c))) e
   where
     by : (x : Bool) → cond x None (Some (wildcard c)) ≡ Some star → wildcard c ≡ star
@@ -132,33 +132,10 @@ module _ (s : Source) (n : Place) (within : IsAtOrBelow n s.signer) where
       by (refuted cause) f g = absurd cc
       by (undecided cause) f g = absurd cc
 
-  -- one call or the other denied it
-  either_answer : (d : Denial ℕ) (a b : Answer) → then_answer a b ≡ denied d → (a ≡ denied d) ⊎ (b ≡ denied d)
-  either_answer d (denied f) b e = inl e
-  either_answer d (refused cause) b e = absurd cc
-  either_answer d (nothing cause) (denied f) e = inr e
-  either_answer d (nothing cause) (refused later) e = absurd cc
-  either_answer d (nothing cause) (nothing later) e = absurd cc
-
-  by_answer : (groups : List Evidence) (d : Denial ℕ) (a : Answer) → concluded groups a ≡ proved d → a ≡ denied d
-  by_answer groups d (denied f) e = cc
-  by_answer groups d (refused cause) e = absurd cc
-  by_answer groups d (nothing cause) e = absurd cc
-
-  -- what is proved of a reply is denied by its records
-  pub type_conclusion_proves : (q : ℕ) (d : Denial ℕ) → type_denied s n q ≡ proved d → Proves s n q d
-  type_conclusion_proves q d e =
-      elim (either_answer d (nsec_for_nodata s n q) (nsec_for_nodata_wildcard s n q) (by_answer s.groups d _ e)) [
-        | inl f ↦ nodata_proves s n q d f
-        | inr f ↦ nodata_wildcard_proves q d f
-      ]
-
-  pub name_conclusion_proves : (q : ℕ) (d : Denial ℕ) → name_denied s n ≡ proved d → Proves s n q d
-  name_conclusion_proves q d e = nxdomain_proves q d (by_answer s.groups d _ e)
-
-  pub closer_conclusion_proves : (c : Place) (q : ℕ) (d : Denial ℕ) → closer_denied s n c ≡ proved d → Proves s n q d
-  closer_conclusion_proves c q d e = wildcard_proves c q d (by_answer s.groups d _ e)
-
-  pub conclusion_proves : (no_error : Bool) (q : ℕ) (d : Denial ℕ) → denied_at no_error s n q ≡ proved d → Proves s n q d
-  conclusion_proves true q d e = type_conclusion_proves q d e
-  conclusion_proves false q d e = name_conclusion_proves q d e
+-- one call or the other denied it
+pub either_answer : (d : Denial ℕ) (a b : Answer) → then_answer a b ≡ denied d → (a ≡ denied d) ⊎ (b ≡ denied d)
+either_answer d (denied f) b e = inl e
+either_answer d (refused cause) b e = absurd cc
+either_answer d (nothing cause) (denied f) e = inr e
+either_answer d (nothing cause) (refused later) e = absurd cc
+either_answer d (nothing cause) (nothing later) e = absurd cc

@@ -1,5 +1,5 @@
 -- Zones and records that a test finds right: so that examples can be worked out (RFC 1034 4.2, RFC 4034 4).
-use Rattle.std.proofs.Common.{◌≡◌, ℕ, zero, suc, ◌/◌, ◌==◌, ◌&&◌, ◌||◌, ◌<◌, ◌≤◌, Bool, true, false, List, [], ◌∷◌, length, Option, Some, refl, sym, ap, ◌∙◌, subst, inl, inr, ◌⊎◌, arith, IsTrue}
+use Rattle.std.proofs.Common.{◌≡◌, ℕ, zero, suc, ◌/◌, ◌==◌, ◌&&◌, ◌||◌, ◌<◌, ◌≤◌, Bool, true, false, List, [], ◌∷◌, length, Option, Some, refl, sym, ap, ◌∙◌, subst, inl, inr, ◌⊎◌, arith, ◌↔◌, IsTrue}
 use Rattle.std.specs.Prelude.{nat_lt, Contains, unwrap_or}
 use Rattle.std.specs.List.{list_any}
 use Rattle.std.specs.Ordering.{is_lt}
@@ -10,7 +10,7 @@ use Rattle.std.proofs.lemmas.Bool.{true≢false, and_parts, and_from, eqb-true, 
 use Rattle.dsec_spec.specs.Names.{Place, place_cmp, same_place, is_below, is_strictly_below}
 use Rattle.dsec_spec.specs.Numbers.{NS, SOA, NSEC}
 use Rattle.dsec_spec.specs.RecordData.{Block, blocks_in}
-use Rattle.dsec_spec.specs.TypeBitmaps.{block_has, blocks_have}
+use Rattle.dsec_spec.specs.TypeBitmaps.{block_has, blocks_have, has_type}
 use Rattle.dsec_spec.specs.Zones.{Zone, IsZone, Owns}
 use Rattle.dsec_spec.specs.DenyingRecords.{NsecAt, owner_of, next_of, has}
 use Rattle.dsec_spec.specs.DenialTruth.{IsNsecTrue, IsGap}
@@ -144,29 +144,40 @@ left_one : (a : Bool) → (a || false) ≡ true → a ≡ true
 left_one true e = refl
 left_one false e = e
 
-pub nsec_is : (z : Zone) (r : NsecAt) → PassesAsNsec z r → IsNsecTrue z r
-nsec_is z r p = record {
-  owner = (NSEC, owns_is z (owner_of r) NSEC p.owner);
-  types = λ t small. (there t (cases_lt t 256), back t);
-  next = (NSEC, owns_is z (next_of r) NSEC p.next);
-  gap = gap_is z (owner_of r) (next_of r) p.gap;
-}
-  where
-    same : (t : ℕ) → t < 256 → has r t ≡ owns z (owner_of r) t
-    same t lt = agreed (has r t) (owns z (owner_of r) t) (below_each (λ u. agree (has r u) (owns z (owner_of r) u)) 256 p.types t lt)
+-- whether a bitmap has the types of a name in a zone of types of the first window
+pub record PassesAsTypes (z : Zone) (n : Place) (types : List ℕ) : Type 0 where
+  pub block : Block
+  pub one : blocks_in (length types) types ≡ Some (block ∷ [])
+  pub window : block.window ≡ 0
+  pub small : list_any is_large z.sets ≡ false
+  pub agree_each : below (λ t. agree (has_type types t) (owns z n t)) 256 ≡ true
 
-    in_window : (t : ℕ) → has r t ≡ true → t < 256
-    in_window t e =
+pub types_are : (z : Zone) (n : Place) (types : List ℕ) → PassesAsTypes z n types → (t : ℕ) → t < 65536 → IsTrue (has_type types t) ↔ Owns z n t
+types_are z n types p t small = (there (cases_lt t 256), back)
+  where
+    same : t < 256 → has_type types t ≡ owns z n t
+    same lt = agreed (has_type types t) (owns z n t) (below_each (λ u. agree (has_type types u) (owns z n u)) 256 p.agree_each t lt)
+
+    in_window : has_type types t ≡ true → t < 256
+    in_window e =
         let blocks : blocks_have (p.block ∷ []) t ≡ true = ap (λ (bs : Option (List Block)). blocks_have (unwrap_or bs []) t) (sym p.one) ∙ e in
         let both = and_parts _ _ (left_one (block_has t p.block) blocks) in
         let window = eqb-true p.block.window (t / 256) both.0 in
         omega (arith, window, p.window)
 
-    there : (t : ℕ) → (t < 256) ⊎ (256 ≤ t) → IsTrue (has r t) → Owns z (owner_of r) t
-    there t (inl lt) e = owns_is z (owner_of r) t (sym (same t lt) ∙ e)
-    there t (inr ge) e = absurd (let lt = in_window t e in omega (arith, lt, ge))
+    there : (t < 256) ⊎ (256 ≤ t) → IsTrue (has_type types t) → Owns z n t
+    there (inl lt) e = owns_is z n t (sym (same lt) ∙ e)
+    there (inr ge) e = absurd (let lt = in_window e in omega (arith, lt, ge))
 
-    back : (t : ℕ) → Owns z (owner_of r) t → IsTrue (has r t)
-    back t o =
-        let lt = ltb-true t 256 (not_false (nat_lt t 256) (none_passes is_large z.sets p.small (owner_of r, t) o)) in
-        same t lt ∙ owns_told z (owner_of r) t o
+    back : Owns z n t → IsTrue (has_type types t)
+    back o =
+        let lt = ltb-true t 256 (not_false (nat_lt t 256) (none_passes is_large z.sets p.small (n, t) o)) in
+        same lt ∙ owns_told z n t o
+
+pub nsec_is : (z : Zone) (r : NsecAt) → PassesAsNsec z r → IsNsecTrue z r
+nsec_is z r p = record {
+  owner = (NSEC, owns_is z (owner_of r) NSEC p.owner);
+  types = types_are z (owner_of r) r.says.types (record { block = p.block; one = p.one; window = p.window; small = p.small; agree_each = p.types });
+  next = (NSEC, owns_is z (next_of r) NSEC p.next);
+  gap = gap_is z (owner_of r) (next_of r) p.gap;
+}

@@ -13,9 +13,8 @@ use Rattle.dsec_spec.proofs.SignedTests.{below_decides}
 use Rattle.dsec_absence.specs.Owning.{OwnsNoType, OwnsNoName, OwnsNoTypeByWildcard, OwnsNoCloser}
 use Rattle.dsec_absence.specs.Evidence.{Evidence}
 use Rattle.dsec_absence.specs.Tests.{common}
-use Rattle.dsec_absence.specs.Answers.{Source, search, nothing, refused, nsec_for_nodata, nsec_for_not_exists, not_exists_for_wildcard}
+use Rattle.dsec_absence.specs.Answers.{Source, search, denied, nothing, refused, nsec_for_nodata, nsec_for_nodata_wildcard, nsec_for_not_exists, nsec_for_nxdomain, not_exists_for_wildcard}
 use Rattle.dsec_absence.specs.Denials.{no_type, no_name, no_type_by_wildcard, no_closer}
-use Rattle.dsec_absence.specs.Replies.{proved, type_denied, name_denied, closer_denied}
 use Rattle.dsec_absence.proofs.NameLaws.{ShowsMissing}
 use Rattle.dsec_absence.proofs.TestLaws.{type_shown, missing_shown}
 use Rattle.dsec_absence.proofs.DenialLaws as laws
@@ -191,22 +190,22 @@ abbrev by : List Evidence → Source
 by groups = record { class = 1; signer = place example; groups = groups }
 
 -- no name `ml.example.`, and no wildcard for it (RFC 4035 B.2)
-pub name_error : name_denied (by (evidence b of_b ∷ evidence example of_apex ∷ [])) (place (in_zone (codes "ml" ∷ []))) ≡ proved (no_name (place example) 0 1)
+pub name_error : nsec_for_nxdomain (by (evidence b of_b ∷ evidence example of_apex ∷ [])) (place (in_zone (codes "ml" ∷ []))) ≡ denied (no_name (place example) 0 1)
 unfolding search common name_in labels_in blocks_in
 name_error = refl
 
 -- no MX at `ns1.example.` (RFC 4035 B.3)
-pub no_data : type_denied (by (evidence ns1 of_ns1 ∷ [])) (place ns1) MX ≡ proved (no_type 0)
+pub no_data : nsec_for_nodata (by (evidence ns1 of_ns1 ∷ [])) (place ns1) MX ≡ denied (no_type 0)
 unfolding search common name_in labels_in blocks_in
 no_data = refl
 
 -- an MX at `a.z.w.example.` from the wildcard: no closer name (RFC 4035 B.6)
-pub wildcard_answer : closer_denied (by (evidence x_y_w of_x_y_w ∷ [])) (place (codes "a" ∷ codes "z" ∷ w)) (place w) ≡ proved (no_closer (place w) 0)
+pub wildcard_answer : not_exists_for_wildcard (by (evidence x_y_w of_x_y_w ∷ [])) (place (codes "a" ∷ codes "z" ∷ w)) (place w) ≡ denied (no_closer (place w) 0)
 unfolding search common name_in labels_in blocks_in
 wildcard_answer = refl
 
 -- no AAAA at `a.z.w.example.` from the wildcard (RFC 4035 B.7)
-pub wildcard_no_data : type_denied (by (evidence x_y_w of_x_y_w ∷ evidence star_w of_star_w ∷ [])) (place (codes "a" ∷ codes "z" ∷ w)) AAAA ≡ proved (no_type_by_wildcard (place w) 0 1)
+pub wildcard_no_data : nsec_for_nodata_wildcard (by (evidence x_y_w of_x_y_w ∷ evidence star_w of_star_w ∷ [])) (place (codes "a" ∷ codes "z" ∷ w)) AAAA ≡ denied (no_type_by_wildcard (place w) 0 1)
 unfolding search common name_in labels_in blocks_in
 wildcard_no_data = refl
 

@@ -8,3 +8,6 @@ pub mod AnswerLaws
 pub mod SearchSteps
 pub mod Checking
 pub mod Examples
+pub mod RefusalLaws
+pub mod CauseLaws
+pub mod SoaLaws

@@ -48,11 +48,11 @@ neither_both true false e f g = false≢true g
 neither_both false b e f g = false≢true f
 
 -- DS is looked for in the zone above, but the root's
-above_is : (n : Place) (q : ℕ) → is_ds_above n q ≡ true → (q ≡ DS) × (n ≢ [])
+pub above_is : (n : Place) (q : ℕ) → is_ds_above n q ≡ true → (q ≡ DS) × (n ≢ [])
 above_is [] q e = absurd (false≢true e)
 above_is (label ∷ n) q e = (eqb-true q DS e, λ root. absurd cc)
 
-not_above_is : (n : Place) (q : ℕ) → is_ds_above n q ≡ false → q ≡ DS → n ≢ [] → ⊥
+pub not_above_is : (n : Place) (q : ℕ) → is_ds_above n q ≡ false → q ≡ DS → n ≢ [] → ⊥
 not_above_is [] q e ds some = some refl
 not_above_is (label ∷ n) q e ds some = true≢false (sym (eq-eqb q DS ds) ∙ e)
 

@@ -4,3 +4,4 @@ pub mod Evidence
 pub mod Tests
 pub mod Answers
 pub mod Replies
+pub mod Refusals

@@ -1,17 +1,15 @@
--- Where a reply answers, and what its groups come to where it denies (RFC 2308 2.1, 2.2, RFC 4035 5.4).
-use Rattle.std.specs.Prelude.{ℕ, ◌==◌, ◌&&◌, List, position, Bool, Option, Some, None, unwrap_or, if◌then◌else◌}
+-- Where a reply answers, and which SOA set counts where it denies (RFC 2308 2.1, 2.2, RFC 4035 5.4).
+use Rattle.std.specs.Prelude.{◌≡◌, ℕ, ◌==◌, ◌&&◌, List, position, Bool, Option, Some, None, if◌then◌else◌}
 use Rattle.std.proofs.Math.Bool.{not}
 use Rattle.std.specs.List.{list_any}
 use Rattle.std.specs.Option.{option_or}
 use Rattle.dsec_cause.specs.declared.cause.Cause.{Cause}
-use Rattle.dsec_cause.specs.declared.cause.Cause.TheVariants.{SoaWrongClass, SoaWrongName, NoDenialProof, NotBuilt}
-use Rattle.dsec_spec.specs.Names.{Place, place, same_place, is_below}
-use Rattle.dsec_spec.specs.Numbers.{SOA, NSEC3}
+use Rattle.dsec_cause.specs.declared.cause.Cause.TheVariants.{SoaWrongClass, SoaWrongName}
+use Rattle.dsec_spec.specs.Names.{Place, place, same_place, is_below, IsAtOrBelow, IsStrictlyBelow}
+use Rattle.dsec_spec.specs.Numbers.{SOA}
 use Rattle.dsec_spec.specs.Groups.{Group}
 use Rattle.dsec_spec.specs.Islands.{is_above}
-use Rattle.dsec_absence.specs.Denials.{Denial}
-use Rattle.dsec_absence.specs.Evidence.{Evidence}
-use Rattle.dsec_absence.specs.Answers.{Answer, denied, refused, nothing, Source, nsec_for_nodata, nsec_for_nodata_wildcard, nsec_for_nxdomain, not_exists_for_wildcard}
+use Rattle.dsec_absence.specs.Answers.{Answer, denied, refused, nothing}
 
 -- whether a group is the set of a class and type at a name (RFC 1034 3.7.1)
 abbrev pub is_set_of : Place → ℕ → ℕ → Group → Bool
@@ -29,6 +27,13 @@ is_soa class group = (group.rtype == SOA) && (group.class == class)
 -- above the island (RFC 2308 2.1, RFC 4033 2)
 abbrev pub is_soa_for : Option Place → Place → ℕ → Group → Bool
 is_soa_for top n class group = is_soa class group && is_below n (place group.owner) && not (is_above top (place group.owner))
+
+-- the same as facts
+pub record IsSoaFor (top : Option Place) (n : Place) (class : ℕ) (group : Group) : Type 0 where
+  pub of_type : group.rtype ≡ SOA
+  pub of_class : group.class ≡ class
+  pub over : IsAtOrBelow n (place group.owner)
+  pub in_island : (island : Place) → top ≡ Some island → IsStrictlyBelow island (place group.owner) → ⊥
 
 -- the index of the first SOA set that counts for a name whose island this is
 abbrev pub soa_at : {A : Type 0} → Option Place → Place → ℕ → (A → Group) → List A → Option ℕ
@@ -53,22 +58,6 @@ abbrev pub soa_cause : {A : Type 0} → Place → ℕ → (A → Group) → List
 soa_cause n class group xs (Some index) = None
 soa_cause n class group xs None = no_soa_cause n class group xs
 
--- what a reply that denies comes to by its NSEC records: it is proved, or not, and why
-pub data Conclusion : Type 0 where
-  proved : Denial ℕ → Conclusion
-  unproved : Cause → Conclusion
-
--- whether NSEC3 records are among the groups: judging by them is left out, so that they end with a cause of its own where NSEC records
--- prove nothing (RFC 5155 8)
-abbrev pub has_nsec3 : List Evidence → Bool
-has_nsec3 groups = list_any (λ e. e.group.rtype == NSEC3) groups
-
--- by what a call answered
-abbrev pub concluded : List Evidence → Answer → Conclusion
-concluded groups (denied d) = proved d
-concluded groups (refused cause) = unproved cause
-concluded groups (nothing cause) = unproved (if has_nsec3 groups then NotBuilt else unwrap_or cause NoDenialProof)
-
 -- one call after another, where the first shows nothing; the last cause is left
 abbrev pub then_answer : Answer → Answer → Answer
 then_answer (denied d) later = denied d
@@ -76,19 +65,3 @@ then_answer (refused cause) later = refused cause
 then_answer (nothing cause) (denied d) = denied d
 then_answer (nothing cause) (refused later) = refused later
 then_answer (nothing cause) (nothing later) = nothing (option_or later cause)
-
--- that a type stands at a name: the name hasn't the type, or the wildcard that stands for it hasn't (RFC 2308 2.2, RFC 4035 3.1.3.1, 3.1.3.4)
-abbrev pub type_denied : Source → Place → ℕ → Conclusion
-type_denied s n q = concluded s.groups (then_answer (nsec_for_nodata s n q) (nsec_for_nodata_wildcard s n q))
-
--- that a name exists (RFC 2308 2.1, RFC 4035 3.1.3.2)
-abbrev pub name_denied : Source → Place → Conclusion
-name_denied s n = concluded s.groups (nsec_for_nxdomain s n)
-
--- that a name exists for which the wildcard under c stands (RFC 4035 3.1.3.3)
-abbrev pub closer_denied : Source → Place → Place → Conclusion
-closer_denied s n c = concluded s.groups (not_exists_for_wildcard s n c)
-
--- what is denied at a name: without an error the type, and else the name (RFC 2308 2)
-abbrev pub denied_at : Bool → Source → Place → ℕ → Conclusion
-denied_at no_error s n q = if no_error then type_denied s n q else name_denied s n

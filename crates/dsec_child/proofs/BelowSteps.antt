@@ -9,14 +9,14 @@ use Rattle.std.proofs.lemmas.Option.{same_Some}
 use Rattle.dsec_spec.specs.Chain as chain
 use Rattle.dsec_spec.specs.Groups.{Group, set_in}
 use Rattle.dsec_spec.specs.Names.{Place, IsStrictlyBelow}
-use Rattle.dsec_spec.specs.Numbers.{CNAME, DS, NSEC3}
+use Rattle.dsec_spec.specs.Numbers.{CNAME, DS}
 use Rattle.dsec_spec.specs.Records.{Record, Key, ds_of}
 use Rattle.dsec_spec.specs.Trying.{Tried, good, nothing, all_bad, too_many_bad, checked}
 use Rattle.dsec_group.specs.Checks.{cause_of}
 use Rattle.dsec_nodes.specs.ByDs.{Below, Pending, made, asks, by_alias, by_ds_set, by_ds_reply, by_signed_ds, if_one, is_supported, is_usable, pending_by, usable, without_ds}
-use Rattle.dsec_nodes.specs.Causes.{Cause, NoProofForMissingDs, NoSupportedDs, NotBuilt}
+use Rattle.dsec_nodes.specs.Causes.{Cause, NoProofForMissingDs, NoSupportedDs}
 use Rattle.dsec_nodes.specs.Held.{BelowKept, IsPending}
-use Rattle.dsec_nodes.specs.MissingDs.{Looked, decided, passed, bogus_at, by_looked, insecure_by, missing_ds, nsec_search, nsec3_search, then_looked, within_by}
+use Rattle.dsec_nodes.specs.MissingDs.{decided, passed, bogus_at, by_looked, insecure_by, looked_for, missing_ds, within_by}
 use Rattle.dsec_nodes.specs.Nodes.{Node, Kept, apex, ds_not_supported}
 use Rattle.dsec_nodes.specs.Replies.{Reply, sections}
 use Rattle.dsec_nodes.specs.Signing.{is_expanded, is_set_at, kept_for, keys_of, link_under, under_keys}
@@ -29,7 +29,7 @@ use Rattle.dsec_nodes.proofs.Signs.{from_under}
 use Rattle.dsec_denial.specs.Findings.{StandsAt}
 use Rattle.dsec_denial.specs.declared.finding.SignedAt.{SignedAt}
 use Rattle.dsec_denial.proofs.SearchSteps.{read_there}
-use Rattle.dsec_child.specs.Belows.{IsZoneAbove, is_usable_ds, missing_cause}
+use Rattle.dsec_child.specs.Belows.{IsZoneAbove, is_usable_ds}
 use Rattle.dsec_child.specs.SignedSets.{IsPairAt}
 use Rattle.dsec_child.specs.declared.signed_set.SignedBy.{SignedBy}
 
@@ -181,22 +181,14 @@ module _ (w : World) (zone : Node) (keys : List (List ℕ)) (name : Place) (grou
 
 -- a reply without a DS set that counts
 module _ (w : World) (zone : Node) (keys : List (List ℕ)) (name : Place) (groups : List Group) where
-  abbrev looking : Looked → Node
-  looking looked = by_looked w name (then_looked looked (nsec3_search w zone keys name groups))
+  pub missing_decided : (n : Node) → looked_for w zone keys name groups ≡ decided n → n ≡ missing_ds w zone keys name groups
+  missing_decided n e = ap (by_looked w name) (sym e)
 
-  pub missing_decided : (n : Node) → nsec_search w zone keys name groups ≡ decided n → n ≡ missing_ds w zone keys name groups
-  missing_decided n e = ap looking (sym e)
+  pub missing_passed : (cause : Option Cause) → looked_for w zone keys name groups ≡ passed cause → bogus_at w name (unwrap_or cause NoProofForMissingDs) ≡ missing_ds w zone keys name groups
+  missing_passed None e = ap (by_looked w name) (sym e)
+  missing_passed (Some cause) e = ap (by_looked w name) (sym e)
 
-  pub missing_passed : (cause : Option Cause) → nsec_search w zone keys name groups ≡ passed cause → bogus_at w name (missing_cause cause groups) ≡ missing_ds w zone keys name groups
-  missing_passed cause e = go (list_any (λ (g : Group). g.rtype == NSEC3) groups) cause ∙ ap looking (sym e)
-    where
-      go : (b : Bool) (c : Option Cause) → bogus_at w name (cond b NotBuilt (unwrap_or c NoProofForMissingDs)) ≡ by_looked w name (then_looked (passed c) (cond b (decided (bogus_at w name NotBuilt)) (passed None)))
-      go true None = refl
-      go true (Some c) = refl
-      go false None = refl
-      go false (Some c) = refl
-
-  pub decided_kept : (said : List Key) → IsZoneAbove w zone keys said name → (n : Node) → nsec_search w zone keys name groups ≡ decided n → Kept w.accepts n
+  pub decided_kept : (said : List Key) → IsZoneAbove w zone keys said name → (n : Node) → looked_for w zone keys name groups ≡ decided n → Kept w.accepts n
   decided_kept said above n e = subst (Kept w.accepts) (sym (missing_decided n e)) (missing_kept w zone keys name groups above.is_held above.below).0
 
 -- a signed DS set, by its parts

@@ -8,8 +8,11 @@ use Rattle.dsec_spec.specs.Reading.{◌>>=◌, u16_in, u16_at}
 use Rattle.dsec_spec.specs.Records.{Record}
 use Rattle.dsec_spec.proofs.ReadingLemmas.{from_bind}
 use Rattle.dsec_wire.specs.declared.sections.Sections.{Sections}
-use Rattle.dsec_wire.specs.MessageSections.{sections_of, sections_and_place}
+use Rattle.dsec_wire.specs.MessageSections.{SectionsRead, sections_of, sections_and_place}
 use Rattle.dsec_wire.proofs.SectionReading.{authorities_none}
+use Rattle.dsec_group.specs.Reading.{GroupsRead, groups_and_place}
+use Rattle.dsec_group.specs.declared.sections.GroupedSections.{GroupedSections}
+use Rattle.dsec_group.proofs.ReadingLaws.{from_groups, no_groups}
 use Rattle.dsec_nodes.specs.Replies.{unreadable, sections, sections_by, read_reply}
 
 -- the sections that were read are those of the reply
@@ -35,22 +38,25 @@ are_read octets all e =
     }
 
 -- a reply whose sections are readable
-pub by_sections : (octets : List ℕ) (all : Sections) → sections_of octets ≡ Some all → sections (groups_of all.answer) (groups_of all.authority) ≡ read_reply (Some octets)
+by_sections : (octets : List ℕ) (all : Sections) → sections_of octets ≡ Some all → sections (groups_of all.answer) (groups_of all.authority) ≡ read_reply (Some octets)
 by_sections octets all e =
     let read = are_read octets all e in
     sym (ap (λ (o : Option (List Record × ℕ)). sections_by (o >>= λ authorities. answers_of octets >>= λ answers. Some (answers.0, authorities.0))) read.authorities
     ∙ ap (λ (o : Option (List Record × ℕ)). sections_by (o >>= λ answers. Some (answers.0, all.authority))) read.answers)
 
+-- the same by its groups
+pub by_groups : (octets : List ℕ) (read : GroupsRead) → groups_and_place octets ≡ Some read → sections read.0.answer read.0.authority ≡ read_reply (Some octets)
+by_groups octets read e =
+    let has = from_groups octets read e in
+    ap (λ (g : GroupedSections). sections g.answer g.authority) has.grouped
+    ∙ by_sections octets has.sections (ap (λ (o : Option SectionsRead). ◌>>=◌ {A = SectionsRead} {B = Sections} o (λ all. Some all.0)) has.whole)
+
 no_authorities : (octets : List ℕ) → authorities_of octets ≡ None → unreadable ≡ read_reply (Some octets)
 no_authorities octets e = sym (ap (λ (o : Option (List Record × ℕ)). sections_by (o >>= λ authorities. answers_of octets >>= λ answers. Some (answers.0, authorities.0))) e)
 
 -- one without readable sections
-pub without_sections : (octets : List ℕ) → sections_of octets ≡ None → unreadable ≡ read_reply (Some octets)
-without_sections octets e = no_authorities octets (authorities_none octets (by (sections_and_place octets) refl e))
-  where
-    by : (o : Option (Sections × ℕ)) → sections_and_place octets ≡ o → (o >>= λ all. Some all.0) ≡ None → sections_and_place octets ≡ None
-    by None f g = f
-    by (Some s) f g = absurd cc
+pub without_groups : (octets : List ℕ) → groups_and_place octets ≡ None → unreadable ≡ read_reply (Some octets)
+without_groups octets e = no_authorities octets (authorities_none octets (no_groups octets e))
 
 -- one shorter than a header
 header_read : (m : List ℕ) (x : List Record × ℕ) → authorities_of m ≡ Some x → (h : Header) × (header_of m ≡ Some h)

@@ -1,15 +1,12 @@
 -- What the code finds of a name below a zone, in the words of nodes (RFC 4035 5.2).
-use Rattle.std.specs.Prelude.{◌≡◌, ℕ, ◌+◌, ◌≤◌, ◌==◌, List, length, Bool, Option, Some, None, unwrap_or, if◌then◌else◌}
-use Rattle.std.specs.List.{list_any}
+use Rattle.std.specs.Prelude.{◌≡◌, ℕ, ◌+◌, ◌≤◌, List, length, Bool, Option, Some, None}
 use Rattle.dsec_spec.specs.Groups.{Group}
 use Rattle.dsec_spec.specs.Names.{Place, IsStrictlyBelow}
-use Rattle.dsec_spec.specs.Numbers.{NSEC3}
 use Rattle.dsec_spec.specs.Records.{Record, Key}
 use Rattle.dsec_wire.specs.DataViews.{ds_in}
 use Rattle.dsec_wire.specs.TypedData.{data_of}
 use Rattle.dsec_nodes.specs.ByDs as nodes
 use Rattle.dsec_nodes.specs.ByDs.{is_supported}
-use Rattle.dsec_nodes.specs.Causes.{Cause, NoProofForMissingDs, NotBuilt}
 use Rattle.dsec_nodes.specs.Held.{HeldZone}
 use Rattle.dsec_nodes.specs.Nodes.{Node, apex}
 use Rattle.dsec_nodes.specs.Replies.{Reply, failed, unreadable, sections}
@@ -45,10 +42,6 @@ or_node None otherwise = nodes.made otherwise
 -- whether a record is a DS record that can be used
 abbrev pub is_usable_ds : Record → Bool
 is_usable_ds one = is_supported (ds_in (data_of one))
-
--- why nothing is shown by NSEC records, where groups of NSEC3 are there or not
-abbrev pub missing_cause : Option Cause → List Group → Cause
-missing_cause cause groups = if list_any (λ g. g.rtype == NSEC3) groups then NotBuilt else unwrap_or cause NoProofForMissingDs
 
 -- how many sets of a reply are checked at most: a DS set, a CNAME set, and each set of its authority section (RFC 4035 5.2)
 abbrev pub most_checked : Reply → ℕ

@@ -1,33 +1,31 @@
-//! A name without a DS set that counts, by the NSEC records of a reply (RFC 4035 5.2).
+//! A name without a DS set that counts, by the NSEC and NSEC3 records of a reply (RFC 4035 5.2, RFC 5155 8.9).
 
-ghost use Rattle.std.specs.Prelude.{◌≡◌, ◌≤◌, ◌+◌, ◌*◌, ◌==◌, [], IfOk, length, map};
-ghost use Rattle.std.specs.List.{list_any};
+ghost use Rattle.std.specs.Prelude.{◌≡◌, ◌≤◌, ◌+◌, ◌*◌, [], IfOk, length, map, unwrap_or};
 ghost use Rattle.dsec_spec.specs.Names.{place};
-ghost use Rattle.dsec_spec.specs.Numbers.{NSEC3};
 ghost use Rattle.dsec_spec.specs.Records as records;
 ghost use Rattle.dsec_link.specs.TaggedKeys.{tagged_view};
-ghost use Rattle.dsec_nodes.specs.MissingDs.{insecure_by, missing_ds, nsec_search, within_by};
+ghost use Rattle.dsec_nodes.specs.Causes.{NoProofForMissingDs};
+ghost use Rattle.dsec_nodes.specs.MissingDs.{insecure_by, looked_for, missing_ds, within_by};
 ghost use Rattle.dsec_nodes.specs.Nodes.{Kept};
 ghost use Rattle.dsec_node.specs.Views.{bounds_of, ground_view, world_of};
 ghost use Rattle.dsec_denial.specs.Findings.{AreThere, Finds};
-ghost use Rattle.dsec_child.specs.Belows.{IsZoneAbove, missing_cause};
+ghost use Rattle.dsec_child.specs.Belows.{IsZoneAbove};
 ghost use Rattle.dsec_child.specs.SignedSets.{IsPairAt};
 
 use crate::island::bogus;
 use crate::signed_set::SignedBy;
 use dsec_cause::Cause;
 use dsec_crypto::Verifier;
-use dsec_denial::{NsecFinding, nsec_for_missing_ds};
+use dsec_denial::{DsFinding, denials_for_missing_ds};
 use dsec_group::{Group, Memo, Steps};
 use dsec_link::TaggedKey;
 use dsec_name::{Name, NoMemory};
 use dsec_node::{Config, Ground, Keys, Node, insecure_node, within_node};
-use dsec_number::{Rtype, Timestamp};
+use dsec_number::Timestamp;
 use std::alloc::Global;
 use std::sync::ledger::Ledger;
 
-/// The node of a name, by the groups of a reply's authority section. Judging by NSEC3 records is left out: where they are, and no NSEC
-/// record decides, the name is bogus with a cause of its own.
+/// The node of a name, by the groups of a reply's authority section: by NSEC records, and where none decides, by NSEC3 records.
 pub(crate) fn missing<V: Verifier, L: Ledger>(
     alloc: Global,
     config: &Config,
@@ -48,13 +46,13 @@ pub(crate) fn missing<V: Verifier, L: Ledger>(
     let t = Timestamp::from_seconds(now);
     let limits = config.limits();
     let apex = zone.signer_name();
-    let found = nsec_for_missing_ds::<V, L>(
+    let found = denials_for_missing_ds::<V, L>(
         alloc, groups, name, apex, said, &limits, t, memo, steps,
     )?;
     by_finding(alloc, config, now, zone, keys, said, name, groups, found)
 }
 
-/// The same, by what the NSEC records show.
+/// The same, by what the records show.
 fn by_finding<V: Verifier>(
     alloc: Global,
     config: &Config,
@@ -64,16 +62,16 @@ fn by_finding<V: Verifier>(
     said: &[TaggedKey<'_>],
     name: &Name,
     groups: &[Group],
-    found: NsecFinding,
+    found: DsFinding,
 ) -> Result<Node<V>, NoMemory>
     requires above { IsZoneAbove (world_of V.accepts [] (bounds_of config.now) now) zone.now keys.now (map tagged_view said.now) (place name.now) }
     requires there { AreThere groups.now (map tagged_view said.now) found }
     requires finds { Finds (world_of V.accepts [] (bounds_of config.now) now) zone.now keys.now (place name.now) groups.now (map tagged_view said.now) found
-        (nsec_search (world_of V.accepts [] (bounds_of config.now) now) zone.now keys.now (place name.now) groups.now) }
+        (looked_for (world_of V.accepts [] (bounds_of config.now) now) zone.now keys.now (place name.now) groups.now) }
     ensures { IfOk result (λ n. n ≡ missing_ds (world_of V.accepts [] (bounds_of config.now) now) zone.now keys.now (place name.now) groups.now) }
 {
     match found {
-        NsecFinding::Within(at) => {
+        DsFinding::Within(at) => {
             let by = SignedBy {
                 signature: at.signature,
                 key: at.key,
@@ -81,42 +79,32 @@ fn by_finding<V: Verifier>(
             let group = &groups[at.group];
             within(alloc, config, now, zone, keys, said, name, group, by)
         }
-        NsecFinding::Insecure(at) => {
+        DsFinding::Insecure(at, basis, cause) => {
             let by = SignedBy {
                 signature: at.signature,
                 key: at.key,
             };
-            let basis = Ground::NsecWithoutDs;
             let group = &groups[at.group];
             insecure(
-                alloc, config, now, zone, keys, said, name, None, basis, group, by,
+                alloc, config, now, zone, keys, said, name, cause, basis, group, by,
             )
         }
-        NsecFinding::Bogus(cause) => bogus(alloc, config, now, name, cause),
-        NsecFinding::Passed(cause) => {
-            bogus(alloc, config, now, name, cause_among(cause, groups))
+        DsFinding::Bogus(cause) => bogus(alloc, config, now, name, cause),
+        DsFinding::Passed(cause) => {
+            let told = cause_left(cause);
+            bogus(alloc, config, now, name, told)
         }
     }
 }
 
-/// Why nothing is shown of a name, by the cause that NSEC records leave.
-fn cause_among(cause: Option<Cause>, groups: &[Group]) -> Cause
-    ensures { result ≡ missing_cause cause groups.now }
+/// Why nothing is shown of a name, by the cause that is left.
+fn cause_left(cause: Option<Cause>) -> Cause
+    ensures { result ≡ unwrap_or cause NoProofForMissingDs }
 {
-    if has_nsec3(groups) {
-        return Cause::NotBuilt;
-    }
     match cause {
         Some(cause) => cause,
         None => Cause::NoProofForMissingDs,
     }
-}
-
-/// Whether one of the groups is of type NSEC3, whatever its class.
-fn has_nsec3(groups: &[Group]) -> bool
-    ensures { result ≡ list_any (λ g. g.rtype == NSEC3) groups.now }
-{
-    groups.iter().any(|group| group.rtype() == Rtype::NSEC3)
 }
 
 /// The node of a name within the zone: by a group of the zone that shows it, and the pair at these indexes.

@@ -3,17 +3,15 @@
 ghost use Rattle.std.specs.Prelude.{◌≡◌, IfOk, IfSome, find, true};
 ghost use Rattle.std.specs.Option.{option_map};
 ghost use Rattle.dsec_spec.specs.Names.{place};
-ghost use Rattle.dsec_spec.specs.Groups.{groups_of};
-ghost use Rattle.dsec_nodes.specs.Replies as nodes;
 ghost use Rattle.dsec_nodes.specs.Replies.{read_reply as reply_of};
 ghost use Rattle.dsec_nodes.specs.Signing.{is_set_at as set_is_at};
 ghost use Rattle.dsec_child.specs.Replied.{reply_view};
 
 use crate::way::is_same;
-use dsec_group::{Group, GroupSet, Seed, groups};
+use dsec_group::{Group, GroupSet, Seed, read_groups};
 use dsec_name::{Name, NoMemory};
 use dsec_number::{Class, Rtype};
-use dsec_wire::{Message, MessageError, Sections};
+use dsec_wire::{Message, MessageError};
 use std::alloc::Global;
 
 /// What a question brought.
@@ -37,20 +35,11 @@ pub(crate) fn read_reply(alloc: Global, reply: Option<Vec<u8>>) -> Result<Reply,
     let Ok(message) = Message::from_octets(octets) else {
         return Ok(Reply::Unreadable);
     };
-    match message.sections(alloc) {
-        Ok(sections) => in_groups(alloc, sections, Seed::of_message(&message)),
+    match read_groups(alloc, &message, Seed::of_message(&message)) {
+        Ok((sections, _)) => Ok(Reply::Sections(sections.answer, sections.authority)),
         Err(MessageError::ParseError) => Ok(Reply::Unreadable),
         Err(MessageError::NoMemory) => Err(NoMemory),
     }
-}
-
-/// The groups of the sections.
-fn in_groups(alloc: Global, sections: Sections, seed: Seed) -> Result<Reply, NoMemory>
-    ensures { IfOk result (λ it. reply_view it ≡ nodes.sections (groups_of sections.answer) (groups_of sections.authority)) }
-{
-    let answers = groups(alloc, sections.answer, seed)?;
-    let authorities = groups(alloc, sections.authority, seed)?;
-    Ok(Reply::Sections(answers, authorities))
 }
 
 /// The first of these groups that is the set of class IN of a type at a name.

@@ -2,6 +2,7 @@
 use Rattle.std.proofs.Common.{◌≡◌, ℕ, ◌+◌, ◌<◌, Bool, true, false, cond, List, [], ◌∷◌, ◌++◌, length, take, get_or, Option, Some, None, refl, sym, ap, ◌∙◌, append_assoc, subst}
 use Rattle.std.proofs.lemmas.List.{take_more}
 use Rattle.std.specs.Prelude.{unwrap_or, Result, Ok, Err}
+use Rattle.std.specs.Bool.{OnFalse}
 use Rattle.std.specs.List.{list_any}
 use Rattle.std.specs.Option.{option_map}
 use Rattle.dsec_spec.specs.Reading.{◌>>=◌}
@@ -16,7 +17,14 @@ use Rattle.dsec_course.specs.Advancing.{beginning, begun, begun_by, begun_with}
 use Rattle.dsec_core.specs.Progress.{MovesOrEnds, read_as}
 use Rattle.dsec_cause.specs.declared.cause.Cause.{Cause}
 use Rattle.dsec_cause.specs.declared.cause.Cause.TheVariants.{NotBuilt, TooManyUnsignedCnames}
+use Rattle.dsec_course.proofs.BeginningLaws.{unreadable_refused}
+use Rattle.dsec_found.specs.Errors.{error_of, wants_memory}
+use Rattle.dsec_group.specs.Reading.{groups_and_place}
+use Rattle.dsec_group.proofs.ReadingLaws.{no_groups}
 use Rattle.dsec_wire.specs.MessageSections as wire
+use Rattle.dsec_wire.specs.Errors.{wants_memory as read_wants_memory}
+use Rattle.dsec_wire.specs.declared.error.MessageError.{MessageError}
+use Rattle.dsec_wire.specs.declared.error.MessageError.TheVariants.{NoMemory, ParseError}
 use Rattle.dsec_wire.specs.declared.sections.Sections.{Sections}
 
 -- the three sections as they are read, by name
@@ -65,6 +73,13 @@ pub begun_read : (most : ℕ) (message octets : List ℕ) (s : Sections) (c : Co
 begun_read most message octets s c same read h =
     ap read_as (ap (begun_by most message) (sections_same message ∙ ap (option_map parts) read)
     ∙ (ap (λ (m : List ℕ). begun_by most m (Some (parts s))) (sym same) ∙ sym h))
+
+-- a message that can't be read
+pub refused : (most : ℕ) (message : List ℕ) (e : MessageError) → OnFalse (read_wants_memory e) (groups_and_place message ≡ None) → OnFalse (wants_memory (error_of e)) (read_as (begun most message) ≡ Err (error_of e))
+refused most message NoMemory h = tt
+refused most message ParseError h =
+    let none : wire.sections_of message ≡ None = ap by_name (no_groups message h) in
+    ap read_as (unreadable_refused most message (sections_same message ∙ ap (option_map parts) none))
 
 -- with the code's word for a refusal it is the same where there is none
 pub read_so : (r : Result Course Refusal) (c : Course) → read_as r ≡ Ok c → r ≡ Ok c

@@ -49,6 +49,7 @@ w = record {
     max_keys_for_ds = 4;
     iterations_insecure = 100;
     iterations_bogus = 500;
+    most_hashes = 60;
   };
   now = 500;
 }

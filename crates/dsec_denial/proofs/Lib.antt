@@ -4,3 +4,5 @@ pub mod ExpansionSteps
 pub mod RangeLaws
 pub mod DelegationLaws
 pub mod SearchSteps
+pub mod OwnerLaws
+pub mod BearingSteps

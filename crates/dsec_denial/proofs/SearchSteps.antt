@@ -1,28 +1,33 @@
 -- The search of groups, step by step.
-use Rattle.std.proofs.Common.{◌≡◌, ℕ, zero, suc, get_or, ◌+◌, ◌*◌, ◌<◌, ◌≤◌, arith, mul-le-mul_right, List, [], ◌∷◌, length, drop, Option, Some, None, refl, sym, ap, ◌∙◌}
-use Rattle.std.specs.Prelude.{slice_get}
+use Rattle.std.proofs.Common.{◌≡◌, ℕ, zero, suc, get_or, ◌+◌, ◌*◌, ◌==◌, ◌<◌, ◌≤◌, arith, mul-le-mul_right, Bool, true, false, cond, List, [], ◌∷◌, length, drop, Option, Some, None, refl, sym, ap, ◌∙◌}
+use Rattle.std.specs.Prelude.{filter, slice_get, Ok}
 use Rattle.std.specs.Option.{option_or}
+use Rattle.std.proofs.lemmas.Bool.{eq-eqb, eqb-true}
 use Rattle.std.proofs.lemmas.List.{drop_all}
 use Rattle.std.proofs.lemmas.Option.{same_Some}
 use Rattle.dsec_spec.specs.Names.{Place}
 use Rattle.dsec_spec.specs.Accepts.{Accepts}
+use Rattle.dsec_spec.specs.Numbers.{NSEC, NSEC3}
 use Rattle.dsec_spec.specs.Records.{Record, Key}
 use Rattle.dsec_spec.specs.Groups.{Group}
 use Rattle.dsec_spec.specs.Trying.{Tried, good, nothing, all_bad, too_many_bad, checked}
 use Rattle.dsec_cause.specs.declared.cause.Cause.{Cause}
 use Rattle.dsec_group.specs.declared.check.KeyCheck.{KeyCheck}
-use Rattle.dsec_group.specs.Checks.{IsCheck}
+use Rattle.dsec_group.specs.Checks.{IsCheck, cause_of}
 use Rattle.dsec_nodes.specs.World.{World, moment}
-use Rattle.dsec_nodes.specs.Nodes.{Node, nsec_without_ds}
+use Rattle.dsec_nodes.specs.Nodes.{Node}
+use Rattle.dsec_nodes.specs.Causes.{NoSignature, BadSignature, TooManyBadSignatures}
+use Rattle.dsec_node.specs.Views.{ground_view}
 use Rattle.dsec_nodes.specs.Signing.{keys_of, under_keys}
-use Rattle.dsec_nodes.specs.MissingDs.{Looked, decided, passed, bogus_at, within_by, insecure_by, if_signed, then_looked, by_group, nsec_search}
-use Rattle.dsec_denial.specs.Findings.{AreThere, Finds, GoesBy, StandsAt}
-use Rattle.dsec_denial.specs.Reading.{by_reading, decided_by, placed_at, signed_by}
+use Rattle.dsec_nodes.specs.MissingDs.{Looked, decided, passed, bogus_at, within_by, insecure_by, if_signed, then_looked, looked_among}
+use Rattle.dsec_denial.specs.Findings.{AreThere, Finds, GoesBy, IsTried, StandsAt, how_many, then_found}
+use Rattle.dsec_denial.specs.Reading.{bears, by_reading, decided_by, placed_at, signed_by}
 use Rattle.dsec_denial.specs.declared.decision.Decision.{Decision}
 use Rattle.dsec_denial.specs.declared.decision.Decision.TheVariants.{Within, Insecure, Bogus, Passed}
-use Rattle.dsec_denial.specs.declared.finding.NsecFinding.{NsecFinding}
-use Rattle.dsec_denial.specs.declared.finding.NsecFinding.TheVariants as Finding
+use Rattle.dsec_denial.specs.declared.finding.DsFinding.{DsFinding}
+use Rattle.dsec_denial.specs.declared.finding.DsFinding.TheVariants as Finding
 use Rattle.dsec_denial.specs.declared.finding.SignedAt.{SignedAt}
+use Rattle.dsec_denial.specs.declared.pair.Pair.{Pair}
 use Rattle.dsec_denial.specs.declared.reading.Reading.{Reading}
 use Rattle.dsec_denial.specs.declared.reading.Reading.TheVariants.{Nothing, At, Above, Around}
 
@@ -56,34 +61,32 @@ tried_is accepts apex keys room t w zone datas group by =
     ∙ (ap (λ (n : ℕ). checked accepts group apex keys n (moment w)) by.bound
     ∙ ap (checked accepts group apex keys room) by.at)))
 
--- a check with a cause
-by_cause : (g : Group) (ks : List Key) (check : KeyCheck) (cause : Cause) (tried : Tried (Record × Key)) (w : World) (name : Place) (shows : Record × Key → Looked)
-    → IsCheck g ks check tried → check.cause ≡ Some cause → decided (bogus_at w name cause) ≡ if_signed w name tried shows
-by_cause g ks check cause (good p) w name shows is e = absurd (let n = sym is.cause ∙ e in cc)
-by_cause g ks check cause nothing w name shows is e = ap (λ (c : Cause). decided (bogus_at w name c)) (sym (same_Some _ cause (sym is.cause ∙ e)))
-by_cause g ks check cause all_bad w name shows is e = ap (λ (c : Cause). decided (bogus_at w name c)) (sym (same_Some _ cause (sym is.cause ∙ e)))
-by_cause g ks check cause too_many_bad w name shows is e = ap (λ (c : Cause). decided (bogus_at w name c)) (sym (same_Some _ cause (sym is.cause ∙ e)))
-
--- the pair at these indexes is good
-pub record GoodPair (g : Group) (ks : List Key) (i j : ℕ) (tried : Tried (Record × Key)) : Type 0 where
-  pub p : Record × Key
-  pub there : slice_get g.signatures i ≡ Some p.0
-  pub key_there : slice_get ks j ≡ Some p.1
-  pub is : tried ≡ good p
+-- where no pair is good, the name is bogus with the cause
+pub refused_by : (tried : Tried (Record × Key)) (cause : Cause) (w : World) (name : Place) (shows : Record × Key → Looked) → cause_of tried ≡ Some cause
+    → if_signed w name tried shows ≡ decided (bogus_at w name cause)
+refused_by (good p) cause w name shows e = absurd cc
+refused_by nothing cause w name shows e = ap (λ (c : Cause). decided (bogus_at w name c)) (same_Some NoSignature cause e)
+refused_by all_bad cause w name shows e = ap (λ (c : Cause). decided (bogus_at w name c)) (same_Some BadSignature cause e)
+refused_by too_many_bad cause w name shows e = ap (λ (c : Cause). decided (bogus_at w name c)) (same_Some TooManyBadSignatures cause e)
 
 -- a check with indexes found the pair there
-pub by_good : (g : Group) (ks : List Key) (check : KeyCheck) (i j : ℕ) (tried : Tried (Record × Key)) → IsCheck g ks check tried → check.signature ≡ Some i → check.key ≡ Some j → GoodPair g ks i j tried
+pub by_good : (g : Group) (ks : List Key) (check : KeyCheck) (i j : ℕ) (tried : Tried (Record × Key)) → IsCheck g ks check tried → check.signature ≡ Some i → check.key ≡ Some j
+    → IsTried g ks tried (Ok (record { signature = i; key = j }))
 by_good g ks check i j (good p) is e f =
-    let at = is.indexes in
-    record {
-      p = p;
-      there = ap (slice_get g.signatures) (sym (same_Some _ _ (sym at.2 ∙ e))) ∙ at.4;
-      key_there = ap (slice_get ks) (sym (same_Some _ _ (sym at.3 ∙ f))) ∙ at.5;
-      is = refl;
-    }
+    let at = is.indexes in (
+      p,
+      refl,
+      ap (slice_get g.signatures) (sym (same_Some _ _ (sym at.2 ∙ e))) ∙ at.4,
+      ap (slice_get ks) (sym (same_Some _ _ (sym at.3 ∙ f))) ∙ at.5,
+    )
 by_good g ks check i j nothing is e f = absurd (let n = sym is.indexes.0 ∙ e in cc)
 by_good g ks check i j all_bad is e f = absurd (let n = sym is.indexes.0 ∙ e in cc)
 by_good g ks check i j too_many_bad is e f = absurd (let n = sym is.indexes.0 ∙ e in cc)
+
+-- the pair of a signature and a key stands with its group
+pub pair_stands : (groups : List Group) (keys : List Key) (index : ℕ) (g : Group) (pair : Pair) (tried : Tried (Record × Key)) → slice_get groups index ≡ Some g → (t : IsTried g keys tried (Ok pair))
+    → StandsAt groups keys (record { group = index; signature = pair.signature; key = pair.key }) g t.0
+pair_stands groups keys index g pair tried here t = record { group_there = here; signature_there = t.2; key_there = t.3 }
 
 -- one group and one pair stand at indexes
 one_there : (groups : List Group) (keys : List Key) (at : SignedAt) (g h : Group) (p q : Record × Key) → StandsAt groups keys at g p → StandsAt groups keys at h q → (g ≡ h) × (p ≡ q)
@@ -96,7 +99,7 @@ one_there groups keys at g h p q s t =
 -- a decision's indexes are there
 pub placed_there : (groups : List Group) (keys : List Key) (at : SignedAt) (g : Group) (p : Record × Key) → StandsAt groups keys at g p → (d : Decision) → AreThere groups keys (placed_at at d)
 placed_there groups keys at g p s Within = (g, p, s)
-placed_there groups keys at g p s Insecure = (g, p, s)
+placed_there groups keys at g p s (Insecure basis cause) = (g, p, s)
 placed_there groups keys at g p s (Bogus cause) = tt
 placed_there groups keys at g p s (Passed cause) = tt
 
@@ -106,80 +109,72 @@ module _ (w : World) (zone : Node) (datas : List (List ℕ)) (name : Place) (gro
   placed_finds Within looked e = λ h q t.
       let one = one_there groups keys at g h p q s t in
       e ∙ (ap (λ (x : Group). decided (within_by w zone datas name x p)) one.0 ∙ ap (λ (x : Record × Key). decided (within_by w zone datas name h x)) one.1)
-  placed_finds Insecure looked e = λ h q t.
+  placed_finds (Insecure basis cause) looked e = λ h q t.
       let one = one_there groups keys at g h p q s t in
-      e ∙ (ap (λ (x : Group). decided (insecure_by w zone datas name None nsec_without_ds x p)) one.0
-      ∙ ap (λ (x : Record × Key). decided (insecure_by w zone datas name None nsec_without_ds h x)) one.1)
+      e ∙ (ap (λ (x : Group). decided (insecure_by w zone datas name cause (ground_view basis) x p)) one.0
+      ∙ ap (λ (x : Record × Key). decided (insecure_by w zone datas name cause (ground_view basis) h x)) one.1)
   placed_finds (Bogus cause) looked e = e
   placed_finds (Passed cause) looked e = e
 
--- a reading of a group that a pair signs
-reading_good : (w : World) (zone : Node) (datas : List (List ℕ)) (name : Place) (g : Group) (p : Record × Key) (reading : Reading)
-    → by_reading w zone datas name g (good p) reading ≡ signed_by w zone datas name g reading p
-reading_good w zone datas name g p (Nothing cause) = refl
-reading_good w zone datas name g p (At nsec) = refl
-reading_good w zone datas name g p (Above nsec is_empty) = refl
-reading_good w zone datas name g p Around = refl
+-- a reading that bears on the name asks for the group's signatures
+pub reading_asks : (w : World) (zone : Node) (datas : List (List ℕ)) (name : Place) (g : Group) (tried : Tried (Record × Key)) (reading : Reading)
+    → ((c : Option Cause) → reading ≡ Nothing c → ⊥) → by_reading w zone datas name g tried reading ≡ if_signed w name tried (signed_by w zone datas name g reading)
+reading_asks w zone datas name g tried (Nothing cause) some = absurd (some cause refl)
+reading_asks w zone datas name g tried (At nsec) some = refl
+reading_asks w zone datas name g tried (Above nsec is_empty) some = refl
+reading_asks w zone datas name g tried Around some = refl
 
--- what a group shows that a good pair signs
-pub signed_is : (w : World) (zone : Node) (datas : List (List ℕ)) (name : Place) (g : Group) (signature : Record) (p : Record × Key) (tried : Tried (Record × Key)) (reading : Reading) (d : Decision)
-    → tried ≡ good p → p.0 ≡ signature → under_keys w zone.signer datas g ≡ tried
-    → by_reading w zone datas name g (under_keys w zone.signer datas g) reading ≡ by_group w zone datas name g
-    → ((key : Key) → decided_by w zone datas name g (signature, key) d ≡ signed_by w zone datas name g reading (signature, key))
-    → by_group w zone datas name g ≡ decided_by w zone datas name g p d
-signed_is w zone datas name g signature p tried reading d is same under read decides =
+pub reading_bears : (reading : Reading) → ((c : Option Cause) → reading ≡ Nothing c → ⊥) → bears reading ≡ true
+reading_bears (Nothing cause) some = absurd (some cause refl)
+reading_bears (At nsec) some = refl
+reading_bears (Above nsec is_empty) some = refl
+reading_bears Around some = refl
+
+-- what a group shows by its signatures, where a good pair signs it
+pub signed_is : (w : World) (zone : Node) (datas : List (List ℕ)) (name : Place) (g : Group) (signature : Record) (p : Record × Key) (tried under : Tried (Record × Key)) (d : Decision)
+    (whole : Looked) (shows : Record × Key → Looked) → tried ≡ good p → p.0 ≡ signature → under ≡ tried → if_signed w name under shows ≡ whole
+    → ((key : Key) → decided_by w zone datas name g (signature, key) d ≡ shows (signature, key)) → whole ≡ decided_by w zone datas name g p d
+signed_is w zone datas name g signature p tried under d whole shows is same asked by decides =
     let pair : p ≡ (signature, p.1) = ap (λ (r : Record). (r, p.1)) same in
-    sym read ∙ (ap (λ (x : Tried (Record × Key)). by_reading w zone datas name g x reading) (under ∙ is)
-    ∙ (reading_good w zone datas name g p reading
-    ∙ (ap (signed_by w zone datas name g reading) pair
-    ∙ (sym (decides p.1) ∙ ap (λ (x : Record × Key). decided_by w zone datas name g x d) (sym pair)))))
+    sym by ∙ (ap (λ (x : Tried (Record × Key)). if_signed w name x shows) (asked ∙ is)
+    ∙ (ap shows pair ∙ (sym (decides p.1) ∙ ap (λ (x : Record × Key). decided_by w zone datas name g x d) (sym pair))))
 
--- what a group shows that no pair signs
-pub refused_is : (w : World) (zone : Node) (datas : List (List ℕ)) (name : Place) (g : Group) (ks : List Key) (check : KeyCheck) (cause : Cause) (tried : Tried (Record × Key)) (reading : Reading)
-    → IsCheck g ks check tried → check.cause ≡ Some cause → under_keys w zone.signer datas g ≡ tried → ((c : Option Cause) → reading ≡ Nothing c → ⊥)
-    → by_reading w zone datas name g (under_keys w zone.signer datas g) reading ≡ by_group w zone datas name g
-    → by_group w zone datas name g ≡ decided (bogus_at w name cause)
-refused_is w zone datas name g ks check cause tried reading is e under some read =
-    sym read ∙ (ap (λ (x : Tried (Record × Key)). by_reading w zone datas name g x reading) under ∙ by reading some)
-  where
-    by : (r : Reading) → ((c : Option Cause) → r ≡ Nothing c → ⊥) → by_reading w zone datas name g tried r ≡ decided (bogus_at w name cause)
-    by (Nothing c) none = absurd (none c refl)
-    by (At nsec) none = sym (by_cause g ks check cause tried w name _ is e)
-    by (Above nsec is_empty) none = sym (by_cause g ks check cause tried w name _ is e)
-    by Around none = sym (by_cause g ks check cause tried w name _ is e)
+-- and where none does
+pub refused_is : (w : World) (name : Place) (cause : Cause) (tried under : Tried (Record × Key)) (whole : Looked) (shows : Record × Key → Looked) → cause_of tried ≡ Some cause → under ≡ tried
+    → if_signed w name under shows ≡ whole → whole ≡ decided (bogus_at w name cause)
+refused_is w name cause tried under whole shows e asked by =
+    sym by ∙ (ap (λ (x : Tried (Record × Key)). if_signed w name x shows) asked ∙ refused_by tried cause w name shows e)
 
--- the search from a group on
-module _ (w : World) (zone : Node) (datas : List (List ℕ)) (name : Place) (groups : List Group) (i : ℕ) (g : Group) (there : drop i groups ≡ g ∷ drop (i + 1) groups) (last : Option Cause)
-    (so_far : then_looked (passed last) (nsec_search w zone datas name (drop i groups)) ≡ nsec_search w zone datas name groups) where
-  whole : then_looked (passed last) (then_looked (by_group w zone datas name g) (nsec_search w zone datas name (drop (i + 1) groups))) ≡ nsec_search w zone datas name groups
-  unfolding nsec_search
-  whole = sym (ap (λ (gs : List Group). then_looked (passed last) (nsec_search w zone datas name gs)) there) ∙ so_far
+-- the search from a group on, each of which shows this
+module _ (w : World) (zone : Node) (datas : List (List ℕ)) (name : Place) (by : Group → Looked) (groups : List Group) (i : ℕ) (g : Group) (there : drop i groups ≡ g ∷ drop (i + 1) groups)
+    (last : Option Cause) (so_far : then_looked (passed last) (looked_among by (drop i groups)) ≡ looked_among by groups) where
+  whole : then_looked (passed last) (then_looked (by g) (looked_among by (drop (i + 1) groups))) ≡ looked_among by groups
+  unfolding looked_among
+  whole = sym (ap (λ (gs : List Group). then_looked (passed last) (looked_among by gs)) there) ∙ so_far
 
   -- a group that shows nothing is gone past, and leaves its cause
-  pub past : (cause : Option Cause) → by_group w zone datas name g ≡ passed cause
-      → then_looked (passed (option_or cause last)) (nsec_search w zone datas name (drop (i + 1) groups)) ≡ nsec_search w zone datas name groups
+  pub past : (cause : Option Cause) → by g ≡ passed cause → then_looked (passed (option_or cause last)) (looked_among by (drop (i + 1) groups)) ≡ looked_among by groups
   past cause e =
-      sym (through last cause (nsec_search w zone datas name (drop (i + 1) groups)))
-      ∙ (ap (λ (l : Looked). then_looked (passed last) (then_looked l (nsec_search w zone datas name (drop (i + 1) groups)))) (sym e) ∙ whole)
+      sym (through last cause (looked_among by (drop (i + 1) groups)))
+      ∙ (ap (λ (l : Looked). then_looked (passed last) (then_looked l (looked_among by (drop (i + 1) groups)))) (sym e) ∙ whole)
 
-  ends : (n : Node) → by_group w zone datas name g ≡ decided n → nsec_search w zone datas name groups ≡ decided n
-  ends n e =
-      sym whole ∙ ap (λ (l : Looked). then_looked (passed last) (then_looked l (nsec_search w zone datas name (drop (i + 1) groups)))) e
+  ends : (n : Node) → by g ≡ decided n → looked_among by groups ≡ decided n
+  ends n e = sym whole ∙ ap (λ (l : Looked). then_looked (passed last) (then_looked l (looked_among by (drop (i + 1) groups)))) e
 
   -- a group that decides ends the search
-  pub ends_with : (keys : List Key) (found : NsecFinding) → ((c : Option Cause) → found ≡ Finding.Passed c → ⊥) → Finds w zone datas name groups keys found (by_group w zone datas name g)
-      → Finds w zone datas name groups keys found (nsec_search w zone datas name groups)
+  pub ends_with : (keys : List Key) (found : DsFinding) → ((c : Option Cause) → found ≡ Finding.Passed c → ⊥) → Finds w zone datas name groups keys found (by g)
+      → Finds w zone datas name groups keys found (looked_among by groups)
   ends_with keys (Finding.Within at) some f = λ h q t. ends _ (f h q t)
-  ends_with keys (Finding.Insecure at) some f = λ h q t. ends _ (f h q t)
+  ends_with keys (Finding.Insecure at basis cause) some f = λ h q t. ends _ (f h q t)
   ends_with keys (Finding.Bogus cause) some f = ends _ f
   ends_with keys (Finding.Passed cause) some f = absurd (some cause refl)
 
 -- after the last group the last cause is left
-pub at_the_end : (w : World) (zone : Node) (datas : List (List ℕ)) (name : Place) (groups : List Group) (i : ℕ) (last : Option Cause) → length groups ≤ i
-    → then_looked (passed last) (nsec_search w zone datas name (drop i groups)) ≡ nsec_search w zone datas name groups → nsec_search w zone datas name groups ≡ passed last
-unfolding nsec_search
-at_the_end w zone datas name groups i last end so_far =
-    sym so_far ∙ ap (λ (gs : List Group). then_looked (passed last) (nsec_search w zone datas name gs)) (drop_all i groups end)
+pub at_the_end : (by : Group → Looked) (groups : List Group) (i : ℕ) (last : Option Cause) → length groups ≤ i
+    → then_looked (passed last) (looked_among by (drop i groups)) ≡ looked_among by groups → looked_among by groups ≡ passed last
+unfolding looked_among
+at_the_end by groups i last end so_far =
+    sym so_far ∙ ap (λ (gs : List Group). then_looked (passed last) (looked_among by gs)) (drop_all i groups end)
 
 -- what stands at an index, and what is left from there on
 pub from_index : {A : Type 0} (xs : List A) (i : ℕ) → i < length xs → (x : A) × (slice_get xs i ≡ Some x) × (drop i xs ≡ x ∷ drop (i + 1) xs)
@@ -190,10 +185,70 @@ from_index (y ∷ ys) (suc i) below =
     let next : suc i + 1 ≡ suc (i + 1) = omega arith in
     (later.0, later.1, later.2 ∙ ap (λ (n : ℕ). later.0 ∷ drop n (y ∷ ys)) (sym next))
 
--- the steps of one more group
-pub one_more : (before now then_ i room : ℕ) → now ≤ then_ + room → then_ ≤ before + i * room → now ≤ before + (i + 1) * room
-one_more before now then_ i room here so_far = omega (arith, here, so_far)
+-- how many groups are of a type, one after the other
+how_many_more : (q : ℕ) (g : Group) (gs : List Group) → how_many q (g ∷ gs) ≡ how_many q (g ∷ []) + how_many q gs
+how_many_more q g gs = by (g.rtype == q)
+  where
+    by : (b : Bool) → length (cond b (g ∷ filter (λ x. x.rtype == q) gs) (filter (λ x. x.rtype == q) gs)) ≡ length (cond b (g ∷ []) []) + length (filter (λ x. x.rtype == q) gs)
+    by true = omega arith
+    by false = omega arith
 
--- and of all groups, where this one isn't past their end
-pub of_all : (before now then_ i n room : ℕ) → i < n → now ≤ then_ + room → then_ ≤ before + i * room → now ≤ before + n * room
-of_all before now then_ i n room below here so_far = omega (arith, here, so_far, mul-le-mul_right {m = i + 1} {n = n} room (omega (arith, below)))
+-- one of the type
+pub one_of : (q : ℕ) (g : Group) → g.rtype ≡ q → how_many q (g ∷ []) ≡ 1
+one_of q g e = ap (λ (b : Bool). length (cond b (g ∷ []) [])) (eq-eqb g.rtype q e)
+
+-- the steps of one more group, and room for those that are left
+pub one_further : (q : ℕ) (g : Group) (groups : List Group) (i : ℕ) → drop i groups ≡ g ∷ drop (i + 1) groups → (before now then_ room : ℕ) → now ≤ then_ + how_many q (g ∷ []) * room
+    → then_ + how_many q (drop i groups) * room ≤ before + how_many q groups * room → now + how_many q (drop (i + 1) groups) * room ≤ before + how_many q groups * room
+one_further q g groups i there before now then_ room here so_far =
+    let count = ap (how_many q) there ∙ how_many_more q g (drop (i + 1) groups) in
+    let product = ap (λ (n : ℕ). n * room) count in
+    let parts : (how_many q (g ∷ []) + how_many q (drop (i + 1) groups)) * room ≡ how_many q (g ∷ []) * room + how_many q (drop (i + 1) groups) * room = omega arith in
+    omega (arith, here, so_far, product, parts)
+
+-- a group isn't of two types, so that those of the one and of the other are all at most
+pub both_types : (q r : ℕ) → (q ≡ r → ⊥) → (groups : List Group) → how_many q groups + how_many r groups ≤ length groups
+both_types q r differ [] = omega arith
+both_types q r differ (g ∷ gs) = by (g.rtype == q) (g.rtype == r) refl refl (both_types q r differ gs)
+  where
+    by : (a b : Bool) → (g.rtype == q) ≡ a → (g.rtype == r) ≡ b → how_many q gs + how_many r gs ≤ length gs
+        → length (cond a (g ∷ filter (λ x. x.rtype == q) gs) (filter (λ x. x.rtype == q) gs)) + length (cond b (g ∷ filter (λ x. x.rtype == r) gs) (filter (λ x. x.rtype == r) gs)) ≤ suc (length gs)
+    by true true e f h = absurd (differ (sym (eqb-true g.rtype q e) ∙ eqb-true g.rtype r f))
+    by true false e f h = omega (arith, h)
+    by false true e f h = omega (arith, h)
+    by false false e f h = omega (arith, h)
+
+-- so is the room for the NSEC groups and the NSEC3 groups
+pub room_for_both : (groups : List Group) (room : ℕ) → how_many NSEC groups * room + how_many NSEC3 groups * room ≤ length groups * room
+room_for_both groups room =
+    let all = mul-le-mul_right {m = how_many NSEC groups + how_many NSEC3 groups} {n = length groups} room (both_types NSEC NSEC3 (λ e. omega (arith, e)) groups) in
+    omega (arith, all)
+
+-- what is found first, of NSEC records, and then of NSEC3 records
+module _ (w : World) (zone : Node) (datas : List (List ℕ)) (name : Place) (groups : List Group) (keys : List Key) (first later : Looked) where
+  -- the first that decides
+  pub found_first : (found : DsFinding) → ((c : Option Cause) → found ≡ Finding.Passed c → ⊥) → Finds w zone datas name groups keys found first
+      → Finds w zone datas name groups keys found (then_looked first later)
+  found_first (Finding.Within at) some f = λ h q t. ap (λ (l : Looked). then_looked l later) (f h q t)
+  found_first (Finding.Insecure at basis cause) some f = λ h q t. ap (λ (l : Looked). then_looked l later) (f h q t)
+  found_first (Finding.Bogus cause) some f = ap (λ (l : Looked). then_looked l later) f
+  found_first (Finding.Passed cause) some f = absurd (some cause refl)
+
+  -- or what is found later, and the last cause
+  pub found_later : (cause : Option Cause) → first ≡ passed cause → (found : DsFinding) → Finds w zone datas name groups keys found later
+      → Finds w zone datas name groups keys (then_found cause found) (then_looked first later)
+  found_later cause e (Finding.Within at) f = λ h q t. ap (λ (l : Looked). then_looked l later) e ∙ ap (then_looked (passed cause)) (f h q t)
+  found_later cause e (Finding.Insecure at basis told) f = λ h q t. ap (λ (l : Looked). then_looked l later) e ∙ ap (then_looked (passed cause)) (f h q t)
+  found_later cause e (Finding.Bogus told) f = ap (λ (l : Looked). then_looked l later) e ∙ ap (then_looked (passed cause)) f
+  found_later cause e (Finding.Passed last) f = ap (λ (l : Looked). then_looked l later) e ∙ (ap (then_looked (passed cause)) f ∙ last_left last)
+    where
+      last_left : (o : Option Cause) → then_looked (passed cause) (passed o) ≡ passed (option_or o cause)
+      last_left None = refl
+      last_left (Some c) = refl
+
+-- what is found later is there
+pub there_later : (groups : List Group) (keys : List Key) (cause : Option Cause) (found : DsFinding) → AreThere groups keys found → AreThere groups keys (then_found cause found)
+there_later groups keys cause (Finding.Within at) t = t
+there_later groups keys cause (Finding.Insecure at basis told) t = t
+there_later groups keys cause (Finding.Bogus told) t = tt
+there_later groups keys cause (Finding.Passed last) t = tt

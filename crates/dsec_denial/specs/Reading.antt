@@ -1,5 +1,5 @@
 -- What the code reads of a group before its signatures are tried, and what it then decides; it serves the code alone.
-use Rattle.std.specs.Prelude.{ℕ, ◌&&◌, List, [], ◌∷◌, Bool, Option, Some, None, if◌then◌else◌}
+use Rattle.std.specs.Prelude.{ℕ, ◌&&◌, List, [], ◌∷◌, Bool, true, false, Option, Some, None, if◌then◌else◌}
 use Rattle.dsec_spec.specs.Groups.{Group}
 use Rattle.dsec_spec.specs.Names.{Place, place, is_below}
 use Rattle.dsec_spec.specs.Numbers.{DNAME}
@@ -10,13 +10,14 @@ use Rattle.dsec_spec.specs.TypeBitmaps.{has_type}
 use Rattle.dsec_wire.specs.DataViews.{nsec_view}
 use Rattle.dsec_nodes.specs.Causes.{PrefixNsecFromWildcard, PrefixNsecIsDname, PrefixNsecIsDelegation, NsecNotUsable}
 use Rattle.dsec_nodes.specs.MissingDs.{Looked, decided, passed, bogus_at, within_by, insecure_by, if_signed, is_in_range, delegates, by_matching, by_covering}
-use Rattle.dsec_nodes.specs.Nodes.{Node, nsec_without_ds}
+use Rattle.dsec_nodes.specs.Nodes.{Node}
+use Rattle.dsec_node.specs.Views.{ground_view}
 use Rattle.dsec_nodes.specs.Signing.{is_expanded}
 use Rattle.dsec_nodes.specs.World.{World}
 use Rattle.dsec_denial.specs.declared.decision.Decision.{Decision}
 use Rattle.dsec_denial.specs.declared.decision.Decision.TheVariants as decision
-use Rattle.dsec_denial.specs.declared.finding.NsecFinding.{NsecFinding}
-use Rattle.dsec_denial.specs.declared.finding.NsecFinding.TheVariants as found
+use Rattle.dsec_denial.specs.declared.finding.DsFinding.{DsFinding}
+use Rattle.dsec_denial.specs.declared.finding.DsFinding.TheVariants as found
 use Rattle.dsec_denial.specs.declared.finding.SignedAt.{SignedAt}
 use Rattle.dsec_denial.specs.declared.reading.Reading.{Reading}
 use Rattle.dsec_denial.specs.declared.reading.Reading.TheVariants as reading
@@ -41,16 +42,23 @@ by_above w zone keys name group nsec is_empty p =
 -- a decision on a group that the pair signs, as nodes have it
 abbrev pub decided_by : World → Node → List (List ℕ) → Place → Group → Record × Key → Decision → Looked
 decided_by w zone keys name group p decision.Within = decided (within_by w zone keys name group p)
-decided_by w zone keys name group p decision.Insecure = decided (insecure_by w zone keys name None nsec_without_ds group p)
+decided_by w zone keys name group p (decision.Insecure basis cause) = decided (insecure_by w zone keys name cause (ground_view basis) group p)
 decided_by w zone keys name group p (decision.Bogus cause) = decided (bogus_at w name cause)
 decided_by w zone keys name group p (decision.Passed cause) = passed cause
 
 -- a decision with the indexes that it rests on
-abbrev pub placed_at : SignedAt → Decision → NsecFinding
+abbrev pub placed_at : SignedAt → Decision → DsFinding
 placed_at at decision.Within = found.Within at
-placed_at at decision.Insecure = found.Insecure at
+placed_at at (decision.Insecure basis cause) = found.Insecure at basis cause
 placed_at at (decision.Bogus cause) = found.Bogus cause
 placed_at at (decision.Passed cause) = found.Passed cause
+
+-- whether the record bears on the name
+abbrev pub bears : Reading → Bool
+bears (reading.Nothing cause) = false
+bears (reading.At nsec) = true
+bears (reading.Above nsec is_empty) = true
+bears reading.Around = true
 
 -- what a reading shows of a group that the pair signs
 abbrev pub signed_by : World → Node → List (List ℕ) → Place → Group → Reading → Record × Key → Looked

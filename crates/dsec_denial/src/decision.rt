@@ -12,10 +12,12 @@ ghost use Rattle.dsec_spec.specs.TypeBitmaps.{has_type};
 ghost use Rattle.dsec_wire.specs.DataViews.{nsec_view};
 
 use crate::expansion::is_expanded;
-use crate::finding::{NsecFinding, SignedAt};
+use crate::finding::{DsFinding, SignedAt};
+use crate::pair::Pair;
 use crate::reading::Reading;
 use dsec_cause::Cause;
 use dsec_group::Group;
+use dsec_node::Ground;
 use dsec_number::Rtype;
 use dsec_sorted::RtypeBitmap;
 use dsec_wire::{Nsec, Record};
@@ -25,8 +27,8 @@ use dsec_wire::{Nsec, Record};
 pub(crate) enum Decision {
     /// The name is in the zone, and no other zone begins there.
     Within,
-    /// Another zone begins there, and no chain leads to it.
-    Insecure,
+    /// No chain leads to the name: on what ground, and the cause, if one is told.
+    Insecure(Ground, Option<Cause>),
     /// The record refutes that DS is missing.
     Bogus(Cause),
     /// It shows nothing, and why.
@@ -35,14 +37,19 @@ pub(crate) enum Decision {
 
 impl Decision {
     /// The finding with the indexes that it rests on.
-    pub(crate) fn at(self, at: SignedAt) -> NsecFinding
-        ensures { result ≡ placed_at at self }
+    pub(crate) fn at(self, group: usize, pair: Pair) -> DsFinding
+        ensures { result ≡ placed_at (record { group = group; signature = pair.signature; key = pair.key }) self }
     {
+        let at = SignedAt {
+            group,
+            signature: pair.signature,
+            key: pair.key,
+        };
         match self {
-            Decision::Within => NsecFinding::Within(at),
-            Decision::Insecure => NsecFinding::Insecure(at),
-            Decision::Bogus(cause) => NsecFinding::Bogus(cause),
-            Decision::Passed(cause) => NsecFinding::Passed(cause),
+            Decision::Within => DsFinding::Within(at),
+            Decision::Insecure(basis, cause) => DsFinding::Insecure(at, basis, cause),
+            Decision::Bogus(cause) => DsFinding::Bogus(cause),
+            Decision::Passed(cause) => DsFinding::Passed(cause),
         }
     }
 }
@@ -74,7 +81,7 @@ fn at_name(nsec: &Nsec<'_>, group: &Group, signature: &Record) -> Decision
     } else if has(nsec, Rtype::SOA) {
         Decision::Bogus(Cause::NsecForDsFromApex)
     } else if has(nsec, Rtype::NS) {
-        Decision::Insecure
+        Decision::Insecure(Ground::NsecWithoutDs, None)
     } else {
         Decision::Within
     }

@@ -1,8 +1,8 @@
 //! What an NSEC record says of a name, before its signatures are tried (RFC 4034 4, RFC 6840 4.4).
 
-ghost use Rattle.std.specs.Prelude.{◌≡◌, List, ℕ, IfOk};
+ghost use Rattle.std.specs.Prelude.{◌≡◌, List, ℕ, IfOk, true};
 ghost use Rattle.std.specs.Option.{option_map};
-ghost use Rattle.dsec_denial.specs.Reading.{by_reading, only, shows_empty as shows};
+ghost use Rattle.dsec_denial.specs.Reading.{bears, by_reading, only, shows_empty as shows};
 ghost use Rattle.dsec_nodes.specs.MissingDs.{by_group};
 ghost use Rattle.dsec_nodes.specs.Nodes.{Node};
 ghost use Rattle.dsec_nodes.specs.Signing.{under_keys};
@@ -39,8 +39,9 @@ pub(crate) fn read<'a>(
     group: &'a Group,
     name: &Name,
 ) -> Result<Reading<'a>, NoMemory>
-    ensures { IfOk result (λ reading. (w : World) (zone : Node) (keys : List (List ℕ))
+    ensures reading { IfOk result (λ reading. (w : World) (zone : Node) (keys : List (List ℕ))
         → by_reading w zone keys (place name.now) group.now (under_keys w zone.signer keys group.now) reading ≡ by_group w zone keys (place name.now) group.now) }
+    ensures typed { IfOk result (λ reading. bears reading ≡ true → group.now.rtype ≡ NSEC) }
 {
     if group.rtype() != Rtype::NSEC || group.class() != Class::IN {
         return Ok(Reading::Nothing(None));

@@ -1,20 +1,21 @@
 //! The search of a reply's NSEC records for why DS is missing (RFC 4035 5.2).
 
-ghost use Rattle.std.specs.Prelude.{◌≡◌, ◌≤◌, ◌<◌, ◌+◌, ◌*◌, List, ℕ, Some, IfOk, length, map, slice_get};
-ghost use Rattle.dsec_denial.specs.Findings.{AreThere, Finds, GoesBy};
+ghost use Rattle.std.specs.Prelude.{◌≡◌, ◌≤◌, ◌<◌, ◌+◌, ◌*◌, [], ◌∷◌, List, ℕ, Some, IfOk, length, map, slice_get};
+ghost use Rattle.dsec_denial.specs.Findings.{AreThere, Finds, GoesBy, how_many};
 ghost use Rattle.dsec_link.specs.TaggedKeys.{tagged_view};
 ghost use Rattle.dsec_nodes.specs.MissingDs.{by_group as shown_by, nsec_search};
 ghost use Rattle.dsec_nodes.specs.Nodes.{Node};
 ghost use Rattle.dsec_nodes.specs.World.{World};
 ghost use Rattle.dsec_spec.specs.Groups as grouping;
 ghost use Rattle.dsec_spec.specs.Names.{place};
+ghost use Rattle.dsec_spec.specs.Numbers.{NSEC};
 
 use crate::decision::decide;
-use crate::finding::{NsecFinding, SignedAt};
+use crate::finding::DsFinding;
+use crate::pair::good_pair;
 use crate::reading::{Reading, read};
-use dsec_cause::Cause;
 use dsec_crypto::Verifier;
-use dsec_group::{Group, Limits, Memo, Steps, check_with_tagged_keys};
+use dsec_group::{Group, Limits, Memo, Steps};
 use dsec_link::TaggedKey;
 use dsec_name::{Name, NoMemory};
 use dsec_number::Timestamp;
@@ -35,25 +36,25 @@ pub fn nsec_for_missing_ds<V: Verifier, L: Ledger>(
     t: Timestamp,
     memo: &mut impl Memo<V>,
     steps: &mut Steps<L>,
-) -> Result<NsecFinding, NoMemory>
+) -> Result<DsFinding, NoMemory>
     ensures there { IfOk result (AreThere groups.now (map tagged_view keys.now)) }
     ensures found { IfOk result (λ found. (w : World) (zone : Node) (datas : List (List ℕ))
         → GoesBy V.accepts (place apex.now) (map tagged_view keys.now) (limits.now.max_bad_signatures + 1) t w zone datas
         → Finds w zone datas (place name.now) groups.now (map tagged_view keys.now) found (nsec_search w zone datas (place name.now) groups.now)) }
     ensures later { steps.old ≤ steps.new }
-    ensures bound { steps.new ≤ steps.old + length groups.now * (limits.now.max_bad_signatures + 1) }
+    ensures bound { steps.new ≤ steps.old + how_many NSEC groups.now * (limits.now.max_bad_signatures + 1) }
 {
     let mut last = None;
     for index in 0..groups.len() {
         let found = by_group::<V, L>(
             alloc, groups, index, name, apex, keys, limits, t, memo, steps,
         )?;
-        let NsecFinding::Passed(cause) = found else {
+        let DsFinding::Passed(cause) = found else {
             return Ok(found);
         };
         last = cause.or(last);
     }
-    Ok(NsecFinding::Passed(last))
+    Ok(DsFinding::Passed(last))
 }
 
 /// What the group at an index shows.
@@ -68,32 +69,26 @@ fn by_group<V: Verifier, L: Ledger>(
     t: Timestamp,
     memo: &mut impl Memo<V>,
     steps: &mut Steps<L>,
-) -> Result<NsecFinding, NoMemory>
+) -> Result<DsFinding, NoMemory>
     requires { index < length groups.now }
     ensures there { IfOk result (AreThere groups.now (map tagged_view keys.now)) }
     ensures found { IfOk result (λ found. (w : World) (zone : Node) (datas : List (List ℕ)) (group : grouping.Group)
         → GoesBy V.accepts (place apex.now) (map tagged_view keys.now) (limits.now.max_bad_signatures + 1) t w zone datas → slice_get groups.now index ≡ Some group
         → Finds w zone datas (place name.now) groups.now (map tagged_view keys.now) found (shown_by w zone datas (place name.now) group)) }
     ensures later { steps.old ≤ steps.new }
-    ensures bound { steps.new ≤ steps.old + (limits.now.max_bad_signatures + 1) }
+    ensures bound { (group : grouping.Group) → slice_get groups.now index ≡ Some group
+        → steps.new ≤ steps.old + how_many NSEC (group ∷ []) * (limits.now.max_bad_signatures + 1) }
 {
     let group = &groups[index];
     let reading = read(alloc, group, name)?;
     if let Reading::Nothing(cause) = reading {
-        return Ok(NsecFinding::Passed(cause));
+        return Ok(DsFinding::Passed(cause));
     }
-    let check = check_with_tagged_keys::<V, L>(alloc, group, apex, keys, limits, t, memo, steps)?;
-    match (check.cause, check.signature, check.key) {
-        (None, Some(signature), Some(key)) => {
-            let decision = decide(&reading, group, &group.sig_set()[signature]);
-            let group = index;
-            Ok(decision.at(SignedAt {
-                group,
-                signature,
-                key,
-            }))
+    match good_pair::<V, L>(alloc, group, apex, keys, limits, t, memo, steps)? {
+        Ok(pair) => {
+            let decision = decide(&reading, group, &group.sig_set()[pair.signature]);
+            Ok(decision.at(index, pair))
         }
-        (Some(cause), _, _) => Ok(NsecFinding::Bogus(cause)),
-        _ => Ok(NsecFinding::Bogus(Cause::NoSignature)),
+        Err(cause) => Ok(DsFinding::Bogus(cause)),
     }
 }

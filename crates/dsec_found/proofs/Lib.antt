@@ -2,3 +2,4 @@ pub mod IslandSteps
 pub mod TargetSteps
 pub mod FoundSteps
 pub mod JudgedLaws
+pub mod SignerLaws

@@ -13,3 +13,4 @@ pub mod SpanLaws
 pub mod SetLaws
 pub mod PlaceLaws
 pub mod RedirectLaws
+pub mod ReadingLaws

@@ -7,3 +7,4 @@ pub mod Spans
 pub mod Mappings
 pub mod Hashing
 pub mod Followers
+pub mod Reading

@@ -1,4 +1,4 @@
-//! What the calls answer, within.
+//! What NSEC records answer.
 
 ghost use Rattle.std.specs.Prelude.{◌≡◌};
 ghost use Rattle.dsec_absence.specs.Answers as answers;
@@ -9,9 +9,9 @@ use crate::state::NsecState;
 use crate::used::Used;
 use dsec_cause::Cause;
 
-/// What a call answers.
+/// What NSEC records answer of a denial.
 #[derive(Drop)]
-pub(crate) enum Answer {
+pub enum Answer {
     /// It is denied, by the records of these groups.
     Denied(Used),
     /// A record shows otherwise, and why.

@@ -27,7 +27,7 @@ not_yet made valid_for now lasts = (omega (arith, λ (h : now < made). lasts (in
 
 -- bounds are the same, where they are so field by field
 pub bounds_decides : (b c : Bounds)
-    → Decides ((b.room == c.room) && ((b.max_validity == c.max_validity) && ((b.max_bogus_validity == c.max_bogus_validity) && ((b.max_ds_records == c.max_ds_records) && ((b.max_keys_for_ds == c.max_keys_for_ds) && ((b.iterations_insecure == c.iterations_insecure) && (b.iterations_bogus == c.iterations_bogus)))))))
+    → Decides ((b.room == c.room) && ((b.max_validity == c.max_validity) && ((b.max_bogus_validity == c.max_bogus_validity) && ((b.max_ds_records == c.max_ds_records) && ((b.max_keys_for_ds == c.max_keys_for_ds) && ((b.iterations_insecure == c.iterations_insecure) && ((b.iterations_bogus == c.iterations_bogus) && (b.most_hashes == c.most_hashes))))))))
     (b ≡ c)
 bounds_decides b c = (
   λ e.
@@ -37,6 +37,7 @@ bounds_decides b c = (
       let s = and_parts _ _ r.1 in
       let t = and_parts _ _ s.1 in
       let u = and_parts _ _ t.1 in
+      let v = and_parts _ _ u.1 in
       λ i. record {
         room = eqb-true b.room c.room p.0 i;
         max_validity = eqb-true b.max_validity c.max_validity q.0 i;
@@ -44,7 +45,8 @@ bounds_decides b c = (
         max_ds_records = eqb-true b.max_ds_records c.max_ds_records s.0 i;
         max_keys_for_ds = eqb-true b.max_keys_for_ds c.max_keys_for_ds t.0 i;
         iterations_insecure = eqb-true b.iterations_insecure c.iterations_insecure u.0 i;
-        iterations_bogus = eqb-true b.iterations_bogus c.iterations_bogus u.1 i;
+        iterations_bogus = eqb-true b.iterations_bogus c.iterations_bogus v.0 i;
+        most_hashes = eqb-true b.most_hashes c.most_hashes v.1 i;
       },
   λ e i.
       eq-eqb b.room c.room (ap (λ (x : Bounds). x.room) e) i
@@ -53,5 +55,6 @@ bounds_decides b c = (
       && (eq-eqb b.max_ds_records c.max_ds_records (ap (λ (x : Bounds). x.max_ds_records) e) i
       && (eq-eqb b.max_keys_for_ds c.max_keys_for_ds (ap (λ (x : Bounds). x.max_keys_for_ds) e) i
       && (eq-eqb b.iterations_insecure c.iterations_insecure (ap (λ (x : Bounds). x.iterations_insecure) e) i
-      && eq-eqb b.iterations_bogus c.iterations_bogus (ap (λ (x : Bounds). x.iterations_bogus) e) i))))),
+      && (eq-eqb b.iterations_bogus c.iterations_bogus (ap (λ (x : Bounds). x.iterations_bogus) e) i
+      && eq-eqb b.most_hashes c.most_hashes (ap (λ (x : Bounds). x.most_hashes) e) i)))))),
 )

@@ -14,6 +14,7 @@ bounds_view b = record {
   max_keys_for_ds = b.max_keys_for_ds;
   iterations_insecure = b.iterations_insecure;
   iterations_bogus = b.iterations_bogus;
+  most_hashes = b.most_hashes;
 }
 
 -- the bounds that settings give: one more pair than may be bad is tried
@@ -26,4 +27,5 @@ bounds_of s = record {
   max_keys_for_ds = s.max_dnskeys_per_ds;
   iterations_insecure = s.nsec3_iter_insecure;
   iterations_bogus = s.nsec3_iter_bogus;
+  most_hashes = s.max_nsec3_hashes;
 }

@@ -18,4 +18,6 @@ pub struct Bounds {
     pub iterations_insecure: u16,
     /// More NSEC3 iterations than these are bogus (RFC 9276 3.2).
     pub iterations_bogus: u16,
+    /// How many hashes are made at most to find a closest encloser (RFC 5155 8.3).
+    pub most_hashes: u8,
 }

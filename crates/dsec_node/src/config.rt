@@ -106,6 +106,7 @@ impl Config {
             max_keys_for_ds: self.max_dnskeys_per_ds,
             iterations_insecure: self.nsec3_iter_insecure,
             iterations_bogus: self.nsec3_iter_bogus,
+            most_hashes: self.max_nsec3_hashes,
         }
     }
 

@@ -1,4 +1,4 @@
-//! Tests of key sets that are admitted, of NSEC records for a missing DS, and of nodes: records from outside.
+//! Tests of key sets that are admitted, of NSEC and NSEC3 records for a missing DS, and of nodes: records from outside.
 #![tactic(auto)]
 
 #[cfg(test)]

@@ -21,7 +21,8 @@ use Rattle.dsec_nodes.specs.Walk.{finished, child}
 use Rattle.dsec_nodes.proofs.Signs.{from_under, from_tried_by}
 use Rattle.dsec_nodes.proofs.Lasting.{set_at}
 use Rattle.dsec_nodes.proofs.KeptLaws.{KeptBelow, bogus_below, is_pending, within_kept, insecure_kept, apex_kept}
-use Rattle.dsec_nodes.proofs.MissingLaws.{either, missing_below}
+use Rattle.dsec_nodes.proofs.LookedLaws.{either}
+use Rattle.dsec_nodes.proofs.MissingLaws.{missing_below}
 use Rattle.dsec_nodes.specs.Held.{BelowKept, GoodPair, HeldZone, IsPending, KeptAt, SetAt}
 
 -- what comes of a reply to the question for a DS set is kept and follows from the zone, or is a DS set that the zone has signed
@@ -83,7 +84,7 @@ signed_ds_kept : (w : World) (zone : Node) (keys : List (List ℕ)) (name : Plac
 signed_ds_kept w zone keys name group p h below at g whole =
     either (BelowFollows w zone keys name) (length (usable (set_in group).datas) == 0) _ _
     (λ none. (
-      insecure_kept w zone keys name (Some NoSupportedDs) ds_not_supported group p h g at.at at.of_class below whole (record {
+      insecure_kept w zone keys name (Some NoSupportedDs) ds_not_supported group p h g (λ _. at.at) at.of_class below whole (record {
         of_type = at.of_type;
         at = at.at;
         none = none_usable (set_in group).datas none;

@@ -1,7 +1,7 @@
 -- What messages of `example.` come to by a table with its key set: types and names that are denied, and answers from a wildcard.
 use Rattle.std.proofs.Common.{◌≡◌, ℕ, List, [], ◌∷◌, ◌++◌, length, map, Option, Some, None, Ok, Err, refl}
 use Rattle.std.specs.Prelude.{Result, codes}
-use Rattle.dsec_cause.specs.declared.cause.Cause.TheVariants.{MissingSoa, NsecMatches, NoDenialProof}
+use Rattle.dsec_cause.specs.declared.cause.Cause.TheVariants.{MissingSoa, NoNsec3Proof, NoDenialProof}
 use Rattle.dsec_spec.specs.Names.{Labels, asterisk, wire_octets}
 use Rattle.dsec_spec.specs.RecordData.{labels_in, name_in, blocks_in}
 use Rattle.dsec_spec.specs.Records.{key_octets, rrsig_octets, rrsig_of}
@@ -15,6 +15,8 @@ use Rattle.dsec_spec.specs.Islands.{longest}
 use Rattle.dsec_spec.specs.Redirection as redirection
 use Rattle.dsec_absence.specs.Tests.{common}
 use Rattle.dsec_absence.specs.Answers.{search}
+use Rattle.dsec_nsec3.specs.Walks.{walk_from}
+use Rattle.dsec_nsec3.specs.HashedAnswers.{type_from, cover_from}
 use Rattle.dsec_nodes.specs.World.{World, Replies}
 use Rattle.dsec_nodes.specs.Causes.{Cause}
 use Rattle.dsec_nodes.specs.Outcomes.{State, secure, bogus, Why, by_groups, by_cause, by_links, by_nothing, Outcome}
@@ -100,9 +102,9 @@ type_is_denied : told (alone w 11 replies (message_of 0 0 4 parent 16 (soa ++ ap
 unfolding longest judged_all search common questions_of answers_of authorities_of many_of question_at record_at data_at parts_at name_at name_within firsts redirection.staying_from rrsig_of name_in labels_in blocks_in signs least_ttl opt_of first_opt
 type_is_denied = refl
 
--- `example. NS`: it is
-type_is_there : told (alone w 11 replies (message_of 0 0 4 parent 2 (soa ++ apex_nsec))) ≡ Some (bogus, Some NsecMatches, [])
-unfolding longest judged_all search common questions_of answers_of authorities_of many_of question_at record_at data_at parts_at name_at name_within firsts redirection.staying_from rrsig_of name_in labels_in blocks_in signs least_ttl opt_of first_opt
+-- `example. NS`: it is, and the last cause is that no NSEC3 record proves otherwise
+type_is_there : told (alone w 11 replies (message_of 0 0 4 parent 2 (soa ++ apex_nsec))) ≡ Some (bogus, Some NoNsec3Proof, [])
+unfolding walk_from type_from longest judged_all search common questions_of answers_of authorities_of many_of question_at record_at data_at parts_at name_at name_within firsts redirection.staying_from rrsig_of name_in labels_in blocks_in signs least_ttl opt_of first_opt
 type_is_there = refl
 
 -- `a.example. A`: one record is around the name and around the wildcard
@@ -127,7 +129,7 @@ wildcard_answers = refl
 
 -- without its denial it isn't to be relied on
 wildcard_alone : told (alone w 11 replies (message_of 0 2 0 named 1 expanded)) ≡ Some (bogus, Some NoDenialProof, [])
-unfolding longest judged_all search common questions_of answers_of authorities_of many_of question_at record_at data_at parts_at name_at name_within firsts redirection.staying_from rrsig_of name_in labels_in blocks_in signs least_ttl opt_of first_opt
+unfolding cover_from longest judged_all search common questions_of answers_of authorities_of many_of question_at record_at data_at parts_at name_at name_within firsts redirection.staying_from rrsig_of name_in labels_in blocks_in signs least_ttl opt_of first_opt
 wildcard_alone = refl
 
 -- the wildcard itself needs none

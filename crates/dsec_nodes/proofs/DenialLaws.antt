@@ -1,10 +1,12 @@
 -- What a denial uses is as it was judged: each group is shown, by the signer's zone, and its record is what it denies by.
-use Rattle.std.proofs.Common.{◌≡◌, ℕ, Bool, true, false, cond, List, ◌∷◌, [], map, Option, Some, None, refl, sym, ap, ◌∙◌, subst}
+use Rattle.std.proofs.Common.{◌≡◌, ℕ, ◌-◌, Bool, true, false, cond, List, ◌∷◌, [], ◌++◌, map, take, drop, reverse, length, Option, Some, None, refl, sym, ap, ◌∙◌, subst, inl, inr, arith}
 use Rattle.std.specs.Prelude.{filter_map}
 use Rattle.std.specs.List.{AllByRecursion, cons_option}
+use Rattle.std.specs.Char.{to_ascii_lowercase}
+use Rattle.std.proofs.lemmas.List.{length-map, length-reverse, map-append, reverse-append, take-append-drop}
 use Rattle.std.proofs.lemmas.Bool.{true≢false, false≢true, and_parts, ltb-true, not-true}
 use Rattle.dsec_spec.specs.Reading.{◌>>=◌}
-use Rattle.dsec_spec.specs.Names.{Labels, Place, place, IsAtOrBelow}
+use Rattle.dsec_spec.specs.Names.{Labels, Place, lower, place, IsAtOrBelow, IsStrictlyBelow}
 use Rattle.dsec_spec.specs.Records.{Record, RecordSet, Rrsig, rrsig_of}
 use Rattle.dsec_spec.specs.SignedBytes.{IsExpansion, rightmost, signed_owner}
 use Rattle.dsec_spec.specs.Groups.{Group}
@@ -15,6 +17,8 @@ use Rattle.dsec_spec.specs.DenyingRecords.{NsecAt}
 use Rattle.dsec_spec.specs.JudgedGroups.{encloser_in}
 use Rattle.dsec_spec.proofs.AnsweringLemmas.{no_expansion}
 use Rattle.dsec_spec.proofs.CanonicalNames.{same_place_decides}
+use Rattle.dsec_spec.proofs.NamesBelow.{same_or_below}
+use Rattle.dsec_spec.proofs.SignedBytesLaws.{length-rightmost}
 use Rattle.dsec_spec.proofs.ReadingLemmas.{from_bind}
 use Rattle.dsec_absence.specs.Denials.{Denial, no_type, no_name, no_type_by_wildcard, no_closer, used_in}
 use Rattle.dsec_absence.specs.Evidence.{Evidence, Counts, CountsAt, AreReadOf, type_read, name_read, wildcard_read, closer_read}
@@ -25,6 +29,7 @@ use Rattle.dsec_nodes.specs.Outcomes.{Used}
 use Rattle.dsec_nodes.specs.ByDenial.{is_secure, expands, evidence_of, used_at, used_by, encloser_of}
 use Rattle.dsec_nodes.specs.SoundFindings.{Justifies, IsFound, IsShown, IsShownItself, IsShownFrom}
 use Rattle.dsec_nodes.specs.SoundDenials.{IsUsed, AreUsed, type_used, name_used, wildcard_used, closer_used}
+use Rattle.dsec_nodes.specs.SoundProofs.{Disproof, by_nsec, IsOfType, IsOfName, IsOfCloser}
 use Rattle.dsec_nodes.proofs.Lists.{all_at, from_mapped_at}
 use Rattle.dsec_nodes.proofs.Signs.{mapped_at}
 
@@ -84,8 +89,37 @@ shown_from w j its links last signature f encloser e =
     by rrsig true g = (refl, cc)
     by rrsig false g = absurd cc
 
+-- an expansion of the wildcard under a name is under that name
+pub expanded_under : (w : World) (j : Judged) (encloser : Place) → IsShownFrom w j encloser → IsStrictlyBelow (place j.group.owner) encloser
+expanded_under w j encloser s =
+    elim (same_or_below (place j.group.owner) encloser below) [
+      | inr strictly ↦ strictly
+      | inl same ↦ absurd (
+          let fewer = s.expansion.fewer in
+          let e = ap length same in
+          let f = ap length s.under in
+          omega (arith, e, f, fewer, size j.group.owner, size (drop k j.group.owner), length-rightmost s.rrsig.labels j.group.owner (omega (arith, fewer)))
+          )
+    ]
+  where
+    k : ℕ
+    k = length j.group.owner - s.rrsig.labels
+
+    size : (name : Labels) → length (place name) ≡ length name
+    size name = length-reverse (lower name) ∙ length-map name (map to_ascii_lowercase)
+
+    below : IsAtOrBelow (place j.group.owner) encloser
+    below = record {
+      under = reverse (lower (take k j.group.owner));
+      is =
+          ap place (sym (take-append-drop k j.group.owner))
+          ∙ (ap reverse (map-append (map to_ascii_lowercase) (take k j.group.owner) (drop k j.group.owner))
+          ∙ (reverse-append (lower (take k j.group.owner)) (lower (drop k j.group.owner))
+          ∙ ap (λ (x : Place). x ++ reverse (lower (take k j.group.owner))) (sym s.under)));
+    }
+
 -- a group that counts is shown, and no expansion
-evidence_shown : (w : World) (j : Judged) → IsFound w j → is_secure j.finding ≡ true → expands j.group j.finding ≡ false → IsShownItself w j
+pub evidence_shown : (w : World) (j : Judged) → IsFound w j → is_secure j.finding ≡ true → expands j.group j.finding ≡ false → IsShownItself w j
 evidence_shown w j its secure e = by j.finding refl secure
   where
     by : (f : Finding) → j.finding ≡ f → is_secure f ≡ true → IsShownItself w j
@@ -99,12 +133,10 @@ evidence_shown w j its secure e = by j.finding refl secure
     by is_indeterminate f s = absurd (false≢true s)
 
 -- both deny the same kind of thing, of a closer name under the same one
-abbrev pub IsOfKind : Denial ℕ → Denial Used → Type 0
-IsOfKind (no_type i) (no_type u) = Unit {0}
-IsOfKind (no_name c i k) (no_name e u v) = Unit {0}
-IsOfKind (no_type_by_wildcard c i k) (no_type_by_wildcard e u v) = Unit {0}
-IsOfKind (no_closer c i) (no_closer e u) = c ≡ e
-IsOfKind _ _ = ⊥
+pub record IsOfKind (d : Disproof ℕ) (disproof : Disproof Used) : Type 0 where
+  pub of_type : IsOfType d → IsOfType disproof
+  pub of_name : IsOfName d → IsOfName disproof
+  pub of_closer : (c : Place) → IsOfCloser c d → IsOfCloser c disproof
 
 -- what fills a place, by its index, as its record
 record UsedAt (w : World) (js : List Judged) (class : ℕ) (signer : Place) (index : ℕ) (r : NsecAt) : Type 0 where
@@ -131,14 +163,14 @@ used_at_is w js class signer index r founds at =
 -- what fills the places of a denial, by their indexes, as their records
 pub record AreUsedBy (w : World) (js : List Judged) (class : ℕ) (signer : Place) (d : Denial ℕ) (r : Denial NsecAt) : Type 0 where
   pub denial : Denial Used
-  pub same_kind : IsOfKind d denial
+  pub same_kind : IsOfKind (by_nsec d) (by_nsec denial)
   pub found : used_by js d ≡ used_in denial
   pub used : AreUsed w (map (λ (j : Judged). j.group) js) class signer denial r
 
-one_found : (js : List Judged) (i : ℕ) (u : Used) → used_at js i ≡ Some u → filter_map (used_at js) (i ∷ []) ≡ u ∷ []
+pub one_found : (js : List Judged) (i : ℕ) (u : Used) → used_at js i ≡ Some u → filter_map (used_at js) (i ∷ []) ≡ u ∷ []
 one_found js i u e = ap (λ (o : Option Used). cons_option o []) e
 
-two_found : (js : List Judged) (i k : ℕ) (u v : Used) → used_at js i ≡ Some u → used_at js k ≡ Some v
+pub two_found : (js : List Judged) (i k : ℕ) (u v : Used) → used_at js i ≡ Some u → used_at js k ≡ Some v
     → filter_map (used_at js) (i ∷ k ∷ []) ≡ u ∷ v ∷ []
 two_found js i k u v e f =
     ap (λ (o : Option Used). cons_option o (filter_map (used_at js) (k ∷ []))) e ∙ ap (λ (us : List Used). u ∷ us) (one_found js k v f)
@@ -147,16 +179,16 @@ pub used_are : (w : World) (js : List Judged) (class : ℕ) (signer : Place) (d 
     → AreReadOf class signer (map evidence_of js) d r → AreUsedBy w js class signer d r
 used_are w js class signer d r founds (type_read {i = i} {r = s} one) =
     let u = used_at_is w js class signer i s founds one in
-    record { denial = no_type u.its; same_kind = tt; found = one_found js i u.its u.found; used = type_used u.used }
+    record { denial = no_type u.its; same_kind = record { of_type = λ h. h; of_name = λ h. h; of_closer = λ _ h. h }; found = one_found js i u.its u.found; used = type_used u.used }
 used_are w js class signer d r founds (closer_read {c = c} {i = i} {r = s} one) =
     let u = used_at_is w js class signer i s founds one in
-    record { denial = no_closer c u.its; same_kind = refl; found = one_found js i u.its u.found; used = closer_used u.used }
+    record { denial = no_closer c u.its; same_kind = record { of_type = λ h. h; of_name = λ h. h; of_closer = λ _ h. h }; found = one_found js i u.its u.found; used = closer_used u.used }
 used_are w js class signer d r founds (name_read {c = c} {i = i} {j = k} {r = s} {w = t} one other) =
     let u = used_at_is w js class signer i s founds one in
     let v = used_at_is w js class signer k t founds other in
     record {
       denial = no_name c u.its v.its;
-      same_kind = tt;
+      same_kind = record { of_type = λ h. h; of_name = λ h. h; of_closer = λ _ h. h };
       found = two_found js i k u.its v.its u.found v.found;
       used = name_used u.used v.used;
     }
@@ -165,7 +197,7 @@ used_are w js class signer d r founds (wildcard_read {c = c} {i = i} {j = k} {r 
     let v = used_at_is w js class signer k t founds other in
     record {
       denial = no_type_by_wildcard c u.its v.its;
-      same_kind = tt;
+      same_kind = record { of_type = λ h. h; of_name = λ h. h; of_closer = λ _ h. h };
       found = two_found js i k u.its v.its u.found v.found;
       used = wildcard_used u.used v.used;
     }

@@ -1,10 +1,10 @@
 -- The outcome of a message with one question is justified, where each judged group is what was found of it.
-use Rattle.std.proofs.Common.{◌≡◌, ℕ, ◌==◌, ◌&&◌, Bool, true, false, cond, List, [], ◌∷◌, map, Option, Some, None, refl, sym, ap, ◌∙◌, subst, inl, inr}
+use Rattle.std.proofs.Common.{◌≡◌, ℕ, ◌==◌, ◌&&◌, Bool, true, false, cond, List, [], ◌∷◌, map, Option, Some, None, refl, sym, subst, inl, inr}
 use Rattle.std.specs.Prelude.{Contains, position, slice_get}
 use Rattle.std.specs.List.{AllByRecursion, list_any}
 use Rattle.std.proofs.Math.Bool.{not}
 use Rattle.std.proofs.lemmas.Bool.{and_parts}
-use Rattle.dsec_spec.specs.Names.{Labels, Place, place, IsAtOrBelow}
+use Rattle.dsec_spec.specs.Names.{Labels, Place, place, IsAtOrBelow, IsStrictlyBelow}
 use Rattle.dsec_spec.specs.Numbers.{ANY}
 use Rattle.dsec_spec.specs.Records.{Record}
 use Rattle.dsec_spec.specs.Messages.{Question, rcode_of}
@@ -16,23 +16,31 @@ use Rattle.dsec_spec.specs.Sound.{LeadsOn}
 use Rattle.dsec_spec.proofs.Members.{none_passes, from_map}
 use Rattle.dsec_spec.proofs.AnsweringLemmas.{at_question, leads_nowhere}
 use Rattle.dsec_spec.proofs.NamesBelow.{below_trans}
-use Rattle.dsec_absence.specs.Denials.{Denial, used_in}
-use Rattle.dsec_absence.specs.Replies.{soa_at, Conclusion, proved, unproved, closer_denied}
-use Rattle.dsec_absence.proofs.AnswerLaws.{Proves, conclusion_proves, closer_conclusion_proves}
-use Rattle.dsec_nodes.specs.World.{World}
-use Rattle.dsec_nodes.specs.Causes.{NotBuilt}
+use Rattle.dsec_absence.specs.Denials.{Denial}
+use Rattle.dsec_absence.specs.Answers.{Source}
+use Rattle.dsec_absence.specs.Replies.{soa_at}
+use Rattle.dsec_absence.proofs.AnswerLaws.{Proves}
+use Rattle.dsec_nsec3.specs.HashedDenials.{HashedDenial}
+use Rattle.dsec_nsec3.specs.HashedProofs.{IsHashedProof}
+use Rattle.dsec_nsec3.specs.Conclusions.{Conclusion, proved, hash_proved, left_open, unproved, closer_denied}
+use Rattle.dsec_nsec3.proofs.ConclusionLaws.{Concludes, at_concludes, closer_concludes}
+use Rattle.dsec_nodes.specs.World.{World, limits_of}
+use Rattle.dsec_nodes.specs.Causes.{Cause, NotBuilt}
 use Rattle.dsec_nodes.specs.Judging.{Finding, is_shown, has_no_set, is_insecure, is_bogus, is_indeterminate, Judged}
-use Rattle.dsec_nodes.specs.Outcomes.{secure, Used, Why, by_groups, by_cause, by_links, by_nothing, Outcome, secure_by, by_finding, alias_path, ends_at, ends_bogus}
-use Rattle.dsec_nodes.specs.ByDenial.{source_of, used_by, on_conclusion, encloser_of, by_encloser, no_error_in, denied_under, at_soa, by_soa, by_denial}
+use Rattle.dsec_nodes.specs.Outcomes.{secure, Used, Why, by_groups, by_cause, by_links, by_nothing, Outcome, secure_by, open_by, by_finding, alias_path, ends_at, ends_bogus}
+use Rattle.dsec_nodes.specs.ByDenial.{evidence_of, source_of, used_by, used_by_hash, on_conclusion, encloser_of, by_encloser, no_error_in, denied_under, at_soa, by_soa, by_denial}
 use Rattle.dsec_nodes.specs.Alone.{by_answer, is_answer, at_answer, by_answers, at_name, after_path, at_end}
 use Rattle.dsec_nodes.specs.SoundFindings.{Justifies, IsFound, IsShown}
-use Rattle.dsec_nodes.specs.SoundDenials.{IsSoaFor, AreUsed, IsDeniedBy}
+use Rattle.dsec_nodes.specs.SoundDenials.{IsSoaFor, AreUsed}
+use Rattle.dsec_nodes.specs.SoundHashes.{AreHashUsed, IsLeftOpenBy}
+use Rattle.dsec_nodes.specs.SoundProofs.{Disproof, by_nsec, by_nsec3, disproof_used, IsDeniedBy, IsOfType, IsOfName, IsOfCloser}
 use Rattle.dsec_nodes.specs.SoundOutcomes.{IsRead, EndsThere, IsAnswered, HasSoa, Decides, IsJustified}
 use Rattle.dsec_nodes.proofs.Lists.{all_at, from_position}
 use Rattle.dsec_nodes.proofs.Signs.{mapped_at}
 use Rattle.dsec_nodes.proofs.SoaLaws.{soa_is}
-use Rattle.dsec_nodes.proofs.DenialLaws.{IsOfKind, shown_group, under_signer, shown_itself, shown_from, used_are}
-use Rattle.dsec_nodes.proofs.RcodeLaws.{from_no_error, by_rcode_is, closer_is, same_closer}
+use Rattle.dsec_nodes.proofs.DenialLaws.{shown_group, under_signer, shown_itself, shown_from, expanded_under, used_are}
+use Rattle.dsec_nodes.proofs.HashUseLaws.{hash_used_are, open_is}
+use Rattle.dsec_nodes.proofs.RcodeLaws.{OfConclusion, from_no_error, by_rcode_is, closer_is}
 
 -- what each state means, of an outcome in that state
 abbrev pub Means : World → ℕ → List ℕ → Outcome → Type 0
@@ -60,7 +68,7 @@ finding_justified w most message j its decides where_shown shown = by j.finding 
 
     by : (f : Finding) → j.finding ≡ f → Means w most message (by_finding where_shown f)
     by (is_shown links last signature) f = shown links last signature f
-    by has_no_set f = inr (record { group = j.group; decides = decides; no_records = found has_no_set f; cause = refl })
+    by has_no_set f = inr (inl (record { group = j.group; decides = decides; no_records = found has_no_set f; cause = refl }))
     by (is_insecure cause signed) f = inl (record {
       group = j.group;
       decides = decides;
@@ -70,16 +78,6 @@ finding_justified w most message j its decides where_shown shown = by j.finding 
     })
     by (is_bogus cause links) f = refl
     by is_indeterminate f = record { group = j.group; decides = decides; no_island = found is_indeterminate f; cause = refl }
-
--- an outcome by a denial beside a group is justified, where it is for what is proved
-conclusion_justified : (w : World) (most : ℕ) (message : List ℕ) (beside : List Judged) (j : Judged) (c : Conclusion)
-    → ((d : Denial ℕ) → c ≡ proved d → Means w most message (secure_by (j ∷ []) (used_by beside d)))
-    → Means w most message (on_conclusion beside j c)
-conclusion_justified w most message beside j c where_proved = by c refl
-  where
-    by : (x : Conclusion) → c ≡ x → Means w most message (on_conclusion beside j x)
-    by (proved d) e = where_proved d e
-    by (unproved cause) e = refl
 
 -- what is judged of a message with one question, and was found so
 record Ending (w : World) (most : ℕ) (message : List ℕ) (question : Question) (js beside : List Judged) : Type 0 where
@@ -110,25 +108,66 @@ module _ (w : World) (most : ℕ) (message : List ℕ) (question : Question) (js
   }
 
   -- what is proved of the question's name is denied, by groups that are shown
-  record DeniedFrom (signer : Place) (d : Denial ℕ) : Type 0 where
-    denial : Denial Used
-    same_kind : IsOfKind d denial
-    found : used_by beside d ≡ used_in denial
-    denied : IsDeniedBy w e.authorities question signer denial
+  record DisprovedBy (signer : Place) (c : Conclusion) (us : List Used) : Type 0 where
+    disproof : Disproof Used
+    found : us ≡ disproof_used disproof
+    of_type : OfConclusion IsOfType c → IsOfType disproof
+    of_name : OfConclusion IsOfName c → IsOfName disproof
+    of_closer : (x : Place) → OfConclusion (IsOfCloser x) c → IsOfCloser x disproof
+    denied : IsDeniedBy w e.authorities question signer disproof
 
-  denied_is : (signer : Place) (d : Denial ℕ) → Proves (source_of beside question.class signer) name question.rtype d → DeniedFrom signer d
-  denied_is signer d p =
+  abbrev source : Place → Source
+  source signer = source_of beside question.class signer
+
+  disproved_is : (signer : Place) (d : Denial ℕ) → Proves (source signer) name question.rtype d → DisprovedBy signer (proved d) (used_by beside d)
+  disproved_is signer d p =
       let u = used_are w beside question.class signer d p.records e.authorities_found p.read in
       record {
-        denial = u.denial;
-        same_kind = u.same_kind;
+        disproof = by_nsec u.denial;
         found = u.found;
+        of_type = u.same_kind.of_type;
+        of_name = u.same_kind.of_name;
+        of_closer = u.same_kind.of_closer;
         denied = record {
           records = p.records;
           used = subst (λ (gs : List Group). AreUsed w gs question.class signer u.denial p.records) e.authorities_same u.used;
           denies = p.denial;
         };
       }
+
+  hash_disproved_is : (signer : Place) (d : HashedDenial ℕ) → IsHashedProof (limits_of w.bounds) question.class signer (map evidence_of beside) name question.rtype d
+      → DisprovedBy signer (hash_proved d) (used_by_hash beside d)
+  hash_disproved_is signer d p =
+      let u = hash_used_are w beside question.class signer e.authorities_found d p.records p.read in
+      record {
+        disproof = by_nsec3 u.denial;
+        found = u.found;
+        of_type = u.same_kind.of_type;
+        of_name = u.same_kind.of_name;
+        of_closer = u.same_kind.of_closer;
+        denied = record {
+          records = p.records;
+          used = subst (λ (gs : List Group). AreHashUsed w gs question.class signer u.denial p.records) e.authorities_same u.used;
+          denies = p.denial;
+        };
+      }
+
+  -- an outcome by a denial beside a group is justified, where it is for what is proved, and for what is left open
+  conclusion_justified : (signer : Place) → IsAtOrBelow name signer → (j : Judged) (c : Conclusion) → Concludes (limits_of w.bounds) (source signer) name question.rtype c
+      → ((us : List Used) → DisprovedBy signer c us → Means w most message (secure_by (j ∷ []) us))
+      → ((cause : Option Cause) (used : Used) → IsLeftOpenBy w e.authorities question signer used → Means w most message (open_by cause (j ∷ []) (used ∷ [])))
+      → Means w most message (on_conclusion beside j c)
+  conclusion_justified signer within j c its where_proved where_open = by c its where_proved
+    where
+      by : (x : Conclusion) → Concludes (limits_of w.bounds) (source signer) name question.rtype x
+          → ((us : List Used) → DisprovedBy signer x us → Means w most message (secure_by (j ∷ []) us)) → Means w most message (on_conclusion beside j x)
+      by (proved d) p shows = shows (used_by beside d) (disproved_is signer d p)
+      by (hash_proved d) p shows = shows (used_by_hash beside d) (hash_disproved_is signer d p)
+      by (left_open cause o) p shows =
+          let u = open_is w beside question.class signer e.authorities_found question o refl within p in
+          subst (λ (us : List Used). Means w most message (open_by cause (j ∷ []) us)) (sym u.found)
+          (where_open cause u.its (subst (λ (gs : List Group). IsLeftOpenBy w gs question signer u.its) e.authorities_same u.left_open))
+      by (unproved cause) p shows = refl
 
   -- the outcome by the group that answers
   answer_justified : rcode_of message ≡ Some 0 → (index : ℕ) (j : Judged) → slice_get js index ≡ Some j → is_answer name question j ≡ true
@@ -149,27 +188,37 @@ module _ (w : World) (most : ℕ) (message : List ℕ) (question : Question) (js
       }
 
       by_wildcard_is : (links : List Link) (last : Link) (signature : Record) → j.finding ≡ is_shown links last signature → (encloser : Labels)
-          → encloser_of j.group signature ≡ Some encloser → (d : Denial ℕ)
-          → closer_denied (source_of beside question.class j.signer) name (place encloser) ≡ proved d
-          → Means w most message (secure_by (j ∷ []) (used_by beside d))
-      by_wildcard_is links last signature f encloser g d p =
-          let source = source_of beside question.class j.signer in
-          let below = under_signer w j (shown_group w j its links last signature f) in
-          let it = denied_is j.signer d (closer_conclusion_proves source name (subst (λ (n : Place). IsAtOrBelow n j.signer) answered.at_question.at_name below) (place encloser) question.rtype d p) in
-          let c = closer_is source name (place encloser) d p in
-          let used = same_closer (place encloser) c.0 it.denial (subst (λ (x : Denial ℕ). IsOfKind x it.denial) c.1 it.same_kind) in
-          subst (λ (us : List Used). Means w most message (secure_by (j ∷ []) us)) (sym (it.found ∙ ap used_in used.1)) (
+          → encloser_of j.group signature ≡ Some encloser
+          → Means w most message (on_conclusion beside j (closer_denied (limits_of w.bounds) (source j.signer) name (place encloser)))
+      by_wildcard_is links last signature f encloser g =
+          let its_own = shown_from w j its links last signature f encloser g in
+          let same = answered.at_question.at_name in
+          let below : IsAtOrBelow name j.signer = subst (λ (n : Place). IsAtOrBelow n j.signer) same (under_signer w j (shown_group w j its links last signature f)) in
+          let under : IsStrictlyBelow name (place encloser) = subst (λ (n : Place). IsStrictlyBelow n (place encloser)) same (expanded_under w j (place encloser) its_own) in
+          conclusion_justified j.signer below j (closer_denied (limits_of w.bounds) (source j.signer) name (place encloser))
+          (closer_concludes (limits_of w.bounds) (source j.signer) name below (place encloser) under question.rtype)
+          (λ us d. subst (λ (used : List Used). Means w most message (secure_by (j ∷ []) used)) (sym d.found) (
             inr (inl (record {
               judged = j;
               answered = answered;
               encloser = place encloser;
-              expanded = shown_from w j its links last signature f encloser g;
-              used = used.0;
-              denied = subst (IsDeniedBy w e.authorities question j.signer) used.1 it.denied;
+              expanded = its_own;
+              disproof = d.disproof;
+              of_closer = d.of_closer (place encloser) (closer_is (limits_of w.bounds) (source j.signer) name (place encloser));
+              denied = d.denied;
               why = refl;
             })),
             refl,
-          )
+          ))
+          (λ cause used opens. inr (inr (inr (record {
+            judged = j;
+            answered = answered;
+            encloser = place encloser;
+            expanded = its_own;
+            used = used;
+            left_open = opens;
+            why = refl;
+          }))))
 
       shown : (links : List Link) (last : Link) (signature : Record) → j.finding ≡ is_shown links last signature
           → Means w most message (by_encloser w question name beside j (encloser_of j.group signature))
@@ -180,14 +229,13 @@ module _ (w : World) (most : ℕ) (message : List ℕ) (question : Question) (js
             inl (record { judged = j; answered = answered; itself = shown_itself w j its links last signature f g; why = refl }),
             refl,
           )
-          by (Some encloser) g = conclusion_justified w most message beside j (closer_denied (source_of beside question.class j.signer) name (place encloser))
-              (by_wildcard_is links last signature f encloser g)
+          by (Some encloser) g = by_wildcard_is links last signature f encloser g
 
   -- the outcome by the SOA set
   soa_justified : (index : ℕ) (j : Judged) → slice_get beside index ≡ Some j → IsSoaFor w question j.group
       → Means w most message (at_soa w message question name beside (Some j))
   soa_justified index j stands soa =
-      finding_justified w most message j its (inr has_soa) (λ signature. on_conclusion beside j (denied_under message question name beside j)) shown
+      finding_justified w most message j its (inr has_soa) (λ signature. on_conclusion beside j (denied_under w message question name beside j)) shown
     where
       its : IsFound w j
       its = all_at (IsFound w) beside index j e.authorities_found stands
@@ -201,25 +249,26 @@ module _ (w : World) (most : ℕ) (message : List ℕ) (question : Question) (js
       }
 
       shown : (links : List Link) (last : Link) (signature : Record) → j.finding ≡ is_shown links last signature
-          → Means w most message (on_conclusion beside j (denied_under message question name beside j))
+          → Means w most message (on_conclusion beside j (denied_under w message question name beside j))
       shown links last signature f =
           let is : IsShown w j = shown_group w j its links last signature f in
-          let source = source_of beside question.class j.signer in
           let below : IsAtOrBelow name j.signer = below_trans name (place j.group.owner) j.signer soa.over (under_signer w j is) in
-          conclusion_justified w most message beside j (denied_under message question name beside j) (λ d p.
-          let it = denied_is j.signer d (conclusion_proves source name below (no_error_in (rcode_of message)) question.rtype d p) in
-          subst (λ (us : List Used). Means w most message (secure_by (j ∷ []) us)) (sym it.found) (
+          let kind = by_rcode_is (limits_of w.bounds) (rcode_of message) (source j.signer) name question.rtype in
+          conclusion_justified j.signer below j (denied_under w message question name beside j)
+          (at_concludes (limits_of w.bounds) (source j.signer) name below (no_error_in (rcode_of message)) question.rtype)
+          (λ us d. subst (λ (used : List Used). Means w most message (secure_by (j ∷ []) used)) (sym d.found) (
             inr (inr (record {
               judged = j;
               has_soa = has_soa;
               shown = is;
-              denial = it.denial;
-              by_rcode = by_rcode_is (rcode_of message) source name question.rtype d it.denial p it.same_kind;
-              denied = it.denied;
+              disproof = d.disproof;
+              by_rcode = record { no_error = λ fine. d.of_type (kind.no_error fine); error = λ bad. d.of_name (kind.error bad) };
+              denied = d.denied;
               why = refl;
             })),
             refl,
           ))
+          (λ cause used opens. inr (inr (inl (record { judged = j; has_soa = has_soa; shown = is; used = used; left_open = opens; why = refl }))))
 
   -- the outcome by a denial
   denial_justified : Means w most message (by_denial w message question name beside)

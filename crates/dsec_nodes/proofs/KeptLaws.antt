@@ -68,14 +68,15 @@ whole_set group signature sig reads whole =
     no_expansion sig.labels group.owner (sym (ap (of_signature (λ one. is_expansion one.labels group.owner)) reads) ∙ whole)
 
 -- a set that shows that no zone begins at a name is no DS set
-never_ds : (c : Place) (set : RecordSet) → ShowsNoZone c set → set.rtype ≡ DS → ⊥
-never_ds c set (inl alias) e = let both = sym alias.of_type ∙ e in omega (arith, both)
-never_ds c set (inr one) e = let both = sym one.1.of_type ∙ e in omega (arith, both)
+never_ds : (c zone : Place) (set : RecordSet) → ShowsNoZone c zone set → set.rtype ≡ DS → ⊥
+never_ds c zone set (inl alias) e = let both = sym alias.of_type ∙ e in omega (arith, both)
+never_ds c zone set (inr (inl one)) e = let both = sym one.1.of_type ∙ e in omega (arith, both)
+never_ds c zone set (inr (inr own)) e = let both = sym own.hashed.is_nsec3.of_type ∙ e in omega (arith, both)
 
 -- a node within a held zone is kept, by a set of the zone's that shows that no zone begins at its name
 pub within_kept : (w : World) (zone : Node) (keys : List (List ℕ)) (name : Place) (group : Group) (p : Record × Key) → HeldZone w zone keys
     → GoodPair w zone.signer keys group p → IsStrictlyBelow name zone.signer → group.class ≡ IN → is_expanded group p.0 ≡ false
-    → ShowsNoZone name (set_in group) → KeptAt w name (within_by w zone keys name group p)
+    → ShowsNoZone name zone.signer (set_in group) → KeptAt w name (within_by w zone keys name group p)
 within_kept w zone keys name group p h g below classed whole shows = (
   λ e. (
     h.anchor,
@@ -83,7 +84,7 @@ within_kept w zone keys name group p h g below classed whole shows = (
     λ s from to. record {
       keys = keys;
       leads = h.chain_to s from (omega (arith, to, zone_longer w zone group p.0));
-      is_set = set_link_lasts w zone keys group p s g (λ is_ds. absurd (never_ds name (set_in group) shows is_ds)) from to;
+      is_set = set_link_lasts w zone keys group p s g (λ is_ds. absurd (never_ds name zone.signer (set_in group) shows is_ds)) from to;
       below = below;
       of_class = classed;
       signature = g.counts.signature;
@@ -132,9 +133,9 @@ apex_kept w zone keys pending group p h d g at =
       omega arith,
     )
 
--- a name to which no chain leads, by a set strictly below the zone that shows it
+-- a name strictly below the zone to which no chain leads, by a set that shows it; a DS set stands at the name
 pub insecure_kept : (w : World) (zone : Node) (keys : List (List ℕ)) (name : Place) (cause : Option Cause) (basis : Ground) (group : Group) (p : Record × Key) → HeldZone w zone keys → GoodPair w zone.signer keys group p
-    → place group.owner ≡ name → group.class ≡ IN → IsStrictlyBelow name zone.signer → is_expanded group p.0 ≡ false
+    → (group.rtype ≡ DS → place group.owner ≡ name) → group.class ≡ IN → IsStrictlyBelow name zone.signer → is_expanded group p.0 ≡ false
     → Shows w.bounds basis name zone.signer (set_in group)
     → KeptAt w name (insecure_by w zone keys name cause basis group p)
 insecure_kept w zone keys name cause basis group p h g at classed below whole shows = (
@@ -142,7 +143,6 @@ insecure_kept w zone keys name cause basis group p h g at classed below whole sh
     h.anchor,
     h.its,
     λ s from to.
-        let strictly : IsStrictlyBelow (place group.owner) zone.signer = subst (λ (n : Place). IsStrictlyBelow n zone.signer) (sym at) below in
         let link = link_under chain.set keys group p in
         let shown : Holds w.accepts (h.anchor ∷ []) (zone.links ++ link ∷ []) (set_in group) (on_circle s) = record {
           chain = zone.links;
@@ -151,7 +151,7 @@ insecure_kept w zone keys name cause basis group p h g at classed below whole sh
           keys = keys;
           are = refl;
           leads = h.chain_to s from (omega (arith, to, zone_longer w zone group p.0));
-          shows = set_link_lasts w zone keys group p s g (λ _. strictly) from to;
+          shows = set_link_lasts w zone keys group p s g (λ is_ds. subst (λ (n : Place). IsStrictlyBelow n zone.signer) (sym (at is_ds)) below) from to;
           same = refl;
         } in
         record {

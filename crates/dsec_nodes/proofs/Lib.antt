@@ -3,6 +3,8 @@ pub mod Signs
 pub mod Lists
 pub mod Lasting
 pub mod KeptLaws
+pub mod LookedLaws
+pub mod HashLaws
 pub mod MissingLaws
 pub mod ChildLaws
 pub mod DecidingLaws
@@ -22,11 +24,13 @@ pub mod UnsignedLaws
 pub mod JudgingLaws
 pub mod SoaLaws
 pub mod DenialLaws
+pub mod HashUseLaws
 pub mod RcodeLaws
 pub mod EndLaws
 pub mod OutcomeLaws
 pub mod QuestionLaws
 pub mod TruthLaws
 pub mod NodeExamples
+pub mod HashExamples
 pub mod ApexExample
 pub mod DenialExamples

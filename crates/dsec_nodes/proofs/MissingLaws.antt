@@ -1,44 +1,27 @@
 -- What is known of a name without a DS set is kept.
-use Rattle.std.proofs.Common.{◌≡◌, ℕ, ◌&&◌, ◌==◌, Bool, true, false, cond, List, [], ◌∷◌, map, Option, Some, None, refl, sym, ap, ◌∙◌, inl, inr}
-use Rattle.std.specs.List.{list_any}
+use Rattle.std.proofs.Common.{◌≡◌, ℕ, ◌&&◌, ◌==◌, true, false, List, [], ◌∷◌, map, Option, Some, None, refl, sym, ap, ◌∙◌, inl, inr}
 use Rattle.std.proofs.lemmas.Bool.{true≢false, and_parts, eqb-true}
 use Rattle.dsec_spec.specs.Names.{Place, place, same_place, is_below, is_strictly_below, IsStrictlyBelow}
-use Rattle.dsec_spec.specs.Numbers.{IN, NS, SOA, DS, NSEC, NSEC3, DNAME}
+use Rattle.dsec_spec.specs.Numbers.{IN, NS, SOA, DS, NSEC, DNAME}
 use Rattle.dsec_spec.specs.Records.{Record, Key}
 use Rattle.dsec_spec.specs.RecordViews.{Nsec, nsec_of}
 use Rattle.dsec_spec.specs.Groups.{Group, set_in}
-use Rattle.dsec_spec.specs.Trying.{Tried, good, nothing, all_bad, too_many_bad}
 use Rattle.dsec_spec.proofs.CanonicalNames.{same_place_decides}
 use Rattle.dsec_spec.proofs.SignedTests.{below_decides, strictly_below_decides}
 use Rattle.dsec_nodes.specs.World.{World}
-use Rattle.dsec_nodes.specs.Causes.{NoSignature, BadSignature, TooManyBadSignatures, NsecForDsFromWildcard, NsecProvesDs, NsecForDsFromApex, PrefixNsecFromWildcard, PrefixNsecIsDname, PrefixNsecIsDelegation, EmptyNonTerminalNsecFromWildcard, NoProofForMissingDs, NotBuilt}
+use Rattle.dsec_nodes.specs.Causes.{NsecForDsFromWildcard, NsecProvesDs, NsecForDsFromApex, PrefixNsecFromWildcard, PrefixNsecIsDname, PrefixNsecIsDelegation, EmptyNonTerminalNsecFromWildcard, NoProofForMissingDs}
 use Rattle.dsec_nodes.specs.Nodes.{Node, nsec_without_ds}
 use Rattle.dsec_nodes.specs.SignedCauses.{nsec_at}
 use Rattle.dsec_nodes.specs.WithinCauses.{IsOneNsec}
 use Rattle.dsec_nodes.specs.Signing.{under_keys, is_expanded}
-use Rattle.dsec_nodes.specs.MissingDs.{Looked, decided, passed, if_signed, is_in_range, delegates, by_matching, by_covering, by_range, by_prefix, by_nsec, by_records, by_group, then_looked, nsec_search, nsec3_search, by_looked, missing_ds}
-use Rattle.dsec_nodes.proofs.Signs.{from_under}
+use Rattle.dsec_nodes.specs.MissingDs.{Looked, decided, passed, is_in_range, delegates, by_matching, by_covering, by_range, by_prefix, by_nsec, by_records, by_group, then_looked, nsec_search, nsec3_search, by_looked, missing_ds}
+use Rattle.dsec_nodes.proofs.LookedLaws.{LookedKept, either, signed_kept, then_kept, among_kept}
+use Rattle.dsec_nodes.specs.MissingByHash.{by_hashed_group}
+use Rattle.dsec_nodes.proofs.HashLaws.{hashed_group_kept}
 use Rattle.dsec_nodes.proofs.DecidingLaws.{in_range}
 use Rattle.dsec_nodes.proofs.KeptLaws.{KeptBelow, bogus_below, within_kept, insecure_kept}
 use Rattle.dsec_spec.specs.TypeBitmaps.{has_type}
 use Rattle.dsec_nodes.specs.Held.{GoodPair, HeldZone, KeptAt}
-
--- what a group shows is kept, if it is a node
-abbrev pub LookedKept : World → Node → Place → Looked → Type 0
-LookedKept w zone name (decided n) = KeptBelow w zone name n
-LookedKept w zone name (passed cause) = Unit {0}
-
--- a choice by a test
-pub either : {A : Type 0} (P : A → Type 0) (b : Bool) (x y : A) → (b ≡ true → P x) → (b ≡ false → P y) → P (cond b x y)
-either P true x y p q = p refl
-either P false x y p q = q refl
-
-signed_kept : (w : World) (zone : Node) (keys : List (List ℕ)) (name : Place) (group : Group) (by : Record × Key → Looked) (t : Tried (Record × Key)) → under_keys w zone.signer keys group ≡ t
-    → ((p : Record × Key) → GoodPair w zone.signer keys group p → LookedKept w zone name (by p)) → LookedKept w zone name (if_signed w name t by)
-signed_kept w zone keys name group by (good p) e each = each p (from_under w zone.signer keys group p e)
-signed_kept w zone keys name group by nothing e each = bogus_below w zone name NoSignature
-signed_kept w zone keys name group by all_bad e each = bogus_below w zone name BadSignature
-signed_kept w zone keys name group by too_many_bad e each = bogus_below w zone name TooManyBadSignatures
 
 -- one record of NSEC, below a held zone
 pub record NsecGroup (w : World) (zone : Node) (keys : List (List ℕ)) (name : Place) (group : Group) (nsec : Nsec) : Type 0 where
@@ -64,7 +47,7 @@ matching_kept w zone keys name group nsec p n at g =
     either (LookedKept w zone name) (has_type nsec.types SOA) _ _ (λ _. bogus_below w zone name NsecForDsFromApex) (λ no_apex.
     either (LookedKept w zone name) (has_type nsec.types NS) _ _
     (λ cut. (
-      insecure_kept w zone keys name None nsec_without_ds group p n.zone_held g at n.of_class n.below whole (record {
+      insecure_kept w zone keys name None nsec_without_ds group p n.zone_held g (λ _. at) n.of_class n.below whole (record {
         of_type = n.of_type;
         rdata = n.one.rdata;
         alone = ap (map (λ (r : Record). r.rdata)) n.alone;
@@ -79,11 +62,11 @@ matching_kept w zone keys name group nsec p n at g =
       refl,
     ))
     (λ no_cut. (
-      within_kept w zone keys name group p n.zone_held g n.below n.of_class whole (inr (
+      within_kept w zone keys name group p n.zone_held g n.below n.of_class whole (inr (inl (
         nsec_at (set_in group) nsec,
         one_nsec w zone keys name group nsec n,
         inl (record { matches = at; no_delegation = no_cut; no_ds = no_ds; no_apex = no_apex }),
-      )),
+      ))),
       λ _. refl,
       refl,
     )))))
@@ -95,7 +78,7 @@ range_kept w zone keys name group nsec n no_dname no_delegation =
     either (LookedKept w zone name) (is_in_range (place group.owner) (place nsec.next_name) name && is_below (place nsec.next_name) name) _ _
     (λ found. signed_kept w zone keys name group (by_covering w zone keys name group) (under_keys w zone.signer keys group) refl (λ p g.
     either (LookedKept w zone name) (is_expanded group p.0) _ _ (λ _. bogus_below w zone name EmptyNonTerminalNsecFromWildcard) (λ whole. (
-      within_kept w zone keys name group p n.zone_held g n.below n.of_class whole (inr (
+      within_kept w zone keys name group p n.zone_held g n.below n.of_class whole (inr (inl (
         nsec_at (set_in group) nsec,
         one_nsec w zone keys name group nsec n,
         inr (record {
@@ -104,7 +87,7 @@ range_kept w zone keys name group nsec n no_dname no_delegation =
           no_dname = no_dname;
           no_delegation = no_delegation;
         }),
-      )),
+      ))),
       λ _. refl,
       refl,
     ))))
@@ -148,25 +131,12 @@ group_kept w zone keys name group h below =
     by_list e (r ∷ []) f = by_read e r f (nsec_of r.rdata) refl
     by_list e (r ∷ s ∷ rs) f = tt
 
-then_kept : (w : World) (zone : Node) (name : Place) (first later : Looked) → LookedKept w zone name first → LookedKept w zone name later
-    → LookedKept w zone name (then_looked first later)
-then_kept w zone name (decided n) later p q = p
-then_kept w zone name (passed cause) (decided n) p q = q
-then_kept w zone name (passed cause) (passed None) p q = tt
-then_kept w zone name (passed cause) (passed (Some later)) p q = tt
-
-search_kept : (w : World) (zone : Node) (keys : List (List ℕ)) (name : Place) (groups : List Group) → HeldZone w zone keys
-    → IsStrictlyBelow name zone.signer → LookedKept w zone name (nsec_search w zone keys name groups)
-unfolding nsec_search
-search_kept w zone keys name [] h below = tt
-search_kept w zone keys name (g ∷ gs) h below = then_kept w zone name (by_group w zone keys name g) (nsec_search w zone keys name gs) (group_kept w zone keys name g h below) (search_kept w zone keys name gs h below)
-
 -- what is known of a name by a reply without a DS set for it is kept, and follows from the zone
 pub missing_below : (w : World) (zone : Node) (keys : List (List ℕ)) (name : Place) (groups : List Group) → HeldZone w zone keys
     → IsStrictlyBelow name zone.signer → KeptBelow w zone name (missing_ds w zone keys name groups)
 missing_below w zone keys name groups h below = by (then_looked (nsec_search w zone keys name groups) (nsec3_search w zone keys name groups))
-    (then_kept w zone name (nsec_search w zone keys name groups) (nsec3_search w zone keys name groups) (search_kept w zone keys name groups h below)
-    (either (LookedKept w zone name) (list_any (λ g. g.rtype == NSEC3) groups) _ _ (λ _. bogus_below w zone name NotBuilt) (λ _. tt)))
+    (then_kept w zone name (nsec_search w zone keys name groups) (nsec3_search w zone keys name groups) (among_kept w zone name (by_group w zone keys name) (λ g. group_kept w zone keys name g h below) groups)
+    (among_kept w zone name (by_hashed_group w zone keys name) (λ g. hashed_group_kept w zone keys name g h below) groups))
   where
     by : (l : Looked) → LookedKept w zone name l → KeptBelow w zone name (by_looked w name l)
     by (decided n) p = p

@@ -12,10 +12,10 @@ use Rattle.dsec_spec.specs.Groups.{Group}
 use Rattle.dsec_spec.specs.Lasting.{least_ttl}
 use Rattle.dsec_spec.specs.Chain as chain
 use Rattle.dsec_nodes.specs.World.{World}
-use Rattle.dsec_nodes.specs.Causes.{Cause, NsecForDsFromWildcard, NsecProvesDs, NoSupportedDs, NoProofForMissingDs, BadSignature, NotBuilt}
+use Rattle.dsec_nodes.specs.Causes.{Cause, NsecForDsFromWildcard, NsecProvesDs, NoSupportedDs, NoProofForMissingDs, BadSignature}
 use Rattle.dsec_nodes.specs.Nodes.{Node, Standing, apex, within, insecure, bogus, Ground, nsec_without_ds, ds_not_supported}
 use Rattle.dsec_nodes.specs.Replies.{sections}
-use Rattle.dsec_nodes.specs.MissingDs.{nsec_search}
+use Rattle.dsec_nodes.specs.MissingDs.{looked_among}
 use Rattle.dsec_nodes.specs.ByDs.{Below, made, asks, by_ds_reply}
 
 abbrev pub parent : Labels
@@ -43,6 +43,7 @@ w = record {
     max_keys_for_ds = 4;
     iterations_insecure = 100;
     iterations_bogus = 500;
+    most_hashes = 60;
   };
   now = 500;
 }
@@ -60,7 +61,7 @@ zone = record {
 }
 
 -- a signature from 0 to 1000 by the key of `example.`, over so many labels
-abbrev signed : ℕ → ℕ → Record
+abbrev pub signed : ℕ → ℕ → Record
 signed covered labels = record {
   owner = child;
   class = 1;
@@ -96,11 +97,11 @@ abbrev nsec_data : ℕ → List ℕ
 nsec_data bits = wire_octets parent ++ 0 ∷ 1 ∷ bits ∷ []
 
 -- what a reply with these sections comes to
-abbrev comes_to : List Group → List Group → Below
+abbrev pub comes_to : List Group → List Group → Below
 comes_to answers authorities = by_ds_reply w zone (key_octets zone_key ∷ []) (place child) (sections answers authorities)
 
 -- the standing of a node that was made
-abbrev standing_of : Below → Option Standing
+abbrev pub standing_of : Below → Option Standing
 standing_of (made n) = Some n.standing
 standing_of (asks pending) = None
 
@@ -119,16 +120,16 @@ kept_of (asks pending) = pending.valid_for
 
 -- an NSEC record with NS makes the name insecure, for as long as its TTL says
 insecure_for : kept_of (comes_to [] (set_of_one 47 (nsec_data 32) (signed 47 2) ∷ [])) ≡ 200
-unfolding nsec_search rrsig_of name_in labels_in blocks_in signs least_ttl
+unfolding looked_among rrsig_of name_in labels_in blocks_in signs least_ttl
 insecure_for = refl
 
 insecure_by_nsec : basis_in (standing_of (comes_to [] (set_of_one 47 (nsec_data 32) (signed 47 2) ∷ []))) ≡ Some (None, nsec_without_ds)
-unfolding nsec_search rrsig_of name_in labels_in blocks_in signs least_ttl
+unfolding looked_among rrsig_of name_in labels_in blocks_in signs least_ttl
 insecure_by_nsec = refl
 
 -- an expansion of a wildcard doesn't
 expanded_nsec : standing_of (comes_to [] (set_of_one 47 (nsec_data 32) (signed 47 1) ∷ [])) ≡ Some (bogus NsecForDsFromWildcard)
-unfolding nsec_search rrsig_of name_in labels_in blocks_in signs least_ttl
+unfolding looked_among rrsig_of name_in labels_in blocks_in signs least_ttl
 expanded_nsec = refl
 
 -- an NSEC record without NS makes it a name within the zone, and is kept
@@ -139,7 +140,7 @@ within_zone : standing_of (comes_to [] (set_of_one 47 (nsec_data 64) (signed 47 
   signing_key = key_octets zone_key;
   rrsig = (signed 47 2).rdata;
 }))
-unfolding nsec_search rrsig_of name_in labels_in blocks_in signs least_ttl
+unfolding looked_among rrsig_of name_in labels_in blocks_in signs least_ttl
 within_zone = refl
 
 -- so does a CNAME record
@@ -150,12 +151,12 @@ alias_within : standing_of (comes_to (set_of_one 5 (wire_octets parent) (signed 
   signing_key = key_octets zone_key;
   rrsig = (signed 5 2).rdata;
 }))
-unfolding nsec_search rrsig_of name_in labels_in blocks_in signs least_ttl
+unfolding looked_among rrsig_of name_in labels_in blocks_in signs least_ttl
 alias_within = refl
 
 -- but not an expansion of a wildcard
 expanded_alias : standing_of (comes_to (set_of_one 5 (wire_octets parent) (signed 5 1) ∷ []) []) ≡ Some (bogus NoProofForMissingDs)
-unfolding nsec_search rrsig_of name_in labels_in blocks_in signs least_ttl
+unfolding looked_among rrsig_of name_in labels_in blocks_in signs least_ttl
 expanded_alias = refl
 
 -- a DS set with a record of a known algorithm and digest asks for the key set, and may be kept for as long as its TTL says
@@ -170,35 +171,30 @@ asks_for_keys : comes_to (set_of_one 43 (5 ∷ 16 ∷ 13 ∷ 2 ∷ 7 ∷ []) (si
   };
   valid_for = 200;
 })
-unfolding nsec_search rrsig_of name_in labels_in blocks_in signs least_ttl
+unfolding looked_among rrsig_of name_in labels_in blocks_in signs least_ttl
 asks_for_keys = refl
 
 -- one of an unknown algorithm makes the name insecure
 unsupported : kept_of (comes_to (set_of_one 43 (5 ∷ 16 ∷ 99 ∷ 2 ∷ 7 ∷ []) (signed 43 2) ∷ []) []) ≡ 200
-unfolding nsec_search rrsig_of name_in labels_in blocks_in signs least_ttl
+unfolding looked_among rrsig_of name_in labels_in blocks_in signs least_ttl
 unsupported = refl
 
 insecure_by_ds : basis_in (standing_of (comes_to (set_of_one 43 (5 ∷ 16 ∷ 99 ∷ 2 ∷ 7 ∷ []) (signed 43 2) ∷ []) [])) ≡ Some (Some NoSupportedDs, ds_not_supported)
-unfolding nsec_search rrsig_of name_in labels_in blocks_in signs least_ttl
+unfolding looked_among rrsig_of name_in labels_in blocks_in signs least_ttl
 insecure_by_ds = refl
 
 -- but not as an expansion of a wildcard
 expanded_unsupported : standing_of (comes_to (set_of_one 43 (5 ∷ 16 ∷ 99 ∷ 2 ∷ 7 ∷ []) (signed 43 1) ∷ []) []) ≡ Some (bogus NoProofForMissingDs)
-unfolding nsec_search rrsig_of name_in labels_in blocks_in signs least_ttl
+unfolding looked_among rrsig_of name_in labels_in blocks_in signs least_ttl
 expanded_unsupported = refl
 
 -- an NSEC record with DS proves that there is a DS set
 nsec_with_ds : standing_of (comes_to [] (set_of_one 47 (wire_octets parent ++ 0 ∷ 6 ∷ 32 ∷ 0 ∷ 0 ∷ 0 ∷ 0 ∷ 16 ∷ []) (signed 47 2) ∷ [])) ≡ Some (bogus NsecProvesDs)
-unfolding nsec_search rrsig_of name_in labels_in blocks_in signs least_ttl
+unfolding looked_among rrsig_of name_in labels_in blocks_in signs least_ttl
 nsec_with_ds = refl
-
--- judging by NSEC3 records is left out
-nsec3_left_out : standing_of (comes_to [] (set_of_one 50 [] (signed 50 2) ∷ [])) ≡ Some (bogus NotBuilt)
-unfolding nsec_search rrsig_of name_in labels_in blocks_in signs least_ttl
-nsec3_left_out = refl
 
 -- a DS set without a good signature is bogus
 bad_signature : standing_of (by_ds_reply (record { accepts = λ _ _ _ _ _ _. false; anchors = []; bounds = w.bounds; now = 500 }) zone (key_octets zone_key ∷ [])
     (place child) (sections (set_of_one 43 (5 ∷ 16 ∷ 13 ∷ 2 ∷ 7 ∷ []) (signed 43 2) ∷ []) [])) ≡ Some (bogus BadSignature)
-unfolding nsec_search rrsig_of name_in labels_in blocks_in signs least_ttl
+unfolding looked_among rrsig_of name_in labels_in blocks_in signs least_ttl
 bad_signature = refl

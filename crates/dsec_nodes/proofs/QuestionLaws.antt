@@ -6,11 +6,14 @@ use Rattle.std.proofs.lemmas.List.Elements.{All-drop}
 use Rattle.dsec_spec.specs.Reading.{u16_in, u16_at, many_of}
 use Rattle.dsec_spec.specs.WireNames.{name_at}
 use Rattle.dsec_spec.specs.Messages.{Question, question_at, header_of, questions_of}
-use Rattle.dsec_spec.specs.Names.{place}
+use Rattle.dsec_spec.specs.Names.{Place, place}
 use Rattle.dsec_spec.proofs.ReadingLemmas.{from_bind}
+use Rattle.dsec_spec.specs.Groups.{Group}
 use Rattle.dsec_absence.specs.Denials.{IsDenial}
+use Rattle.dsec_nsec3.specs.HashedDenials.{IsHashedDenial}
 use Rattle.dsec_nodes.specs.World.{World}
-use Rattle.dsec_nodes.specs.Outcomes.{Outcome}
+use Rattle.dsec_nodes.specs.Outcomes.{Used, Outcome}
+use Rattle.dsec_nodes.specs.SoundProofs.{Disproof, by_nsec, by_nsec3, IsDeniedBy}
 use Rattle.dsec_nodes.specs.SoundOutcomes.{IsSecureDenial}
 
 two_octets : (octets : List ℕ) (n : ℕ) → All (λ o. o < 256) octets → u16_in octets ≡ Some n → n < 65536
@@ -50,8 +53,21 @@ type_is_small message question end h e =
     let header = from_bind (header_of message) _ (question ∷ [], end) e in
     first_type message header.0.questions 12 question end h header.2
 
+-- the records by which the question's name and type are denied are of their places, and each zone with the signer as apex of which they are true owns
+-- nothing of what is denied (RFC 4035 5.4, RFC 5155 8)
+abbrev pub Disproves : (w : World) (authorities : List Group) (question : Question) (signer : Place) (d : Disproof Used) → IsDeniedBy w authorities question signer d → Type 0
+Disproves w authorities question signer (by_nsec d) p = IsDenial signer (place question.name) question.rtype p.records
+Disproves w authorities question signer (by_nsec3 d) p = IsHashedDenial signer (place question.name) question.rtype p.records
+
+denied_so : (w : World) (authorities : List Group) (question : Question) (signer : Place) (d : Disproof Used) (p : IsDeniedBy w authorities question signer d)
+    → question.rtype < 65536 → Disproves w authorities question signer d p
+denied_so w authorities question signer (by_nsec d) p small = p.denies small
+denied_so w authorities question signer (by_nsec3 d) p small = p.denies small
+
 -- so in each zone of which the records are true that a message of octets uses, nothing is owned that it denies
 pub denial_holds : (w : World) (most : ℕ) (message : List ℕ) (o : Outcome) (d : IsSecureDenial w most message o) → All (λ x. x < 256) message
-    → IsDenial d.judged.signer (place d.has_soa.end.question.name) d.has_soa.end.question.rtype d.denied.records
+    → Disproves w d.has_soa.end.authorities d.has_soa.end.question d.judged.signer d.disproof d.denied
 denial_holds w most message o d h =
-    let read = d.has_soa.end.read in d.denied.denies (type_is_small message d.has_soa.end.question read.questions_end h read.asked)
+    let read = d.has_soa.end.read in
+    denied_so w d.has_soa.end.authorities d.has_soa.end.question d.judged.signer d.disproof d.denied
+    (type_is_small message d.has_soa.end.question read.questions_end h read.asked)

@@ -62,8 +62,8 @@ rests_decides anchors top n = (
   λ r. ap (rests_at anchors top) r.its ∙ and_from _ _ ((same_place_decides (place r.anchor.owner) top).1 r.at) (listed_told anchors r.anchor r.is_listed),
 )
 
-abbrev bounds_of : ℕ → ℕ → ℕ → ℕ → ℕ → ℕ → ℕ → Bounds
-bounds_of room validity bogus ds_records keys insecure bogus_at = record {
+abbrev bounds_of : ℕ → ℕ → ℕ → ℕ → ℕ → ℕ → ℕ → ℕ → Bounds
+bounds_of room validity bogus ds_records keys insecure bogus_at hashes = record {
   room = room;
   max_validity = validity;
   max_bogus_validity = bogus;
@@ -71,29 +71,34 @@ bounds_of room validity bogus ds_records keys insecure bogus_at = record {
   max_keys_for_ds = keys;
   iterations_insecure = insecure;
   iterations_bogus = bogus_at;
+  most_hashes = hashes;
 }
 
 -- bounds that pass the test are the same
 pub bounds_same : (a b : Bounds) → same_bounds a b ≡ true → a ≡ b
 bounds_same a b e =
-    let s7 = and_parts _ _ e in
+    let s8 = and_parts _ _ e in
+    let s7 = and_parts _ _ s8.0 in
     let s6 = and_parts _ _ s7.0 in
     let s5 = and_parts _ _ s6.0 in
     let s4 = and_parts _ _ s5.0 in
     let s3 = and_parts _ _ s4.0 in
     let s2 = and_parts _ _ s3.0 in
-    ap (λ (x : ℕ). bounds_of x a.max_validity a.max_bogus_validity a.max_ds_records a.max_keys_for_ds a.iterations_insecure a.iterations_bogus) (eqb-true a.room b.room s2.0)
-    ∙ (ap (λ (x : ℕ). bounds_of b.room x a.max_bogus_validity a.max_ds_records a.max_keys_for_ds a.iterations_insecure a.iterations_bogus) (eqb-true a.max_validity b.max_validity s2.1)
-    ∙ (ap (λ (x : ℕ). bounds_of b.room b.max_validity x a.max_ds_records a.max_keys_for_ds a.iterations_insecure a.iterations_bogus) (eqb-true a.max_bogus_validity b.max_bogus_validity s3.1)
-    ∙ (ap (λ (x : ℕ). bounds_of b.room b.max_validity b.max_bogus_validity x a.max_keys_for_ds a.iterations_insecure a.iterations_bogus) (eqb-true a.max_ds_records b.max_ds_records s4.1)
-    ∙ (ap (λ (x : ℕ). bounds_of b.room b.max_validity b.max_bogus_validity b.max_ds_records x a.iterations_insecure a.iterations_bogus) (eqb-true a.max_keys_for_ds b.max_keys_for_ds s5.1)
-    ∙ (ap (λ (x : ℕ). bounds_of b.room b.max_validity b.max_bogus_validity b.max_ds_records b.max_keys_for_ds x a.iterations_bogus) (eqb-true a.iterations_insecure b.iterations_insecure s6.1)
-    ∙ ap (λ (x : ℕ). bounds_of b.room b.max_validity b.max_bogus_validity b.max_ds_records b.max_keys_for_ds b.iterations_insecure x) (eqb-true a.iterations_bogus b.iterations_bogus s7.1))))))
+    ap (λ (x : ℕ). bounds_of x a.max_validity a.max_bogus_validity a.max_ds_records a.max_keys_for_ds a.iterations_insecure a.iterations_bogus a.most_hashes) (eqb-true a.room b.room s2.0)
+    ∙ (ap (λ (x : ℕ). bounds_of b.room x a.max_bogus_validity a.max_ds_records a.max_keys_for_ds a.iterations_insecure a.iterations_bogus a.most_hashes) (eqb-true a.max_validity b.max_validity s2.1)
+    ∙ (ap (λ (x : ℕ). bounds_of b.room b.max_validity x a.max_ds_records a.max_keys_for_ds a.iterations_insecure a.iterations_bogus a.most_hashes) (eqb-true a.max_bogus_validity b.max_bogus_validity s3.1)
+    ∙ (ap (λ (x : ℕ). bounds_of b.room b.max_validity b.max_bogus_validity x a.max_keys_for_ds a.iterations_insecure a.iterations_bogus a.most_hashes) (eqb-true a.max_ds_records b.max_ds_records s4.1)
+    ∙ (ap (λ (x : ℕ). bounds_of b.room b.max_validity b.max_bogus_validity b.max_ds_records x a.iterations_insecure a.iterations_bogus a.most_hashes) (eqb-true a.max_keys_for_ds b.max_keys_for_ds s5.1)
+    ∙ (ap (λ (x : ℕ). bounds_of b.room b.max_validity b.max_bogus_validity b.max_ds_records b.max_keys_for_ds x a.iterations_bogus a.most_hashes) (eqb-true a.iterations_insecure b.iterations_insecure s6.1)
+    ∙ (ap (λ (x : ℕ). bounds_of b.room b.max_validity b.max_bogus_validity b.max_ds_records b.max_keys_for_ds b.iterations_insecure x a.most_hashes) (eqb-true a.iterations_bogus b.iterations_bogus s7.1)
+    ∙ ap (λ (x : ℕ). bounds_of b.room b.max_validity b.max_bogus_validity b.max_ds_records b.max_keys_for_ds b.iterations_insecure b.iterations_bogus x) (eqb-true a.most_hashes b.most_hashes s8.1)))))))
 
 same_itself : (a : Bounds) → same_bounds a a ≡ true
-same_itself a = and_from _ _ (and_from _ _ (and_from _ _ (and_from _ _ (and_from _ _ (and_from _ _ (eq-eqb a.room a.room refl) (eq-eqb a.max_validity a.max_validity refl))
-    (eq-eqb a.max_bogus_validity a.max_bogus_validity refl)) (eq-eqb a.max_ds_records a.max_ds_records refl)) (eq-eqb a.max_keys_for_ds a.max_keys_for_ds refl))
-    (eq-eqb a.iterations_insecure a.iterations_insecure refl)) (eq-eqb a.iterations_bogus a.iterations_bogus refl)
+same_itself a = and_from _ _ (and_from _ _ (and_from _ _ (and_from _ _ (and_from _ _ (and_from _ _ (and_from _ _
+    (eq-eqb a.room a.room refl) (eq-eqb a.max_validity a.max_validity refl)) (eq-eqb a.max_bogus_validity a.max_bogus_validity refl))
+    (eq-eqb a.max_ds_records a.max_ds_records refl)) (eq-eqb a.max_keys_for_ds a.max_keys_for_ds refl))
+    (eq-eqb a.iterations_insecure a.iterations_insecure refl)) (eq-eqb a.iterations_bogus a.iterations_bogus refl))
+    (eq-eqb a.most_hashes a.most_hashes refl)
 
 -- whether bounds are the same is told by the test
 pub same_bounds_decides : (a b : Bounds) → Decides (same_bounds a b) (a ≡ b)

@@ -5,6 +5,9 @@ pub mod Nodes
 pub mod Signing
 pub mod Admission
 pub mod Replies
+pub mod Looking
+pub mod MissingByNsec
+pub mod MissingByHash
 pub mod MissingDs
 pub mod ByDs
 pub mod Walk
@@ -21,5 +24,7 @@ pub mod ByDenial
 pub mod Alone
 pub mod SoundFindings
 pub mod SoundDenials
+pub mod SoundHashes
+pub mod SoundProofs
 pub mod SoundOutcomes
 pub mod Runs

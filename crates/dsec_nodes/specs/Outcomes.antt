@@ -41,6 +41,10 @@ pub record Outcome : Type 0 where
 abbrev pub secure_by : List Judged → List Used → Outcome
 secure_by judged used = record { state = secure; cause = None; why = by_groups judged used }
 
+-- an insecure outcome, by groups that leave open what was to be denied (RFC 5155 6, RFC 9276 3.2)
+abbrev pub open_by : Option Cause → List Judged → List Used → Outcome
+open_by cause judged used = record { state = insecure; cause = cause; why = by_groups judged used }
+
 -- a bogus outcome (RFC 4033 5)
 abbrev pub bogus_by : Cause → Why → Outcome
 bogus_by cause why = record { state = bogus; cause = Some cause; why = why }

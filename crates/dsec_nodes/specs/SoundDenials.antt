@@ -1,5 +1,5 @@
--- What is denied beside a message's other groups, and by which groups of its authority section (RFC 2308 2, RFC 4033 2, RFC 4035 5.4).
-use Rattle.std.specs.Prelude.{◌≡◌, ◌≢◌, ◌<◌, ℕ, List, slice_get, Option, Some}
+-- By which SOA set a message denies, and what is denied by NSEC records of its authority section (RFC 2308 2, RFC 4033 2, RFC 4035 5.4).
+use Rattle.std.specs.Prelude.{◌≡◌, ◌<◌, ℕ, List, slice_get, Some}
 use Rattle.dsec_spec.specs.Names.{Place, place, IsAtOrBelow, IsStrictlyBelow}
 use Rattle.dsec_spec.specs.Numbers.{SOA}
 use Rattle.dsec_spec.specs.Messages.{Question}
@@ -37,29 +37,10 @@ pub data AreUsed (w : World) (authorities : List Group) (class : ℕ) (signer : 
       → AreUsed w authorities class signer (no_type_by_wildcard c u v) (no_type_by_wildcard c r s)
   closer_used : {c : Place} {u : Used} {r : NsecAt} → IsUsed w authorities class signer u r → AreUsed w authorities class signer (no_closer c u) (no_closer c r)
 
--- What is denied of the question's name and type: by these groups of the authority section, which the zone has signed; and for a type of 16
+-- What is denied of the question's name and type by NSEC records: by these groups of the authority section, which the zone has signed; and for a type of 16
 -- bits, as each in a message of octets has, each zone with that apex of which their records are true owns nothing of it (RFC 1035 3.2.3,
 -- RFC 4035 5.4)
-pub record IsDeniedBy (w : World) (authorities : List Group) (question : Question) (signer : Place) (denial : Denial Used) : Type 0 where
+pub record IsNsecDenied (w : World) (authorities : List Group) (question : Question) (signer : Place) (denial : Denial Used) : Type 0 where
   pub records : Denial NsecAt
   pub used : AreUsed w authorities question.class signer denial records
   pub denies : question.rtype < 65536 → IsDenial signer (place question.name) question.rtype records
-
--- that the type stands at the name, or at the wildcard that stands for it, is denied (RFC 2308 2.2)
-abbrev pub IsOfType : {R : Type 0} → Denial R → Type 0
-IsOfType (no_type own) = Unit {0}
-IsOfType (no_type_by_wildcard encloser around of_wildcard) = Unit {0}
-IsOfType (no_name encloser around around_wildcard) = ⊥
-IsOfType (no_closer encloser around) = ⊥
-
--- that the name exists, or a wildcard that could stand for it, is denied (RFC 2308 2.1)
-abbrev pub IsOfName : {R : Type 0} → Denial R → Type 0
-IsOfName (no_name encloser around around_wildcard) = Unit {0}
-IsOfName (no_type own) = ⊥
-IsOfName (no_type_by_wildcard encloser around of_wildcard) = ⊥
-IsOfName (no_closer encloser around) = ⊥
-
--- without an error the type is denied, and with one the name (RFC 2308 2)
-pub record IsByRcode {R : Type 0} (rcode : Option ℕ) (denial : Denial R) : Type 0 where
-  pub no_error : rcode ≡ Some 0 → IsOfType denial
-  pub error : rcode ≢ Some 0 → IsOfName denial

@@ -7,14 +7,15 @@ use Rattle.dsec_spec.specs.Groups.{Group, groups_of}
 use Rattle.dsec_spec.specs.Islands.{island}
 use Rattle.dsec_spec.specs.Redirection.{moved}
 use Rattle.dsec_spec.specs.Sound.{IsAtQuestion, LeadsOn}
-use Rattle.dsec_absence.specs.Denials.{Denial, no_closer, used_in}
 use Rattle.dsec_nodes.specs.World.{World}
 use Rattle.dsec_nodes.specs.Causes.{RrsigWithoutRrset, NoTrustAnchor}
 use Rattle.dsec_nodes.specs.Nodes.{SignedCause}
 use Rattle.dsec_nodes.specs.Judging.{Judged}
 use Rattle.dsec_nodes.specs.Outcomes.{State, secure, insecure, bogus, indeterminate, Used, by_groups, by_cause, Outcome}
 use Rattle.dsec_nodes.specs.SoundFindings.{IsShownInsecure, IsShown, IsShownItself, IsShownFrom}
-use Rattle.dsec_nodes.specs.SoundDenials.{IsSoaFor, IsDeniedBy, IsByRcode}
+use Rattle.dsec_nodes.specs.SoundDenials.{IsSoaFor}
+use Rattle.dsec_nodes.specs.SoundHashes.{IsLeftOpenBy}
+use Rattle.dsec_nodes.specs.SoundProofs.{Disproof, disproof_used, IsDeniedBy, IsOfCloser, IsByRcode}
 
 -- the message has this one question, and these are the groups of its answer section, CNAME records that follow from a DNAME record moved to
 -- it, and of its authority section (RFC 1035 4.1, RFC 6672 3.1)
@@ -70,19 +71,20 @@ pub record IsSecureByWildcard (w : World) (most : ℕ) (message : List ℕ) (o :
   pub answered : IsAnswered w most message judged.group
   pub encloser : Place
   pub expanded : IsShownFrom w judged encloser
-  pub used : Used
-  pub denied : IsDeniedBy w answered.end.authorities answered.end.question judged.signer (no_closer encloser used)
-  pub why : o.why ≡ by_groups (judged ∷ []) (used ∷ [])
+  pub disproof : Disproof Used
+  pub of_closer : IsOfCloser encloser disproof
+  pub denied : IsDeniedBy w answered.end.authorities answered.end.question judged.signer disproof
+  pub why : o.why ≡ by_groups (judged ∷ []) (disproof_used disproof)
 
 -- or they show the SOA set by which the message denies, and the type, or with an error the name, is denied (RFC 2308 2, RFC 4035 5.4)
 pub record IsSecureDenial (w : World) (most : ℕ) (message : List ℕ) (o : Outcome) : Type 0 where
   pub judged : Judged
   pub has_soa : HasSoa w most message judged.group
   pub shown : IsShown w judged
-  pub denial : Denial Used
-  pub by_rcode : IsByRcode (rcode_of message) denial
-  pub denied : IsDeniedBy w has_soa.end.authorities has_soa.end.question judged.signer denial
-  pub why : o.why ≡ by_groups (judged ∷ []) (used_in denial)
+  pub disproof : Disproof Used
+  pub by_rcode : IsByRcode (rcode_of message) disproof
+  pub denied : IsDeniedBy w has_soa.end.authorities has_soa.end.question judged.signer disproof
+  pub why : o.why ≡ by_groups (judged ∷ []) (disproof_used disproof)
 
 -- a Secure outcome is one of these, and no cause is told (RFC 4033 5)
 abbrev pub IsSound : World → ℕ → List ℕ → Outcome → Type 0
@@ -105,6 +107,31 @@ pub record HasSignaturesAlone (w : World) (most : ℕ) (message : List ℕ) (o :
   pub no_records : group.records ≡ []
   pub cause : o.cause ≡ Some RrsigWithoutRrset
 
+-- or the message denies, links show the SOA set by which it does, and an NSEC3 record leaves open what is denied (RFC 5155 6, RFC 9276 3.2)
+pub record IsOpenDenial (w : World) (most : ℕ) (message : List ℕ) (o : Outcome) : Type 0 where
+  pub judged : Judged
+  pub has_soa : HasSoa w most message judged.group
+  pub shown : IsShown w judged
+  pub used : Used
+  pub left_open : IsLeftOpenBy w has_soa.end.authorities has_soa.end.question judged.signer used
+  pub why : o.why ≡ by_groups (judged ∷ []) (used ∷ [])
+
+-- or links show the answer's set as an expansion of a wildcard, and an NSEC3 record leaves open whether a closer name exists (RFC 5155 6, 8.8,
+-- RFC 9276 3.2)
+pub record IsOpenByWildcard (w : World) (most : ℕ) (message : List ℕ) (o : Outcome) : Type 0 where
+  pub judged : Judged
+  pub answered : IsAnswered w most message judged.group
+  pub encloser : Place
+  pub expanded : IsShownFrom w judged encloser
+  pub used : Used
+  pub left_open : IsLeftOpenBy w answered.end.authorities answered.end.question judged.signer used
+  pub why : o.why ≡ by_groups (judged ∷ []) (used ∷ [])
+
+-- an Insecure outcome is one of these (RFC 4033 5)
+abbrev pub IsLeftInsecure : World → ℕ → List ℕ → Outcome → Type 0
+IsLeftInsecure w most message o =
+    IsInsecure w most message o ⊎ HasSignaturesAlone w most message o ⊎ IsOpenDenial w most message o ⊎ IsOpenByWildcard w most message o
+
 -- an Indeterminate outcome: no anchor stands at or above where the group that decides is looked for (RFC 4033 5)
 pub record IsUnanchored (w : World) (most : ℕ) (message : List ℕ) (o : Outcome) : Type 0 where
   pub group : Group
@@ -115,6 +142,6 @@ pub record IsUnanchored (w : World) (most : ℕ) (message : List ℕ) (o : Outco
 -- what each state means of an outcome; a Bogus one has a cause (RFC 4033 5)
 abbrev pub IsJustified : World → ℕ → List ℕ → Outcome → State → Type 0
 IsJustified w most message o secure = IsSound w most message o
-IsJustified w most message o insecure = IsInsecure w most message o ⊎ HasSignaturesAlone w most message o
+IsJustified w most message o insecure = IsLeftInsecure w most message o
 IsJustified w most message o bogus = IsSome o.cause
 IsJustified w most message o indeterminate = IsUnanchored w most message o

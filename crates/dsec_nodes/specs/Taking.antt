@@ -22,7 +22,7 @@ abbrev pub same_bounds : Bounds → Bounds → Bool
 same_bounds a b =
     (a.room == b.room) && (a.max_validity == b.max_validity) && (a.max_bogus_validity == b.max_bogus_validity)
     && (a.max_ds_records == b.max_ds_records) && (a.max_keys_for_ds == b.max_keys_for_ds)
-    && (a.iterations_insecure == b.iterations_insecure) && (a.iterations_bogus == b.iterations_bogus)
+    && (a.iterations_insecure == b.iterations_insecure) && (a.iterations_bogus == b.iterations_bogus) && (a.most_hashes == b.most_hashes)
 
 -- whether a node is kept at the moment of judging: not before it was made, and no longer than it is valid for (RFC 4035 4.5)
 abbrev pub is_in_time : World → Node → Bool

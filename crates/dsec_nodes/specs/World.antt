@@ -3,6 +3,7 @@ use Rattle.std.specs.Prelude.{ℕ, ◌%◌, ◌^◌, List, Option}
 use Rattle.dsec_spec.specs.Names.{Place}
 use Rattle.dsec_spec.specs.Records.{Record}
 use Rattle.dsec_spec.specs.Accepts.{Accepts}
+use Rattle.dsec_nsec3.specs.Counting.{HashLimits}
 
 -- how much is tried, and for how many seconds something is kept at most (RFC 4035 4.5, 4.7)
 pub record Bounds : Type 0 where
@@ -20,6 +21,16 @@ pub record Bounds : Type 0 where
   pub iterations_insecure : ℕ
   -- above how many iterations an NSEC3 record makes a name bogus (RFC 9276 3.2)
   pub iterations_bogus : ℕ
+  -- how many hashes are made at most to find a closest encloser (RFC 5155 8.3)
+  pub most_hashes : ℕ
+
+-- how far hashes are followed (RFC 5155 8.3, RFC 9276 3.2)
+abbrev pub limits_of : Bounds → HashLimits
+limits_of bounds = record {
+  iterations_insecure = bounds.iterations_insecure;
+  iterations_bogus = bounds.iterations_bogus;
+  most_hashes = bounds.most_hashes;
+}
 
 -- what judging goes by: the signatures that are accepted, the anchors, the bounds, and the moment in seconds since 1970 (RFC 4033 2)
 pub record World : Type 0 where

@@ -122,6 +122,7 @@ world = record {
     max_keys_for_ds = 4;
     iterations_insecure = 100;
     iterations_bogus = 500;
+    most_hashes = 60;
   };
   now = 500;
 }

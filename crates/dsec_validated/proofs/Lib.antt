@@ -1,1 +1,2 @@
 pub mod CacheLaws
+pub mod HashLaws

@@ -1,2 +1,3 @@
 pub mod Validated
 pub mod SigCaches
+pub mod Nsec3Caches

@@ -2,10 +2,10 @@
 
 ghost use Rattle.std.specs.Prelude.{◌≡◌, [], IfOk, IfSome, None, Ok, OnErr, OnOk, max};
 ghost use Rattle.std.specs.Map.{lookup};
-ghost use Rattle.std.specs.NonZero.{non_zero_usize_get};
 ghost use Rattle.lru.specs.LruCache.{lru_cache, promoted, put_entries};
 ghost use Rattle.dsec_validated.specs.SigCaches.{IsTrueCheck, check_of, same_check};
 
+use crate::sizes::{cap_of, octets};
 use dsec_crypto::{By, Verifier};
 use dsec_group::Memo;
 use dsec_name::{NoMemory, Octets};
@@ -13,7 +13,6 @@ use lru::LruCache;
 use std::alloc::Global;
 use std::hash::{Hash, Hasher};
 use std::marker::Model;
-use std::num::NonZeroUsize;
 
 /// All that a verifier's answer depends on.
 #[derive(PartialEq, Eq, Hash, Drop)]
@@ -72,23 +71,6 @@ impl Check {
             signature,
         })
     }
-}
-
-/// A size that isn't 0.
-fn cap_of(size: u64) -> NonZeroUsize
-    ensures { non_zero_usize_get result ≡ max 1 size }
-{
-    match NonZeroUsize::new(size as usize) {
-        Some(cap) => cap,
-        None => NonZeroUsize::MIN,
-    }
-}
-
-/// A copy of octets.
-fn octets(alloc: Global, from: &[u8]) -> Result<Octets, NoMemory>
-    ensures { IfOk result (λ copy. copy ≡ from.now) }
-{
-    Ok(Octets::new(Vec::from_slice(alloc, from)?))
 }
 
 impl<V: Verifier> SigCache<V> {

@@ -1,11 +1,14 @@
 -- What is known of a name below a zone doesn't depend on the anchors.
 use Rattle.std.proofs.Common.{◌≡◌, ℕ, ◌==◌, ◌&&◌, Bool, true, false, cond, List, [], ◌∷◌, length, Option, Some, None, refl, ap, ◌∙◌, subst}
-use Rattle.std.specs.Prelude.{find}
+use Rattle.std.specs.Prelude.{find, nat_lt}
+use Rattle.std.specs.Str.{bytes_eq}
+use Rattle.std.proofs.Math.Bool.{not}
 use Rattle.dsec_spec.specs.Accepts.{Accepts}
 use Rattle.dsec_spec.specs.Names.{Place, place, same_place, is_below, is_strictly_below}
 use Rattle.dsec_spec.specs.Numbers.{IN, CNAME, DNAME, DS, DNSKEY, NSEC}
 use Rattle.dsec_spec.specs.Records.{Record, Key}
-use Rattle.dsec_spec.specs.RecordViews.{Nsec, nsec_of}
+use Rattle.dsec_spec.specs.RecordViews.{Nsec, nsec_of, Nsec3}
+use Rattle.dsec_spec.specs.DenyingRecords.{hash_by}
 use Rattle.dsec_spec.specs.TypeBitmaps.{has_type}
 use Rattle.dsec_spec.specs.Chain.{IsDsLink}
 use Rattle.dsec_spec.specs.Groups.{Group}
@@ -15,7 +18,8 @@ use Rattle.dsec_nodes.specs.Nodes.{Node, apex}
 use Rattle.dsec_nodes.specs.Signing.{under_keys, is_expanded, is_set_at}
 use Rattle.dsec_nodes.specs.Admission.{Admitted, tried_by, ds_search}
 use Rattle.dsec_nodes.specs.Replies.{Reply, failed, unreadable, sections}
-use Rattle.dsec_nodes.specs.MissingDs.{Looked, decided, passed, if_signed, is_in_range, by_matching, by_covering, by_range, delegates, by_prefix, by_nsec, by_records, by_group, then_looked, nsec_search, nsec3_search, by_looked, missing_ds}
+use Rattle.dsec_nodes.specs.MissingDs.{Looked, decided, passed, if_signed, is_in_range, by_matching, by_covering, by_range, delegates, by_prefix, by_nsec, by_records, by_group, then_looked, looked_among, nsec_search, nsec3_search, looked_for, by_looked, missing_ds}
+use Rattle.dsec_nodes.specs.MissingByHash.{is_between, by_own_hash, redirects, by_hash_gap, by_hashes, by_owner_hash, by_iterations, has_too_many, has_many, owner_hash_in, by_hashing, is_label_before, by_nsec3, nsec3_in, by_hashed_group}
 use Rattle.dsec_nodes.specs.ByDs.{Below, Pending, made, if_one, by_alias, by_ds_set, by_ds_reply, by_tried, by_key_set, by_key_reply, ways}
 use Rattle.dsec_nodes.specs.Held.{IsPending}
 use Rattle.dsec_nodes.specs.Walk.{held_keys}
@@ -72,15 +76,42 @@ module _ (accepts : Accepts) (anchors : List Record) (bounds : Bounds) (now : �
     group_same : (group : Group) → by_group here zone keys name group ≡ by_group bare zone keys name group
     group_same group = cond_same ((group.rtype == NSEC) && (group.class == IN)) _ _ _ _ (records_same group group.records) refl
 
-    search_same : (groups : List Group) → nsec_search here zone keys name groups ≡ nsec_search bare zone keys name groups
-    unfolding nsec_search
-    search_same [] = refl
-    search_same (g ∷ gs) =
-        ap (λ (x : Looked). then_looked x (nsec_search here zone keys name gs)) (group_same g)
-        ∙ ap (then_looked (by_group bare zone keys name g)) (search_same gs)
+    hashes_same : (group : Group) (nsec3 : Nsec3) (owner_hash hash : List ℕ) → by_hashes here zone keys name group nsec3 owner_hash hash ≡ by_hashes bare zone keys name group nsec3 owner_hash hash
+    hashes_same group nsec3 owner_hash hash =
+        cond_same (bytes_eq hash owner_hash) _ _ _ _
+        (signed_same name (by_own_hash here zone keys name group nsec3) (by_own_hash bare zone keys name group nsec3) (under_keys here zone.signer keys group) (λ p. refl))
+        (cond_same (is_between owner_hash nsec3.next_owner hash) _ _ _ _
+        (signed_same name (by_hash_gap here zone keys name group nsec3 (redirects zone.signer owner_hash nsec3)) (by_hash_gap bare zone keys name group nsec3 (redirects zone.signer owner_hash nsec3)) (under_keys here zone.signer keys group) (λ p. refl))
+        refl)
+
+    owner_hash_same : (group : Group) (nsec3 : Nsec3) (o : Option (List ℕ)) → by_owner_hash here zone keys name group nsec3 o ≡ by_owner_hash bare zone keys name group nsec3 o
+    owner_hash_same group nsec3 None = refl
+    owner_hash_same group nsec3 (Some owner_hash) = hashes_same group nsec3 owner_hash (hash_by nsec3.hashing name)
+
+    hashing_same : (group : Group) (nsec3 : Nsec3) → by_hashing here zone keys name group nsec3 ≡ by_hashing bare zone keys name group nsec3
+    hashing_same group nsec3 =
+        cond_same (not (nsec3.hashing.hash_algorithm == 1)) _ _ _ _ refl
+        (cond_same (has_many bounds nsec3) _ _ _ _
+        (signed_same name (by_iterations here zone keys name group (has_too_many bounds nsec3)) (by_iterations bare zone keys name group (has_too_many bounds nsec3)) (under_keys here zone.signer keys group) (λ p. refl))
+        (owner_hash_same group nsec3 (owner_hash_in group.owner)))
+
+    nsec3_same : (group : Group) (o : Option Nsec3) → by_nsec3 here zone keys name group o ≡ by_nsec3 bare zone keys name group o
+    nsec3_same group None = refl
+    nsec3_same group (Some nsec3) =
+        cond_same (nat_lt 1 nsec3.hashing.flags) _ _ _ _ refl
+        (cond_same (is_label_before zone.signer group.owner) _ _ _ _ (hashing_same group nsec3) refl)
+
+    among_same : (f g : Group → Looked) → ((group : Group) → f group ≡ g group) → (groups : List Group) → looked_among f groups ≡ looked_among g groups
+    unfolding looked_among
+    among_same f g each [] = refl
+    among_same f g each (x ∷ xs) = ap (λ (l : Looked). then_looked l (looked_among f xs)) (each x) ∙ ap (then_looked (g x)) (among_same f g each xs)
 
     missing_same : (groups : List Group) → missing_ds here zone keys name groups ≡ missing_ds bare zone keys name groups
-    missing_same groups = looked (then_looked (nsec_search here zone keys name groups) (nsec3_search here zone keys name groups)) ∙ ap (λ (x : Looked). by_looked bare name (then_looked x (nsec3_search bare zone keys name groups))) (search_same groups)
+    missing_same groups =
+        looked (looked_for here zone keys name groups)
+        ∙ (ap (λ (x : Looked). by_looked bare name (then_looked x (nsec3_search here zone keys name groups))) (among_same (by_group here zone keys name) (by_group bare zone keys name) group_same groups)
+        ∙ ap (λ (x : Looked). by_looked bare name (then_looked (nsec_search bare zone keys name groups) x))
+        (among_same (by_hashed_group here zone keys name) (by_hashed_group bare zone keys name) (λ group. nsec3_same group (nsec3_in group)) groups))
       where
         looked : (x : Looked) → by_looked here name x ≡ by_looked bare name x
         looked (decided n) = refl

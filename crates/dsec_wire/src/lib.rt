@@ -38,6 +38,7 @@ pub use message::Message;
 pub use names::read_name;
 pub use nsec::Nsec;
 pub use nsec3::{Nsec3, Nsec3param};
+pub use reading::record_at;
 pub use record::{Question, Record};
 pub use rrsig::Rrsig;
 pub use sections::Sections;

@@ -6,7 +6,7 @@ ghost use Rattle.dsec_spec.specs.Messages.{additionals_of, answers_of, authoriti
 ghost use Rattle.dsec_spec.specs.Reading.{Reads};
 ghost use Rattle.dsec_spec.specs.Records as records;
 ghost use Rattle.dsec_wire.specs.Errors.{wants_memory};
-ghost use Rattle.dsec_wire.specs.MessageSections.{items_of, sections_of};
+ghost use Rattle.dsec_wire.specs.MessageSections.{SectionsRead, items_of, sections_and_place, sections_of};
 
 use crate::error::{MessageError, ShortMessage};
 use crate::header::{Header, header_at};
@@ -75,6 +75,13 @@ impl Message {
         Ok(question)
     }
 
+    /// The questions, and the place after them.
+    pub fn question_and_place(&self, alloc: Global) -> Result<(Questions, usize), MessageError>
+        ensures { Reads {Y = List messages.Question × ℕ} wants_memory (λ read. (read.0, read.1)) result (questions_of self.now) }
+    {
+        read_questions(alloc, self.as_slice())
+    }
+
     /// The records of the answer section.
     pub fn answer(&self, alloc: Global) -> Result<Records, MessageError>
         ensures { Reads {Y = List records.Record} wants_memory (λ read. read) result (items_of (answers_of self.now)) }
@@ -120,6 +127,16 @@ impl Message {
         let (sections, at) = read_sections(alloc, message)?;
         let opt = first_opt(alloc, header.arcount(), message, at)?;
         Ok((sections, rcode_by(header, opt)))
+    }
+
+    /// The rcode, where the additional section begins at this place.
+    pub fn rcode_before(&self, alloc: Global, at: usize) -> Result<Rcode, NoMemory>
+        ensures { (sections : SectionsRead) → sections_and_place self.now ≡ Some sections → sections.1 ≡ at → IfOk result (λ rcode. rcode_of self.now ≡ Some rcode) }
+    {
+        let message = self.as_slice();
+        let header = header_at(message);
+        let opt = first_opt(alloc, header.arcount(), message, at)?;
+        Ok(rcode_by(header, opt))
     }
 
     /// The first OPT record of the additional section, where all before it is readable (RFC 6891 6.1.1).

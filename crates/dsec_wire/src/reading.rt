@@ -42,7 +42,7 @@ fn record_head_at(message: &[u8], at: usize) -> Option<RecordHead>
 }
 
 /// The record at a place, and the place after it.
-pub(crate) fn record_at(
+pub fn record_at(
     alloc: Global,
     message: &[u8],
     start: usize,

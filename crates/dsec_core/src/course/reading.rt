@@ -7,6 +7,8 @@ ghost use Rattle.dsec_spec.specs.Reading.{Gives};
 ghost use Rattle.dsec_spec.specs.Redirection.{is_bare as bare};
 ghost use Rattle.dsec_course.specs.Advancing.{beginning as beginning_of, begun as begun_of, begun_by};
 ghost use Rattle.dsec_found.specs.Errors.{wants_memory};
+ghost use Rattle.dsec_group.specs.Reading.{in_groups};
+ghost use Rattle.dsec_wire.specs.declared.sections.Sections.{Sections};
 ghost use Rattle.dsec_core.specs.Progress.{MovesOrEnds, read_as};
 ghost use Rattle.dsec_core.specs.Views.{waits_view};
 
@@ -14,11 +16,11 @@ use super::{Course, Waits};
 use dsec_cause::Cause;
 use dsec_crypto::Verifier;
 use dsec_found::Error;
-use dsec_group::{Group, GroupSet, Seed, groups};
+use dsec_group::{Group, GroupSet, GroupedSections, Seed, read_groups};
 use dsec_name::NoMemory;
 use dsec_number::{Rcode, Rtype};
 use dsec_outcome::Outcome;
-use dsec_wire::{Message, Question, Sections};
+use dsec_wire::{Message, Question};
 use std::alloc::Global;
 use std::collections::VecDeque;
 
@@ -30,40 +32,39 @@ pub(crate) fn begun<V: Verifier>(
 ) -> Result<Course<V>, Error>
     ensures { Gives wants_memory (λ course. course) result (read_as (begun_of most message.now)) }
 {
-    let (sections, rcode) = message.sections_and_rcode(alloc)?;
+    let (sections, at) = read_groups(alloc, message, Seed::of_message(message))?;
+    let rcode = message.rcode_before(alloc, at)?;
     let octets = octets_of(alloc, message)?;
-    let seed = Seed::of_message(message);
-    Ok(by_sections(alloc, most, octets, rcode, seed, sections)?)
+    Ok(by_groups(alloc, most, octets, rcode, sections)?)
 }
 
-/// The same by the sections.
-fn by_sections<V: Verifier>(
+/// The same by the groups of the sections.
+fn by_groups<V: Verifier>(
     alloc: Global,
     most: u8,
     octets: Vec<u8>,
     rcode: Rcode,
-    seed: Seed,
-    sections: Sections,
+    groups: GroupedSections,
 ) -> Result<Course<V>, NoMemory>
     requires { rcode_of octets.items ≡ Some rcode }
-    ensures { IfOk result (λ course. Ok course ≡ begun_by most octets.items (Some (sections.question, sections.answer, sections.authority))) }
+    ensures { (sections : Sections) → groups ≡ in_groups sections
+        → IfOk result (λ course. Ok course ≡ begun_by most octets.items (Some (sections.question, sections.answer, sections.authority))) }
 {
-    let Sections {
+    let GroupedSections {
         question,
         answer,
         authority,
-    } = sections;
+    } = groups;
     let questions = question.into_vec();
-    let mut answers = groups(alloc, answer, seed)?;
+    let mut answers = answer;
     match moved_or_ended(most, &mut answers)? {
         Some(cause) => {
             let waits = Waits::ToEnd(Outcome::bogus(cause));
             Ok(beginning(alloc, octets, rcode, questions, 0, Vec::new(alloc), waits))
         }
         None => {
-            let authorities = groups(alloc, authority, seed)?;
             let count = answers.len();
-            let left = in_order(answers, authorities)?;
+            let left = in_order(answers, authority)?;
             Ok(beginning(alloc, octets, rcode, questions, count, left, Waits::ToBegin))
         }
     }

@@ -2,10 +2,11 @@ use Rattle.std.proofs.Common.{arith, length, ap, ◌∙◌, map, subst, Option, 
 use Rattle.dsec_cause.specs.declared.cause.Cause.{Cause}
 use Rattle.dsec_link.specs.TaggedKeys.{tagged_view}
 use Rattle.dsec_spec.specs.Names.{place}
-use Rattle.dsec_nodes.specs.MissingDs.{by_group, nsec_search, passed, then_looked}
+use Rattle.dsec_spec.specs.Numbers.{NSEC}
+use Rattle.dsec_nodes.specs.MissingDs.{by_group, looked_among, passed, then_looked}
 use Rattle.dsec_denial.specs.Findings.{Finds}
-use Rattle.dsec_denial.specs.declared.finding.NsecFinding.{NsecFinding}
-use Rattle.dsec_denial.proofs.SearchSteps.{at_the_end, ends_with, from_index, of_all, one_more, past}
+use Rattle.dsec_denial.specs.declared.finding.DsFinding.{DsFinding}
+use Rattle.dsec_denial.proofs.SearchSteps.{at_the_end, ends_with, from_index, one_further, past}
 use Rattle.dsec_denial.proofs.search.nsec_for_missing_ds.Goals as goal
 
 pub returns-in_default : goal.returns-in_default
@@ -16,10 +17,10 @@ returns-in_default g c =
     record {
       there = c.in_ok-found.ensures.there;
       found = λ w zone datas goes.
-          ends_with w zone datas name groups c.loop-index.index here.0 here.2 c.loop-index.last (c.loop-index.invariant.0 w zone datas goes) (map tagged_view c.args.keys.now) c.in_ok-found.found c.in_default.not-Passed
+          ends_with w zone datas name (by_group w zone datas name) groups c.loop-index.index here.0 here.2 c.loop-index.last (c.loop-index.invariant.0 w zone datas goes) (map tagged_view c.args.keys.now) c.in_ok-found.found c.in_default.not-Passed
           (c.in_ok-found.ensures.found w zone datas here.0 goes here.1);
       later = omega (arith, c.loop-index.invariant.1, c.in_ok-found.ensures.later);
-      bound = of_all _ _ c.loop-index.steps c.loop-index.index (length groups) _ c.loop-index-test.true c.in_ok-found.ensures.bound c.loop-index.invariant.2;
+      bound = omega (arith, one_further NSEC here.0 groups c.loop-index.index here.2 _ _ c.loop-index.steps _ (c.in_ok-found.ensures.bound here.0 here.1) c.loop-index.invariant.2);
     }
 
 pub loop-index-preserved : goal.loop-index-preserved
@@ -28,13 +29,19 @@ loop-index-preserved g c =
     let name = place c.args.name.now in
     let here = from_index groups c.loop-index.index c.loop-index-test.true in (
       λ w zone datas goes.
-          let shows = subst (λ (found : NsecFinding). Finds w zone datas name groups (map tagged_view c.args.keys.now) found (by_group w zone datas name here.0)) c.in-Passed.is (c.in_ok-found.ensures.found w zone datas here.0 goes here.1) in
-          ap (λ (last : Option Cause). then_looked (passed last) (nsec_search w zone datas name (drop (c.loop-index.index + 1) groups))) c.or-last.ensures
-          ∙ past w zone datas name groups c.loop-index.index here.0 here.2 c.loop-index.last (c.loop-index.invariant.0 w zone datas goes) c.in-Passed.cause shows,
+          let shows = subst (λ (found : DsFinding). Finds w zone datas name groups (map tagged_view c.args.keys.now) found (by_group w zone datas name here.0)) c.in-Passed.is (c.in_ok-found.ensures.found w zone datas here.0 goes here.1) in
+          ap (λ (last : Option Cause). then_looked (passed last) (looked_among (by_group w zone datas name) (drop (c.loop-index.index + 1) groups))) c.or-last.ensures
+          ∙ past w zone datas name (by_group w zone datas name) groups c.loop-index.index here.0 here.2 c.loop-index.last (c.loop-index.invariant.0 w zone datas goes) c.in-Passed.cause shows,
       omega (arith, c.loop-index.invariant.1, c.in_ok-found.ensures.later),
-      one_more _ _ c.loop-index.steps c.loop-index.index _ c.in_ok-found.ensures.bound c.loop-index.invariant.2,
+      one_further NSEC here.0 groups c.loop-index.index here.2 _ _ c.loop-index.steps _ (c.in_ok-found.ensures.bound here.0 here.1) c.loop-index.invariant.2,
     )
 
 pub returns-clause-found : goal.returns-clause-found
 returns-clause-found g c = λ w zone datas goes.
-    at_the_end w zone datas (place c.args.name.now) c.args.groups.now c.loop-index.index c.loop-index.last (omega (arith, c.loop-index-test.false)) (c.loop-index.invariant.0 w zone datas goes)
+    at_the_end (by_group w zone datas (place c.args.name.now)) c.args.groups.now c.loop-index.index c.loop-index.last (omega (arith, c.loop-index-test.false)) (c.loop-index.invariant.0 w zone datas goes)
+
+pub returns-in_err-found-clause-bound : goal.returns-in_err-found-clause-bound
+returns-in_err-found-clause-bound g c =
+    let groups = c.args.groups.now in
+    let here = from_index groups c.loop-index.index c.loop-index-test.true in
+    omega (arith, one_further NSEC here.0 groups c.loop-index.index here.2 _ _ c.loop-index.steps _ (c.in_err-found.ensures.bound here.0 here.1) c.loop-index.invariant.2)

@@ -1,0 +1,99 @@
+//! The search of a reply's NSEC3 records for why DS is missing (RFC 5155 8.9).
+
+ghost use Rattle.std.specs.Prelude.{◌≡◌, ◌≤◌, ◌<◌, ◌+◌, ◌*◌, [], ◌∷◌, List, ℕ, Some, IfOk, length, map, slice_get};
+ghost use Rattle.dsec_denial.specs.Findings.{AreThere, Finds, Follows, GoesBy, how_many};
+ghost use Rattle.dsec_link.specs.TaggedKeys.{tagged_view};
+ghost use Rattle.dsec_nodes.specs.MissingByHash.{by_hashed_group as shown_by, nsec3_search};
+ghost use Rattle.dsec_nodes.specs.Nodes.{Node};
+ghost use Rattle.dsec_nodes.specs.World.{World};
+ghost use Rattle.dsec_spec.specs.Groups as grouping;
+ghost use Rattle.dsec_spec.specs.Names.{place};
+ghost use Rattle.dsec_spec.specs.Numbers.{NSEC3};
+
+use crate::bearing::{bears, nsec3_in};
+use crate::finding::DsFinding;
+use crate::hashed_decision::decide;
+use crate::pair::good_pair;
+use dsec_crypto::Verifier;
+use dsec_group::{Group, Limits, Memo, Steps};
+use dsec_link::TaggedKey;
+use dsec_name::{Name, NoMemory};
+use dsec_number::Timestamp;
+use std::alloc::Global;
+use std::sync::ledger::Ledger;
+
+/// What the NSEC3 records among the groups show of a name where no DS set stands for it, under the keys of the zone above, which
+/// are trusted by what the caller knows: the first group in order of arrival that decides; else why nothing is shown, by
+/// the last that says so. Groups of class IN with one NSEC3 record of the zone count. A group is checked only where its record
+/// bears on the name, and once; of each two names are hashed at most, the name and the zone's.
+pub fn nsec3_for_missing_ds<V: Verifier, L: Ledger>(
+    alloc: Global,
+    groups: &[Group],
+    name: &Name,
+    apex: &Name,
+    keys: &[TaggedKey<'_>],
+    limits: &Limits,
+    t: Timestamp,
+    memo: &mut impl Memo<V>,
+    steps: &mut Steps<L>,
+) -> Result<DsFinding, NoMemory>
+    ensures there { IfOk result (AreThere groups.now (map tagged_view keys.now)) }
+    ensures found { IfOk result (λ found. (w : World) (zone : Node) (datas : List (List ℕ))
+        → GoesBy V.accepts (place apex.now) (map tagged_view keys.now) (limits.now.max_bad_signatures + 1) t w zone datas
+        → Follows limits.now.nsec3_iter_insecure limits.now.nsec3_iter_bogus w
+        → Finds w zone datas (place name.now) groups.now (map tagged_view keys.now) found (nsec3_search w zone datas (place name.now) groups.now)) }
+    ensures later { steps.old ≤ steps.new }
+    ensures bound { steps.new ≤ steps.old + how_many NSEC3 groups.now * (limits.now.max_bad_signatures + 1) }
+{
+    let mut last = None;
+    for index in 0..groups.len() {
+        let found = by_hashed_group::<V, L>(
+            alloc, groups, index, name, apex, keys, limits, t, memo, steps,
+        )?;
+        let DsFinding::Passed(cause) = found else {
+            return Ok(found);
+        };
+        last = cause.or(last);
+    }
+    Ok(DsFinding::Passed(last))
+}
+
+/// What the group at an index shows.
+fn by_hashed_group<V: Verifier, L: Ledger>(
+    alloc: Global,
+    groups: &[Group],
+    index: usize,
+    name: &Name,
+    apex: &Name,
+    keys: &[TaggedKey<'_>],
+    limits: &Limits,
+    t: Timestamp,
+    memo: &mut impl Memo<V>,
+    steps: &mut Steps<L>,
+) -> Result<DsFinding, NoMemory>
+    requires { index < length groups.now }
+    ensures there { IfOk result (AreThere groups.now (map tagged_view keys.now)) }
+    ensures found { IfOk result (λ found. (w : World) (zone : Node) (datas : List (List ℕ)) (group : grouping.Group)
+        → GoesBy V.accepts (place apex.now) (map tagged_view keys.now) (limits.now.max_bad_signatures + 1) t w zone datas
+        → Follows limits.now.nsec3_iter_insecure limits.now.nsec3_iter_bogus w → slice_get groups.now index ≡ Some group
+        → Finds w zone datas (place name.now) groups.now (map tagged_view keys.now) found (shown_by w zone datas (place name.now) group)) }
+    ensures later { steps.old ≤ steps.new }
+    ensures bound { (group : grouping.Group) → slice_get groups.now index ≡ Some group
+        → steps.new ≤ steps.old + how_many NSEC3 (group ∷ []) * (limits.now.max_bad_signatures + 1) }
+{
+    let group = &groups[index];
+    let Some(nsec3) = nsec3_in(group) else {
+        return Ok(DsFinding::Passed(None));
+    };
+    let bearing = match bears::<V>(alloc, &nsec3, group, name, apex, limits, memo)? {
+        Ok(bearing) => bearing,
+        Err(cause) => return Ok(DsFinding::Passed(cause)),
+    };
+    match good_pair::<V, L>(alloc, group, apex, keys, limits, t, memo, steps)? {
+        Ok(pair) => {
+            let decision = decide(bearing, &nsec3, group, &group.sig_set()[pair.signature]);
+            Ok(decision.at(index, pair))
+        }
+        Err(cause) => Ok(DsFinding::Bogus(cause)),
+    }
+}

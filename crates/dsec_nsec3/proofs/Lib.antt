@@ -1,0 +1,14 @@
+pub mod HashTests
+pub mod HashTruths
+pub mod HashDenialLaws
+pub mod CountingLaws
+pub mod WalkLaws
+pub mod GoneLaws
+pub mod TellingLaws
+pub mod HashAnswerLaws
+pub mod ConclusionLaws
+pub mod HashCauseLaws
+pub mod UnprovedLaws
+pub mod HashCountLaws
+pub mod ReplyExamples
+pub mod RootExample

@@ -1,0 +1,9 @@
+pub mod Counting
+pub mod HashedDenials
+pub mod HashedProofs
+pub mod Tests
+pub mod Walks
+pub mod Openings
+pub mod HashedAnswers
+pub mod Conclusions
+pub mod HashedRefusals

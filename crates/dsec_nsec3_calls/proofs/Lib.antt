@@ -1,0 +1,10 @@
+pub mod LabelLaws
+pub mod OctetLaws
+pub mod LoopLaws
+pub mod WalkLaws
+pub mod ShownLaws
+pub mod AnswerLaws
+pub mod StepLaws
+pub mod LookLaws
+pub mod TypeLaws
+pub mod ToldLaws

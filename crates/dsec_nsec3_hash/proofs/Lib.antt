@@ -1,0 +1,2 @@
+pub mod CircleLaws
+pub mod LabelLaws

@@ -1,0 +1,8 @@
+//! Why a label is no hash.
+
+use thiserror::Error;
+
+/// The label isn't base32hex (RFC 4648 7).
+#[derive(Clone, Copy, Debug, PartialEq, Eq, Error)]
+#[error("LabelToHashError")]
+pub struct LabelToHashError;
