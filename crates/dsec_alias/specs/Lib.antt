@@ -1,0 +1,5 @@
+pub mod States
+pub mod Candidates
+pub mod Following
+pub mod Paths
+pub mod SecurePaths

@@ -1,0 +1,4 @@
+pub mod NextSteps
+pub mod CandidateSteps
+pub mod TurnSteps
+pub mod WaySteps

@@ -1,0 +1,4 @@
+pub mod Replies
+pub mod Ends
+pub mod Turns
+pub mod Ways
