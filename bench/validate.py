@@ -31,11 +31,10 @@ def signature(rtype, labels, records, tag=TAG, good=True, zone=ZONE, key=KEY):
     return head + (hashlib.sha256(key + head + b"".join(records)).digest() if good else bytes(32))
 
 
-def message(name, rtype, answers, additionals=(), authorities=(), rcode=0):
-    header = (number(0, 2) + number(0x8400 | rcode, 2) + number(1, 2) + number(len(answers), 2)
-              + number(len(authorities), 2) + number(len(additionals), 2))
-    return (header + name + number(rtype, 2) + number(1, 2) + b"".join(answers) + b"".join(authorities)
-            + b"".join(additionals))
+def message(name, rtype, answers, additionals=()):
+    header = (number(0, 2) + number(0x8400, 2) + number(1, 2) + number(len(answers), 2) + number(0, 2)
+              + number(len(additionals), 2))
+    return header + name + number(rtype, 2) + number(1, 2) + b"".join(answers) + b"".join(additionals)
 
 
 # An OPT record for 1232 octets with DO, as replies to questions with DO have one (RFC 6891 6.1.2, RFC 3225 3).
@@ -172,54 +171,6 @@ def address(label, zone, key):
     return message(owner, 1, signed(owner, 1, [bytes([192, 0, 2, 1])], zone, key))
 
 
-# A name that a zone lacks, and the wildcard that could stand for it.
-MISSING, STAR = b"\x01x" + ZONE, b"\x01*" + ZONE
-
-
-def hash_of(name, iterations):
-    """The hash of a name by NSEC3, without salt (RFC 5155 5)."""
-    octets = hashlib.sha1(name).digest()
-    for _ in range(iterations):
-        octets = hashlib.sha1(octets).digest()
-    return octets
-
-
-def in_base32hex(octets):
-    """RFC 4648 7, in lower case and without padding."""
-    value = int.from_bytes(octets, "big")
-    return bytes(b"0123456789abcdefghijklmnopqrstuv"[value >> place & 31] for place in range(155, -1, -5))
-
-
-def around_hash(octets):
-    """The hash before these octets, and the one after them."""
-    value = int.from_bytes(octets, "big")
-    return [number((value + step) % (1 << 160), 20) for step in (-1, 1)]
-
-
-def denied(sets):
-    """A reply that denies the missing name by the SOA set and these sets."""
-    soa = b"\x02ns" + ZONE + b"\x04host" + ZONE + b"".join(number(value, 4) for value in (1, 3600, 600, 86400, 300))
-    return message(MISSING, 1, [], (), signed(ZONE, 6, [soa], ZONE, KEY) + sets, 3)
-
-
-def denied_by_nsec():
-    """By two NSEC records, around the name and around the wildcard: A, RRSIG and NSEC stand at their owners."""
-    bits = bytes.fromhex("0006400000000003")
-    return denied(signed(b"\x01w" + ZONE, 47, [b"\x01y" + ZONE + bits], ZONE, KEY)
-                  + signed(ZONE, 47, [b"\x01a" + ZONE + bytes.fromhex("000722010000000380")], ZONE, KEY))
-
-
-def denied_by_nsec3(iterations):
-    """By two NSEC3 records with so many iterations, around the name and around the wildcard; and the count of hashes that this takes: the walk
-    down to the name is decided by the first record, and the wildcard by the second."""
-    sets = []
-    for name in (MISSING, STAR):
-        before, after = around_hash(hash_of(name, iterations))
-        data = bytes([1, 0]) + number(iterations, 2) + bytes([0, 20]) + after + bytes.fromhex("0006400000000002")
-        sets += signed(bytes([32]) + in_base32hex(before) + ZONE, 50, [data], ZONE, KEY)
-    return denied(sets), 3
-
-
 def write_script(path, messages, count, replies=None, moments=False):
     """So many messages, of the given ones in turn; where moments are asked for, each has its own, and begins without nodes."""
     with open(path, "w") as out:
@@ -309,33 +260,6 @@ def measure_zones(program, script, yard, count):
     return within
 
 
-# By NSEC3 a denial may take so many digests of one block more than by NSEC, besides one for each iteration of each hash.
-MOST_BLOCKS = 30
-
-
-def measure_denials(program, script, yard, count):
-    """Messages that deny a name, by NSEC and by NSEC3. The program keeps no answers of signatures and hashes: each message takes its hashes
-    itself. What a digest of one block takes is what an iteration more does. Gives whether they keep to the aim."""
-    cases = [("by NSEC", denied_by_nsec(), 0, 0)]
-    for iterations in (0, 100):
-        octets, hashes = denied_by_nsec3(iterations)
-        cases.append(("by NSEC3 with %d iterations" % iterations, octets, hashes, iterations))
-    times = []
-    for name, octets, hashes, iterations in cases:
-        write_script(script, [octets], count)
-        if asked(program, script) != [1] + [0] * (count - 1):
-            sys.exit("denials %s: other questions than one" % name)
-        time, noise = cpu([program, "validate"], script)
-        times.append(time / count)
-        print("a name denied %s, %d messages of %d octets, %d hashes and %d iterations each: %.3f s CPU (noise %.2f), %.1f us a message, "
-              "%.2f of the yardstick" % (name, count, len(octets), hashes, hashes * iterations, time, noise, 1e6 * time / count, time / yard))
-    block = (times[2] - times[1]) / (hashes * iterations)
-    more = (times[1] - times[0]) / block
-    print("a digest of one block: %.2f us; by NSEC3 without iterations %.1f digests more than by NSEC, aim %d%s" % (
-        1e6 * block, more, MOST_BLOCKS, "" if more <= MOST_BLOCKS else ", PASSED"))
-    return more <= MOST_BLOCKS
-
-
 def hostile():
     """Messages that are made to take memory, each with its replies and the state of its verdict."""
     def at_anchor(octets):
@@ -385,13 +309,10 @@ def main(program):
             for count in counts:
                 before = measure(program, script, yard, name, octets, count, before)
         within = measure_zones(program, script, yard, 10000)
-        few = measure_denials(program, script, yard, 10000)
         if not all([measure_hostile(program, script, *case) for case in hostile()]):
             sys.exit("a hostile message takes more memory than the bound")
         if not within:
             sys.exit("a message three zones down takes more time than the aim")
-        if not few:
-            sys.exit("a denial by NSEC3 takes more digests than the aim")
 
 
 main(sys.argv[1])

@@ -2,4 +2,3 @@ pub mod IslandSteps
 pub mod TargetSteps
 pub mod FoundSteps
 pub mod JudgedLaws
-pub mod SignerLaws

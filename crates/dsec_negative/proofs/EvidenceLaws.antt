@@ -1,13 +1,20 @@
 -- Judged groups as evidence.
-use Rattle.std.proofs.Common.{◌≡◌, ℕ, ◌+◌, ◌<◌, ◌≤◌, List, ◌∷◌, length, map, get_or, drop, arith}
+use Rattle.std.proofs.Common.{◌≡◌, ℕ, ◌+◌, ◌<◌, ◌≤◌, ◌==◌, List, ◌∷◌, length, map, get_or, drop, arith}
+use Rattle.std.specs.List.{list_any}
 use Rattle.std.proofs.lemmas.List.{length-map}
 use Rattle.dsec_spec.specs.Names.{Labels, place}
-use Rattle.dsec_group.proofs.IndexLaws.{there_by}
+use Rattle.dsec_spec.specs.Numbers.{NSEC3}
+use Rattle.dsec_group.proofs.IndexLaws.{any_of, there_by}
 use Rattle.dsec_nodes.specs.Judging.{Judged}
-use Rattle.dsec_absence.specs.Evidence.{sighting}
+use Rattle.dsec_absence.specs.Evidence.{Evidence, sighting}
 use Rattle.dsec_absence.specs.Answers.{sightings}
+use Rattle.dsec_absence.specs.Replies.{has_nsec3}
 use Rattle.dsec_absence.proofs.SearchSteps.{mapped_at}
 use Rattle.dsec_negative.specs.Views.{evidence_of, source_of}
+
+-- whether NSEC3 records are among groups
+pub nsec3_in : (groups : List Judged) → list_any (λ (j : Judged). j.group.rtype == NSEC3) groups ≡ has_nsec3 (map evidence_of groups)
+nsec3_in groups = any_of (λ (e : Evidence). e.group.rtype == NSEC3) evidence_of groups
 
 -- what the group at an index is to a denial, and the others after it
 pub sighted_at : (groups : List Judged) (class : ℕ) (signer : Labels) (i : ℕ) (j : Judged) → i < length groups → j ≡ get_or groups i j

@@ -4,13 +4,18 @@ use Rattle.dsec_cause.specs.declared.cause.Cause.{Cause}
 use Rattle.dsec_cause.specs.declared.cause.Cause.TheVariants.{NsecFromWildcard}
 use Rattle.dsec_spec.specs.Names.{Place, place}
 use Rattle.dsec_group.specs.declared.state.ValidationState.{ValidationState}
+use Rattle.dsec_group.specs.declared.state.ValidationState.TheVariants.{Secure, Bogus}
 use Rattle.dsec_nodes.specs.Judging.{Judged}
 use Rattle.dsec_found.specs.Told.{state_of, cause_of}
 use Rattle.dsec_absence.specs.Denials.{Denial, no_type, no_name, no_type_by_wildcard, no_closer, used_in}
 use Rattle.dsec_absence.specs.Answers as answers
 use Rattle.dsec_absence.specs.Answers.{denied, refused, nothing}
+use Rattle.dsec_absence.specs.Replies as replies
+use Rattle.dsec_absence.specs.Replies.{proved, unproved}
 use Rattle.dsec_negative.specs.declared.answer.Answer.{Answer}
 use Rattle.dsec_negative.specs.declared.answer.Answer.TheVariants.{Denied, Refused, Nothing}
+use Rattle.dsec_negative.specs.declared.conclusion.Conclusion.{Conclusion}
+use Rattle.dsec_negative.specs.declared.conclusion.Conclusion.TheVariants.{Proved, Unproved}
 use Rattle.dsec_negative.specs.declared.state.NsecState.{NsecState}
 use Rattle.dsec_negative.specs.declared.state.NsecState.TheVariants as types
 use Rattle.dsec_negative.specs.declared.state.NsecNXState.{NsecNXState}
@@ -67,6 +72,20 @@ abbrev pub IsEncloserIn : Place → answers.Answer → Type 0
 IsEncloserIn c (denied d) = encloser_in d ≡ Some c
 IsEncloserIn c (refused cause) = Unit {0}
 IsEncloserIn c (nothing cause) = Unit {0}
+
+-- a conclusion, its denial by what it uses
+abbrev pub conclusion_of : replies.Conclusion → Conclusion
+conclusion_of (proved d) = Proved (used_in d)
+conclusion_of (unproved cause) = Unproved cause
+
+-- what is told of a name for which a wildcard stands, where nothing is proved
+abbrev pub unproved_told : Cause → Bool × ValidationState × Option Cause × List ℕ
+unproved_told cause = (false, Bogus, Some cause, [])
+
+-- what is told of a name for which a wildcard stands
+abbrev pub wildcard_told : replies.Conclusion → Bool × ValidationState × Option Cause × List ℕ
+wildcard_told (proved d) = (true, Secure, None, used_in d)
+wildcard_told (unproved cause) = unproved_told cause
 
 -- the index with a state
 abbrev pub index_in : ℕ × ValidationState → ℕ

@@ -1,4 +1,4 @@
-//! What NSEC records answer.
+//! What the calls answer, within.
 
 ghost use Rattle.std.specs.Prelude.{◌≡◌};
 ghost use Rattle.dsec_absence.specs.Answers as answers;
@@ -9,9 +9,9 @@ use crate::state::NsecState;
 use crate::used::Used;
 use dsec_cause::Cause;
 
-/// What NSEC records answer of a denial.
+/// What a call answers.
 #[derive(Drop)]
-pub enum Answer {
+pub(crate) enum Answer {
     /// It is denied, by the records of these groups.
     Denied(Used),
     /// A record shows otherwise, and why.

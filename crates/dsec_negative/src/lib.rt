@@ -2,7 +2,7 @@
 #![tactic(auto)]
 
 mod answer;
-mod answers;
+mod conclusion;
 mod encloser;
 mod missing;
 mod nodata;
@@ -14,15 +14,15 @@ mod source;
 mod star;
 mod state;
 mod used;
+mod wildcard;
 
-pub use answer::Answer;
-pub use answers::{nsec_closer_answer, nsec_name_answer, nsec_type_answer};
+pub use conclusion::{Conclusion, denied_at};
 pub use encloser::star_closest_encloser;
 pub use missing::nsec_for_not_exists;
 pub use nodata::nsec_for_nodata;
 pub use reply::{get_answer_state, make_ede, map_maybe_secure};
-pub use shown::is_ds_above;
 pub use soa::get_soa_state;
-pub use star::{nsec_for_nodata_wildcard, nsec_for_nxdomain, star_at};
+pub use star::{nsec_for_nodata_wildcard, nsec_for_nxdomain};
 pub use state::{NsecNXState, NsecState};
 pub use used::Used;
+pub use wildcard::check_not_exists_for_wildcard;

@@ -136,7 +136,7 @@ fn is_apex(nsec: &Nsec<'_>) -> bool
 }
 
 /// Whether the type is DS, and the target's DS stands in the zone above, as each does but the root's.
-pub fn is_ds_above(target: &Name, rtype: Rtype) -> bool
+fn is_ds_above(target: &Name, rtype: Rtype) -> bool
     ensures { result ≡ ds_above (place target.now) rtype }
 {
     rtype == Rtype::DS && !target.is_root()

@@ -153,7 +153,7 @@ fn name_by_star<V: Verifier>(
 }
 
 /// The wildcard under the name of so many of the target's last labels, where it is a name.
-pub fn star_at(alloc: Global, target: &Name, labels: usize) -> Result<Option<Name>, NoMemory>
+fn star_at(alloc: Global, target: &Name, labels: usize) -> Result<Option<Name>, NoMemory>
     ensures { IfOk result (λ star. option_map (λ name. place name) star ≡ star_of (place (rightmost labels target.now))) }
 {
     let encloser = target.ancestor(alloc, labels)?;

@@ -34,7 +34,7 @@ impl Used {
     }
 
     /// One group.
-    pub fn one(first: usize) -> Used
+    pub(crate) fn one(first: usize) -> Used
         ensures { result ≡ first ∷ [] }
     {
         let mut indexes = ArrayVec::<usize, MAX_PLACES>::new();
@@ -43,23 +43,12 @@ impl Used {
     }
 
     /// Two groups.
-    pub fn two(first: usize, second: usize) -> Used
+    pub(crate) fn two(first: usize, second: usize) -> Used
         ensures { result ≡ first ∷ second ∷ [] }
     {
         let mut indexes = ArrayVec::<usize, MAX_PLACES>::new();
         indexes.push(first);
         indexes.push(second);
-        Used { indexes }
-    }
-
-    /// Three groups.
-    pub fn three(first: usize, second: usize, third: usize) -> Used
-        ensures { result ≡ first ∷ second ∷ third ∷ [] }
-    {
-        let mut indexes = ArrayVec::<usize, MAX_PLACES>::new();
-        indexes.push(first);
-        indexes.push(second);
-        indexes.push(third);
         Used { indexes }
     }
 

@@ -1,6 +1,6 @@
 //! Hashes of names, by answers that are kept (RFC 5155 5).
 
-ghost use Rattle.std.specs.Prelude.{◌≡◌, ◌≢◌, ◌==◌, ◌↔◌, IfErr, IfOk, IsErr, IsTrue};
+ghost use Rattle.std.specs.Prelude.{◌≡◌, ◌≢◌, ◌↔◌, IfErr, IfOk, IsErr, IsTrue};
 ghost use Rattle.dsec_spec.specs.Digests.{iterated_hash};
 ghost use Rattle.dsec_spec.specs.Names.{canonical_octets};
 
@@ -13,8 +13,7 @@ use dsec_sorted::{Nsec3Salt, OwnerHash};
 
 /// Whether names are hashed by the algorithm here: by SHA-1, the only one (RFC 5155 11).
 pub fn supported_nsec3_hash(algorithm: Nsec3HashAlgorithm) -> bool
-    ensures exact { IsTrue result ↔ (algorithm ≡ 1) }
-    ensures test { result ≡ (algorithm == 1) }
+    ensures { IsTrue result ↔ (algorithm ≡ 1) }
 {
     algorithm == Nsec3HashAlgorithm::SHA1
 }

@@ -1,6 +1,6 @@
 -- What a message comes to by a denial, as the calls tell of it.
 use Rattle.std.proofs.Common.{◌≡◌, ℕ, List, [], ◌∷◌, ◌==◌, ◌&&◌, Bool, true, false, cond, get_or, Option, Some, None, sym, ap, ◌∙◌}
-use Rattle.std.specs.Prelude.{slice_get, unwrap_or, position}
+use Rattle.std.specs.Prelude.{filter_map, slice_get, unwrap_or, position}
 use Rattle.std.specs.Option.{option_map}
 use Rattle.std.proofs.lemmas.Option.{get_or_from_slice_get}
 use Rattle.std.proofs.lemmas.Option.{same_Some}
@@ -12,20 +12,52 @@ use Rattle.dsec_spec.specs.Records.{Record}
 use Rattle.dsec_spec.specs.Messages.{Question, rcode_of}
 use Rattle.dsec_spec.specs.Islands.{island}
 use Rattle.dsec_spec.specs.Numbers.{ANY}
-use Rattle.dsec_absence.specs.Replies.{soa_at, soa_cause, no_soa_cause, answer_at}
-use Rattle.dsec_nsec3.specs.Counting.{HashLimits}
-use Rattle.dsec_nsec3.specs.Conclusions.{denied_at, closer_denied}
+use Rattle.dsec_absence.specs.Replies.{Conclusion, proved, unproved, soa_at, soa_cause, no_soa_cause, answer_at, denied_at, closer_denied}
+use Rattle.dsec_negative.specs.declared.conclusion.Conclusion.TheVariants.{Proved, Unproved}
 use Rattle.dsec_negative.specs.Views.{source_of}
-use Rattle.dsec_negative.specs.Told.{index_in, answer_index_in}
-use Rattle.dsec_nodes.specs.World.{World, limits_of}
+use Rattle.dsec_negative.specs.Told.{conclusion_of, wildcard_told, index_in, answer_index_in}
+use Rattle.dsec_nodes.specs.World.{World}
 use Rattle.dsec_nodes.specs.Judging.{Judged}
-use Rattle.dsec_nodes.specs.Outcomes.{Outcome, by_nothing, secure_by, bogus_by}
+use Rattle.dsec_nodes.specs.Outcomes.{Used, Outcome, by_nothing, secure_by, bogus_by}
 use Rattle.dsec_nodes.specs.Causes.{MissingSoa}
 use Rattle.dsec_nodes.specs.ByDenial.{source_of as among}
-use Rattle.dsec_nodes.specs.ByDenial.{on_conclusion, encloser_of, by_wildcard, by_encloser, no_error_in, denied_under, at_soa, by_soa, by_denial}
+use Rattle.dsec_nodes.specs.ByDenial.{used_at, on_conclusion, encloser_of, by_wildcard, by_encloser, no_error_in, denied_under, at_soa, by_soa, by_denial}
 use Rattle.dsec_nodes.specs.Alone.{by_answer, is_answer, at_answer, by_answers, at_name}
 use Rattle.dsec_found.specs.Told.{signature_of}
 use Rattle.dsec_outcome.proofs.FindingSteps.{shown_is}
+
+-- a denial that is proved, by the groups that it uses
+pub proved_by : (authorities : List Judged) (j : Judged) (d : Conclusion) (indexes : List ℕ) (used : List Used) (o : Outcome) → conclusion_of d ≡ Proved indexes
+    → used ≡ filter_map (used_at authorities) indexes → o ≡ secure_by (j ∷ []) used → o ≡ on_conclusion authorities j d
+proved_by authorities j (proved denial) indexes used o e used_is is =
+    is ∙ ap (secure_by (j ∷ [])) (used_is ∙ ap (filter_map (used_at authorities)) cc)
+proved_by authorities j (unproved cause) indexes used o e used_is is = absurd cc
+
+-- one that isn't, and why
+pub unproved_by : (authorities : List Judged) (j : Judged) (d : Conclusion) (cause : Cause) (o : Outcome) → conclusion_of d ≡ Unproved cause
+    → o ≡ bogus_by cause by_nothing → o ≡ on_conclusion authorities j d
+unproved_by authorities j (proved denial) cause o e is = absurd cc
+unproved_by authorities j (unproved other) cause o e is = is ∙ ap (λ (c : Cause). bogus_by c by_nothing) cc
+
+abbrev in_told : Bool × ValidationState × Option Cause × List ℕ → List ℕ
+in_told t = t.3
+
+abbrev cause_told : Bool × ValidationState × Option Cause × List ℕ → Option Cause
+cause_told t = t.2
+
+-- the same of a closer name than a wildcard's
+pub closer_proved_by : (authorities : List Judged) (j : Judged) (d : Conclusion) (b : Bool) (s : ValidationState) (cause : Option Cause) (indexes : List ℕ) (used : List Used) (o : Outcome)
+    → (b, s, cause, indexes) ≡ wildcard_told d → cause ≡ None → used ≡ filter_map (used_at authorities) indexes → o ≡ secure_by (j ∷ []) used → o ≡ on_conclusion authorities j d
+closer_proved_by authorities j (proved denial) b s cause indexes used o e none used_is is =
+    is ∙ ap (secure_by (j ∷ [])) (used_is ∙ ap (filter_map (used_at authorities)) (ap in_told e))
+closer_proved_by authorities j (unproved other) b s cause indexes used o e none used_is is = absurd (let n = sym none ∙ ap cause_told e in cc)
+
+pub closer_unproved_by : (authorities : List Judged) (j : Judged) (d : Conclusion) (b : Bool) (s : ValidationState) (told : Option Cause) (cause : Cause) (indexes : List ℕ) (o : Outcome)
+    → (b, s, told, indexes) ≡ wildcard_told d → told ≡ Some cause → o ≡ bogus_by cause by_nothing → o ≡ on_conclusion authorities j d
+closer_unproved_by authorities j (proved denial) b s told cause indexes o e some is = absurd (let n = sym some ∙ ap cause_told e in cc)
+closer_unproved_by authorities j (unproved other) b s told cause indexes o e some is =
+    let same : Some cause ≡ Some other = sym some ∙ ap cause_told e in
+    is ∙ ap (λ (c : Cause). bogus_by c by_nothing) (same_Some cause other same)
 
 -- an answer that links show, and that isn't an expansion of a wildcard
 pub itself_is : (w : World) (question : Question) (name : Place) (authorities : List Judged) (j : Judged) (signature : Record) (o : Outcome) → signature_of j.finding ≡ Some signature
@@ -42,10 +74,10 @@ expansion_is w question name authorities j signature encloser o shown some is =
 
 -- an SOA set that links show
 pub soa_is : (w : World) (message : List ℕ) (question : Question) (name : Place) (authorities : List Judged) (soa : Judged) (signature : Record) (o : Outcome)
-    → signature_of soa.finding ≡ Some signature → o ≡ on_conclusion authorities soa (denied_under w message question name authorities soa)
+    → signature_of soa.finding ≡ Some signature → o ≡ on_conclusion authorities soa (denied_under message question name authorities soa)
     → o ≡ at_soa w message question name authorities (Some soa)
 soa_is w message question name authorities soa signature o shown is =
-    is ∙ sym (shown_is (λ s. on_conclusion authorities soa (denied_under w message question name authorities soa)) soa.finding signature shown)
+    is ∙ sym (shown_is (λ s. on_conclusion authorities soa (denied_under message question name authorities soa)) soa.finding signature shown)
 
 -- the group at an index
 pub there_is : (js : List Judged) (i : ℕ) (x j : Judged) → slice_get js i ≡ Some j → x ≡ get_or js i x → slice_get js i ≡ Some x
@@ -81,28 +113,24 @@ module _ (anchors : List Record) (question : Question) (groups : List Judged) (a
       sym (ap (option_map answer_index_in) e)
       ∙ (is ∙ (ap (λ (n : Labels). set_for n rtype class) same_name ∙ (ap (λ (q : ℕ). set_for question.name q class) same_type ∙ ap (set_for question.name question.rtype) same_class)))
 
--- the denials that are looked for are those of the question's class, within these limits
-pub denied_asked : (w : World) (limits : HashLimits) (message : List ℕ) (rcode : ℕ) (question : Question) (authorities : List Judged) (soa : Judged) (no_error : Bool) (signer asked : Labels)
-    (class rtype : ℕ) → limits ≡ limits_of w.bounds → rcode_of message ≡ Some rcode → no_error ≡ (rcode == 0) → place signer ≡ soa.signer → asked ≡ question.name → class ≡ question.class
-    → rtype ≡ question.rtype
-    → denied_at limits no_error (source_of authorities class signer) (place asked) rtype ≡ denied_under w message question (place question.name) authorities soa
-denied_asked w limits message rcode question authorities soa no_error signer asked class rtype within read no_error_is signed same_name same_class same_type =
-    ap (λ (l : HashLimits). denied_at l no_error (source_of authorities class signer) (place asked) rtype) within
-    ∙ (ap (λ (b : Bool). denied_at (limits_of w.bounds) b (source_of authorities class signer) (place asked) rtype) (no_error_is ∙ sym (ap no_error_in read))
-    ∙ (ap (λ (z : Place). denied_at (limits_of w.bounds) (no_error_in (rcode_of message)) (among authorities class z) (place asked) rtype) signed
-    ∙ (ap (λ (n : Labels). denied_at (limits_of w.bounds) (no_error_in (rcode_of message)) (among authorities class soa.signer) (place n) rtype) same_name
-    ∙ (ap (λ (c : ℕ). denied_at (limits_of w.bounds) (no_error_in (rcode_of message)) (among authorities c soa.signer) (place question.name) rtype) same_class
-    ∙ ap (denied_at (limits_of w.bounds) (no_error_in (rcode_of message)) (among authorities question.class soa.signer) (place question.name)) same_type))))
+-- the denials that are looked for are those of the question's class
+pub denied_asked : (message : List ℕ) (rcode : ℕ) (question : Question) (authorities : List Judged) (soa : Judged) (no_error : Bool) (signer asked : Labels) (class rtype : ℕ)
+    → rcode_of message ≡ Some rcode → no_error ≡ (rcode == 0) → place signer ≡ soa.signer → asked ≡ question.name → class ≡ question.class → rtype ≡ question.rtype
+    → denied_at no_error (source_of authorities class signer) (place asked) rtype ≡ denied_under message question (place question.name) authorities soa
+denied_asked message rcode question authorities soa no_error signer asked class rtype read no_error_is signed same_name same_class same_type =
+    ap (λ (b : Bool). denied_at b (source_of authorities class signer) (place asked) rtype) (no_error_is ∙ sym (ap no_error_in read))
+    ∙ (ap (λ (z : Place). denied_at (no_error_in (rcode_of message)) (among authorities class z) (place asked) rtype) signed
+    ∙ (ap (λ (n : Labels). denied_at (no_error_in (rcode_of message)) (among authorities class soa.signer) (place n) rtype) same_name
+    ∙ (ap (λ (c : ℕ). denied_at (no_error_in (rcode_of message)) (among authorities c soa.signer) (place question.name) rtype) same_class
+    ∙ ap (denied_at (no_error_in (rcode_of message)) (among authorities question.class soa.signer) (place question.name)) same_type)))
 
-pub closer_asked : (w : World) (limits : HashLimits) (question : Question) (authorities : List Judged) (j : Judged) (signer asked encloser : Labels) (class : ℕ)
-    → limits ≡ limits_of w.bounds → place signer ≡ j.signer → asked ≡ question.name → class ≡ question.class
-    → closer_denied limits (source_of authorities class signer) (place asked) (place encloser)
-    ≡ closer_denied (limits_of w.bounds) (among authorities question.class j.signer) (place question.name) (place encloser)
-closer_asked w limits question authorities j signer asked encloser class within signed same_name same_class =
-    ap (λ (l : HashLimits). closer_denied l (source_of authorities class signer) (place asked) (place encloser)) within
-    ∙ (ap (λ (z : Place). closer_denied (limits_of w.bounds) (among authorities class z) (place asked) (place encloser)) signed
-    ∙ (ap (λ (n : Labels). closer_denied (limits_of w.bounds) (among authorities class j.signer) (place n) (place encloser)) same_name
-    ∙ ap (λ (c : ℕ). closer_denied (limits_of w.bounds) (among authorities c j.signer) (place question.name) (place encloser)) same_class))
+pub closer_asked : (question : Question) (authorities : List Judged) (j : Judged) (signer asked encloser : Labels) (class : ℕ)
+    → place signer ≡ j.signer → asked ≡ question.name → class ≡ question.class
+    → closer_denied (source_of authorities class signer) (place asked) (place encloser) ≡ closer_denied (among authorities question.class j.signer) (place question.name) (place encloser)
+closer_asked question authorities j signer asked encloser class signed same_name same_class =
+    ap (λ (z : Place). closer_denied (among authorities class z) (place asked) (place encloser)) signed
+    ∙ (ap (λ (n : Labels). closer_denied (among authorities class j.signer) (place n) (place encloser)) same_name
+    ∙ ap (λ (c : ℕ). closer_denied (among authorities c j.signer) (place question.name) (place encloser)) same_class)
 
 -- the SOA set at the index where the first one that counts is
 pub soa_decides : (w : World) (message : List ℕ) (question : Question) (name : Place) (authorities : List Judged) (index : ℕ) (soa : Judged) (o : Outcome)

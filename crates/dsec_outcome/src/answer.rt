@@ -6,7 +6,8 @@ ghost use Rattle.std.specs.Arc.{arc_value};
 ghost use Rattle.dsec_nodes.specs.Alone.{at_end, at_name as at_name_of, on_judged as judged_comes_to, on_questions as questions_come_to};
 ghost use Rattle.dsec_nodes.specs.ByDenial.{no_error_in};
 ghost use Rattle.dsec_nodes.specs.Outcomes.{alias_path, bogus_by, by_links};
-ghost use Rattle.dsec_node.specs.Views.{bounds_of, world_of};
+ghost use Rattle.dsec_nodes.specs.World.{Bounds};
+ghost use Rattle.dsec_node.specs.Views.{world_of};
 ghost use Rattle.dsec_spec.specs.Messages.{rcode_of};
 ghost use Rattle.dsec_spec.specs.Names.{place};
 ghost use Rattle.dsec_spec.specs.Numbers.{ANY};
@@ -21,10 +22,10 @@ use crate::outcome::{Outcome, Why};
 use dsec_cause::Cause;
 use dsec_crypto::Verifier;
 use dsec_found::{AllJudged, Error, JudgedGroup};
-use dsec_group::{Memo, ValidationState};
+use dsec_group::ValidationState;
 use dsec_name::NoMemory;
 use dsec_negative::get_answer_state;
-use dsec_node::{Config, Node};
+use dsec_node::Node;
 use dsec_number::{Rcode, Rtype};
 use dsec_wire::{Question, Record};
 use std::alloc::Global;
@@ -35,31 +36,20 @@ use std::sync::Arc;
 pub fn on_judged<V: Verifier>(
     alloc: Global,
     anchors: &[Record],
-    config: &Config,
     rcode: Rcode,
     questions: &[Question],
     answers: &AllJudged<V>,
     authorities: &AllJudged<V>,
-    memo: &mut impl Memo<V>,
 ) -> Result<Outcome<V>, Error>
-    ensures { (now : ℕ) (message : List ℕ) → rcode_of message ≡ Some rcode
+    ensures { (bounds : Bounds) (now : ℕ) (message : List ℕ) → rcode_of message ≡ Some rcode
         → Gives wants_memory (λ outcome. outcome) result
-        (answer_of (judged_comes_to (world_of V.accepts anchors.now (bounds_of config.now) now) message questions.now (section_view answers.now) (section_view authorities.now))) }
+        (answer_of (judged_comes_to (world_of V.accepts anchors.now bounds now) message questions.now (section_view answers.now) (section_view authorities.now))) }
 {
     match (answers, authorities) {
         (AllJudged::OneBogus(cause, node), _) => Ok(bogus_under(*cause, node)?),
         (AllJudged::All(_), AllJudged::OneBogus(cause, node)) => Ok(bogus_under(*cause, node)?),
         (AllJudged::All(answers), AllJudged::All(authorities)) => {
-            on_questions(
-                alloc,
-                anchors,
-                config,
-                rcode,
-                questions,
-                answers,
-                authorities,
-                memo,
-            )
+            on_questions(alloc, anchors, rcode, questions, answers, authorities)
         }
     }
 }
@@ -76,60 +66,38 @@ fn bogus_under<V: Verifier>(cause: Cause, node: &Arc<Node<V>>) -> Result<Outcome
 pub fn on_questions<V: Verifier>(
     alloc: Global,
     anchors: &[Record],
-    config: &Config,
     rcode: Rcode,
     questions: &[Question],
     answers: &[JudgedGroup<V>],
     authorities: &[JudgedGroup<V>],
-    memo: &mut impl Memo<V>,
 ) -> Result<Outcome<V>, Error>
-    ensures { (now : ℕ) (message : List ℕ) → rcode_of message ≡ Some rcode
+    ensures { (bounds : Bounds) (now : ℕ) (message : List ℕ) → rcode_of message ≡ Some rcode
         → Gives wants_memory (λ outcome. outcome) result
-        (answer_of (questions_come_to (world_of V.accepts anchors.now (bounds_of config.now) now) message questions.now answers.now authorities.now)) }
+        (answer_of (questions_come_to (world_of V.accepts anchors.now bounds now) message questions.now answers.now authorities.now)) }
 {
     if questions.len() != 1 {
         return Err(Error::FormError);
     }
     let question = &questions[0];
-    Ok(on_question(
-        alloc,
-        anchors,
-        config,
-        rcode,
-        question,
-        answers,
-        authorities,
-        memo,
-    )?)
+    Ok(on_question(alloc, anchors, rcode, question, answers, authorities)?)
 }
 
 /// What it comes to at its one question. Following aliases is left out.
 fn on_question<V: Verifier>(
     alloc: Global,
     anchors: &[Record],
-    config: &Config,
     rcode: Rcode,
     question: &Question,
     answers: &[JudgedGroup<V>],
     authorities: &[JudgedGroup<V>],
-    memo: &mut impl Memo<V>,
 ) -> Result<Outcome<V>, NoMemory>
-    ensures { IfOk result (λ outcome. (now : ℕ) (message : List ℕ) → rcode_of message ≡ Some rcode
-        → outcome ≡ at_end (world_of V.accepts anchors.now (bounds_of config.now) now) message question.now answers.now authorities.now (alias_path (world_of V.accepts anchors.now (bounds_of config.now) now) question.now answers.now)) }
+    ensures { IfOk result (λ outcome. (bounds : Bounds) (now : ℕ) (message : List ℕ) → rcode_of message ≡ Some rcode
+        → outcome ≡ at_end (world_of V.accepts anchors.now bounds now) message question.now answers.now authorities.now (alias_path (world_of V.accepts anchors.now bounds now) question.now answers.now)) }
 {
     if is_any_leading_on(anchors, question, answers) {
         return Ok(Outcome::not_built());
     }
-    at_name(
-        alloc,
-        anchors,
-        config,
-        rcode,
-        question,
-        answers,
-        authorities,
-        memo,
-    )
+    at_name(alloc, anchors, rcode, question, answers, authorities)
 }
 
 /// What it comes to at its question's own name: by an answer, where there was no error and one type is asked for, or else by a
@@ -137,25 +105,21 @@ fn on_question<V: Verifier>(
 fn at_name<V: Verifier>(
     alloc: Global,
     anchors: &[Record],
-    config: &Config,
     rcode: Rcode,
     question: &Question,
     answers: &[JudgedGroup<V>],
     authorities: &[JudgedGroup<V>],
-    memo: &mut impl Memo<V>,
 ) -> Result<Outcome<V>, NoMemory>
-    ensures { IfOk result (λ outcome. (now : ℕ) (message : List ℕ) → rcode_of message ≡ Some rcode
-        → outcome ≡ at_name_of (world_of V.accepts anchors.now (bounds_of config.now) now) message question.now (place question.now.name) answers.now authorities.now) }
+    ensures { IfOk result (λ outcome. (bounds : Bounds) (now : ℕ) (message : List ℕ) → rcode_of message ≡ Some rcode
+        → outcome ≡ at_name_of (world_of V.accepts anchors.now bounds now) message question.now (place question.now.name) answers.now authorities.now) }
 {
     if !is_one_answer_due(rcode, question) {
-        return by_denial(alloc, anchors, config, rcode, question, authorities, memo);
+        return by_denial(alloc, anchors, rcode, question, authorities);
     }
     let (name, class, rtype) = (question.qname(), question.qclass(), question.qtype());
     match get_answer_state(name, class, rtype, answers) {
-        Some((index, _, _)) => {
-            answered(alloc, config, question, &answers[index], authorities, memo)
-        }
-        None => by_denial(alloc, anchors, config, rcode, question, authorities, memo),
+        Some((index, _, _)) => answered(alloc, question, &answers[index], authorities),
+        None => by_denial(alloc, anchors, rcode, question, authorities),
     }
 }
 

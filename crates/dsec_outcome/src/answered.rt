@@ -1,22 +1,21 @@
-//! What a message comes to by the group that answers, which may be an expansion of a wildcard (RFC 4033 5, RFC 4035 5.3.4, RFC 5155 8.8).
+//! What a message comes to by the group that answers, which may be an expansion of a wildcard (RFC 4033 5, RFC 4035 5.3.4).
 
 ghost use Rattle.std.specs.Prelude.{◌≡◌, IfOk};
 ghost use Rattle.dsec_nodes.specs.Alone.{by_answer};
 ghost use Rattle.dsec_nodes.specs.ByDenial.{by_wildcard as by_wildcard_of, encloser_of as encloser_in};
 ghost use Rattle.dsec_nodes.specs.World.{World};
-ghost use Rattle.dsec_node.specs.Views.{bounds_of};
 ghost use Rattle.dsec_spec.specs.JudgedGroups.{encloser_in as encloser_by_labels};
 ghost use Rattle.dsec_spec.specs.Names.{place};
 ghost use Rattle.dsec_spec.specs.Numbers.{RRSIG};
 
-use crate::concluded::on_conclusion;
 use crate::outcome::Outcome;
+use crate::used::used_by;
+use dsec_cause::Cause;
 use dsec_crypto::Verifier;
 use dsec_found::JudgedGroup;
-use dsec_group::{Group, Memo};
+use dsec_group::Group;
 use dsec_name::{Name, NoMemory};
-use dsec_node::Config;
-use dsec_nsec3_calls::closer_denied;
+use dsec_negative::check_not_exists_for_wildcard;
 use dsec_wire::{Question, Record};
 use std::alloc::Global;
 
@@ -24,21 +23,17 @@ use std::alloc::Global;
 /// only where that a closer name exists is denied.
 pub(crate) fn answered<V: Verifier>(
     alloc: Global,
-    config: &Config,
     question: &Question,
     judged: &JudgedGroup<V>,
     authorities: &[JudgedGroup<V>],
-    memo: &mut impl Memo<V>,
 ) -> Result<Outcome<V>, NoMemory>
-    ensures { IfOk result (λ outcome. (w : World) → w.bounds ≡ bounds_of config.now → outcome ≡ by_answer w question.now (place question.now.name) authorities.now judged.now judged.now.finding) }
+    ensures { IfOk result (λ outcome. (w : World) → outcome ≡ by_answer w question.now (place question.now.name) authorities.now judged.now judged.now.finding) }
 {
     let Some(signature) = judged.signature() else {
         return Outcome::unshown(judged);
     };
     match encloser_of(alloc, judged.group(), signature)? {
-        Some(encloser) => {
-            by_wildcard(alloc, config, question, judged, authorities, &encloser, memo)
-        }
+        Some(encloser) => by_wildcard(alloc, question, judged, authorities, &encloser),
         None => Outcome::secure_by(alloc, judged, Vec::new(alloc)),
     }
 }
@@ -69,27 +64,26 @@ fn encloser_by(alloc: Global, owner: &Name, labels: u8) -> Result<Option<Name>, 
 /// What it comes to by a group that links show as an expansion of the wildcard under this name.
 fn by_wildcard<V: Verifier>(
     alloc: Global,
-    config: &Config,
     question: &Question,
     judged: &JudgedGroup<V>,
     authorities: &[JudgedGroup<V>],
     encloser: &Name,
-    memo: &mut impl Memo<V>,
 ) -> Result<Outcome<V>, NoMemory>
-    ensures { IfOk result (λ outcome. (w : World) → w.bounds ≡ bounds_of config.now → outcome ≡ by_wildcard_of w question.now (place question.now.name) authorities.now judged.now encloser.now) }
+    ensures { IfOk result (λ outcome. (w : World) → outcome ≡ by_wildcard_of w question.now (place question.now.name) authorities.now judged.now encloser.now) }
 {
     let signer = judged.signer_name(alloc)?;
-    let limits = config.limits();
     let (name, class) = (question.qname(), question.qclass());
-    let conclusion = closer_denied(
+    let (_, _, cause, used) = check_not_exists_for_wildcard(
         alloc,
         name,
         authorities,
         class,
         &signer,
         encloser,
-        &limits,
-        memo,
     )?;
-    on_conclusion(alloc, authorities, judged, conclusion)
+    if let Some(cause) = cause {
+        return Ok(Outcome::bogus(cause));
+    }
+    let used = used_by(alloc, authorities, used.as_slice())?;
+    Outcome::secure_by(alloc, judged, used)
 }

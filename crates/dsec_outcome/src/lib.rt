@@ -1,10 +1,9 @@
-//! What a message comes to by its judged groups: by an answer, or by a denial (RFC 4033 5, RFC 2308 2, RFC 4035 5, RFC 5155 8).
+//! What a message comes to by its judged groups: by an answer, or by a denial (RFC 4033 5, RFC 2308 2, RFC 4035 5).
 #![tactic(auto)]
 
 mod alias;
 mod answer;
 mod answered;
-mod concluded;
 mod denied;
 mod outcome;
 mod used;

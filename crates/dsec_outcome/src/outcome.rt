@@ -1,7 +1,7 @@
 //! What a message comes to (RFC 4033 5, RFC 4035 4.3).
 
 ghost use Rattle.std.specs.Prelude.{◌≡◌, ◌∷◌, [], IfOk, None};
-ghost use Rattle.dsec_nodes.specs.Outcomes.{bogus_by, by_finding, by_nothing, not_built as not_built_of, open_by, secure_by as secure_of};
+ghost use Rattle.dsec_nodes.specs.Outcomes.{bogus_by, by_finding, by_nothing, not_built as not_built_of, secure_by as secure_of};
 ghost use Rattle.dsec_nodes.specs.Outcomes as outcomes;
 ghost use Rattle.dsec_spec.specs.Records as records;
 ghost use Rattle.dsec_found.specs.Outcomes.{state_view};
@@ -66,21 +66,10 @@ impl<V: Verifier> Outcome<V> {
     ) -> Result<Outcome<V>, NoMemory>
         ensures { IfOk result (λ outcome. outcome ≡ secure_of (judged.now ∷ []) used.items) }
     {
-        let why = Why::ByGroups(alone(alloc, judged)?, used);
+        let mut groups = Vec::with_capacity(alloc, 1)?;
+        groups.push(judged.clone()?)?;
+        let why = Why::ByGroups(groups, used);
         Ok(Outcome::new(ValidationState::Secure, None, why))
-    }
-
-    /// An insecure outcome by a group that links show, and by the group whose NSEC3 record leaves open what is to be denied beside it.
-    pub(crate) fn left_open(
-        alloc: Global,
-        judged: &JudgedGroup<V>,
-        cause: Option<Cause>,
-        used: Vec<UsedGroup<V>>,
-    ) -> Result<Outcome<V>, NoMemory>
-        ensures { IfOk result (λ outcome. outcome ≡ open_by cause (judged.now ∷ []) used.items) }
-    {
-        let why = Why::ByGroups(alone(alloc, judged)?, used);
-        Ok(Outcome::new(ValidationState::Insecure, cause, why))
     }
 
     /// The outcome by a group that links don't show.
@@ -126,18 +115,6 @@ impl<V: Verifier> Outcome<V> {
     {
         &self.why
     }
-}
-
-/// A judged group alone.
-fn alone<V: Verifier>(
-    alloc: Global,
-    judged: &JudgedGroup<V>,
-) -> Result<Vec<JudgedGroup<V>>, NoMemory>
-    ensures { IfOk result (λ groups. groups.items ≡ judged.now ∷ []) }
-{
-    let mut groups = Vec::with_capacity(alloc, 1)?;
-    groups.push(judged.clone()?)?;
-    Ok(groups)
 }
 
 /// Why a group that links don't show is as it is.

@@ -1,7 +1,7 @@
 //! Verdicts under other limits, and over an upstream that fails.
 
 use crate::lines::KEY;
-use crate::vectors::{DENIED, DENIED_LATER, FOUR, GOOD, KEYS, ONE_BAD};
+use crate::vectors::{FOUR, GOOD, KEYS, ONE_BAD};
 use dsec_anchors::TrustAnchors;
 use dsec_answer::ValidationContext;
 use dsec_cause::Cause;
@@ -105,20 +105,17 @@ fn are_turns<V: Verifier>(
 /// The cause of a verdict, if it isn't secure, and how many questions it took.
 type Turn = (Option<Cause>, u32);
 
-/// How many bad signatures are allowed and how many NSEC3 hashes made, a message, the numbers of the questions that fail, and the verdicts
-/// on the message in turn: a zone's keys are kept for the next one, and a failure isn't.
-type Row = (u8, u8, &'static str, &'static [u64], &'static [Turn]);
+/// How many bad signatures are allowed, a message, the numbers of the questions that fail, and the verdicts on the message in
+/// turn: a zone's keys are kept for the next one, and a failure isn't.
+type Row = (u8, &'static str, &'static [u64], &'static [Turn]);
 
 #[rattlefmt::skip]
-const ROWS: [Row; 8] = [
-    (1, 60, GOOD, &[], &[(None, 1), (None, 0)]),
-    (1, 60, GOOD, &[0], &[(Some(Cause::NoDnskeyForAnchor), 1), (None, 1), (None, 0)]),
-    (1, 60, FOUR, &[], &[(Some(Cause::TooManyBadSignatures), 1)]),
-    (2, 60, FOUR, &[], &[(None, 1)]),
-    (1, 60, ONE_BAD, &[], &[(None, 1)]),
-    (1, 1, DENIED, &[], &[(None, 1)]),
-    (1, 1, DENIED_LATER, &[], &[(Some(Cause::TooManyNsec3Hashes), 1)]),
-    (1, 2, DENIED_LATER, &[], &[(None, 1)]),
+const ROWS: [Row; 5] = [
+    (1, GOOD, &[], &[(None, 1), (None, 0)]),
+    (1, GOOD, &[0], &[(Some(Cause::NoDnskeyForAnchor), 1), (None, 1), (None, 0)]),
+    (1, FOUR, &[], &[(Some(Cause::TooManyBadSignatures), 1)]),
+    (2, FOUR, &[], &[(None, 1)]),
+    (1, ONE_BAD, &[], &[(None, 1)]),
 ];
 
 /// How many questions turns take in all.
@@ -131,14 +128,13 @@ fn asked_in(turns: &[Turn]) -> u64 {
 }
 
 fn row_holds(alloc: Global, row: &Row) -> Option<bool> {
-    let (max_bad, max_hashes, octets, failing, turns) = *row;
+    let (max_bad, octets, failing, turns) = *row;
     let mut message = message(alloc, octets)?;
     let Ok(anchors) = TrustAnchors::from_u8(alloc, KEY.as_bytes()) else {
         return None;
     };
     let mut config = Config::new();
     config.set_bad_signatures(max_bad);
-    config.set_max_nsec3_hashes(max_hashes);
     let mut context = ValidationContext::<StandIn>::with_config(alloc, anchors, config);
     let mut upstream = FailingUpstream {
         inner: TableUpstream::new(replies(alloc)?),

@@ -14,7 +14,7 @@ use crate::step::{Next, Step};
 use dsec_cause::Cause;
 use dsec_crypto::Verifier;
 use dsec_found::{AllJudged, Error, JudgedGroup, and_next};
-use dsec_group::{Memo, ValidationState};
+use dsec_group::ValidationState;
 use dsec_name::NoMemory;
 use dsec_node::Node;
 use dsec_outcome::{Outcome, on_judged, on_questions};
@@ -29,23 +29,17 @@ impl<V: Verifier> Course<V> {
         &mut self,
         alloc: Global,
         setting: &Setting<'_>,
-        memo: &mut impl Memo<V>,
     ) -> Result<Next<V>, NoMemory>
         requires { self.old.left ≡ [] }
         ensures { IfOk result (λ n. (self.new, next_view n) ≡ going_on (world_in V.accepts setting.now) [] self.old) }
     {
-        let next = self.last(alloc, setting, memo)?;
+        let next = self.last(alloc, setting)?;
         self.waits = Waits::ForNothing;
         Ok(next)
     }
 
     /// What the message comes to by its judged groups.
-    fn last(
-        &self,
-        alloc: Global,
-        setting: &Setting<'_>,
-        memo: &mut impl Memo<V>,
-    ) -> Result<Next<V>, NoMemory>
+    fn last(&self, alloc: Global, setting: &Setting<'_>) -> Result<Next<V>, NoMemory>
         ensures { IfOk result (λ n. next_view n ≡ courses.end_with (at_last (world_in V.accepts setting.now) self.now)) }
     {
         let at = self.answers.min(self.judged.len());
@@ -53,12 +47,10 @@ impl<V: Verifier> Course<V> {
         match on_questions(
             alloc,
             setting.anchors,
-            setting.config,
             self.rcode,
             &self.questions,
             answers,
             authorities,
-            memo,
         ) {
             Ok(outcome) => Ok(Next::Says(Step::Done(outcome))),
             Err(Error::NoMemory) => Err(NoMemory),
@@ -72,7 +64,6 @@ impl<V: Verifier> Course<V> {
         alloc: Global,
         setting: &Setting<'_>,
         judged: &JudgedGroup<V>,
-        memo: &mut impl Memo<V>,
     ) -> Result<Option<Outcome<V>>, NoMemory>
         ensures { IfOk result (λ outcome. outcome ≡ ended_by judged.now.finding) }
     {
@@ -81,7 +72,7 @@ impl<V: Verifier> Course<V> {
         }
         match and_next(Vec::new(alloc), judged.clone()?)? {
             AllJudged::OneBogus(cause, node) => {
-                Ok(Some(self.bogus(alloc, setting, cause, node, memo)?))
+                Ok(Some(self.bogus(alloc, setting, cause, node)?))
             }
             AllJudged::All(_) => Ok(None),
         }
@@ -94,7 +85,6 @@ impl<V: Verifier> Course<V> {
         setting: &Setting<'_>,
         cause: Cause,
         node: Arc<Node<V>>,
-        memo: &mut impl Memo<V>,
     ) -> Result<Outcome<V>, NoMemory>
         ensures { IfOk result (λ outcome. outcome ≡ bogus_by cause (by_links (arc_value node).links)) }
     {
@@ -103,12 +93,10 @@ impl<V: Verifier> Course<V> {
         match on_judged(
             alloc,
             setting.anchors,
-            setting.config,
             self.rcode,
             &self.questions,
             &bogus,
             &others,
-            memo,
         ) {
             Ok(outcome) => Ok(outcome),
             // A message with a bogus group is never refused.

@@ -34,7 +34,7 @@ impl<V: Verifier> Course<V> {
                 None => {}
             }
         }
-        self.end_all(alloc, setting, memo)
+        self.end_all(alloc, setting)
     }
 
     /// The next group is judged at once, or a walk for it sets out.

@@ -114,7 +114,7 @@ impl<V: Verifier> Course<V> {
     {
         let (config, moment) = (setting.config, setting.moment);
         let judged = judged_by_node::<V, L>(alloc, config, moment, group, node, memo, steps)?;
-        let outcome = self.ended(alloc, setting, &judged, memo)?;
+        let outcome = self.ended(alloc, setting, &judged)?;
         self.walks.push(walk)?;
         self.judged.push(judged)?;
         match outcome {

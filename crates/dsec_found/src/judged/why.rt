@@ -6,7 +6,7 @@ ghost use Rattle.std.specs.Option.{option_map};
 ghost use Rattle.dsec_node.specs.Views.{cause_view};
 ghost use Rattle.dsec_nodes.specs.ByDenial.{expands};
 ghost use Rattle.dsec_nodes.specs.Signing.{is_expanded as expanded};
-ghost use Rattle.dsec_spec.specs.Names.{place, same_place};
+ghost use Rattle.dsec_spec.specs.Names.{place};
 ghost use Rattle.dsec_spec.specs.Numbers.{RRSIG};
 ghost use Rattle.dsec_found.specs.Founds.{StandsBy, finding_by};
 ghost use Rattle.dsec_found.specs.Outcomes.{bogus_of, cause_held, insecure_of};
@@ -35,18 +35,6 @@ impl<V: Verifier> JudgedGroup<V> {
             Basis::NoSet => Ok(Name::root(alloc)),
             Basis::NoAnchor(zone) => copy_of(zone),
             Basis::ByNode(node, _) => copy_of(node.signer_name()),
-        }
-    }
-
-    /// Whether this zone is the one that is to have signed the group.
-    #[tactic(auto, using(crate::proofs::SignerLaws::root_told))]
-    pub fn is_signed_by(&self, zone: &Name) -> bool
-        ensures { result ≡ same_place self.now.signer (place zone.now) }
-    {
-        match &self.shared.basis {
-            Basis::NoSet => zone.is_root(),
-            Basis::NoAnchor(signer) => *signer == *zone,
-            Basis::ByNode(node, _) => *node.signer_name() == *zone,
         }
     }
 

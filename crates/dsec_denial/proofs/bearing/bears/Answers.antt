@@ -13,7 +13,7 @@ returns-in-Some g c = λ w zone keys signer follows.
     by_label_hash w zone keys (place c.args.name.now) group nsec3 c.in-Some.owner_hash _ (le-ltb 1 nsec3.hashing.flags c.if-nsec3-gt1.false)
     (ap (λ (p : Place). is_label_before p group.owner) signer
     ∙ (ap (λ (o : Labels). is_label_before (place c.args.apex.now) o) (sym c.owner.ensures) ∙ (sym c.in_ok-is_label_before.ensures ∙ c.if-not-branch.false)))
-    (c.supported_nsec3_hash.ensures.exact.0 c.if-not-supported_nsec3_hash.false)
+    (c.supported_nsec3_hash.ensures.0 c.if-not-supported_nsec3_hash.false)
     (followed w nsec3 c.args.limits.now.nsec3_iter_insecure c.args.limits.now.nsec3_iter_bogus follows (le-ltb c.args.limits.now.nsec3_iter_bogus nsec3.hashing.iterations c.if-too_many.false) (le-ltb c.args.limits.now.nsec3_iter_insecure nsec3.hashing.iterations c.if-nsec3-limits.false))
     (ap owner_hash_in (sym c.owner-2.ensures) ∙ (sym c.in_ok-owner_hash.ensures ∙ c.in-Some.is))
     (c.by_hashes.ensures w zone keys group signer)
