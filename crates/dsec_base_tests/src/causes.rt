@@ -4,7 +4,7 @@ use dsec_base::Cause;
 use std::fmt::InlineText;
 
 /// Each cause with its code and its text.
-const ROWS: [(Cause, u16, &str); 56] = [
+const ROWS: [(Cause, u16, &str); 55] = [
     (Cause::RrsigWithoutRrset, 5, "RRSIG without RRset"),
     (Cause::NoTrustAnchor, 5, "No trust anchor for root."),
     (Cause::NoSignature, 6, "No signature"),
@@ -168,7 +168,6 @@ const ROWS: [(Cause, u16, &str); 56] = [
         6,
         "No NEC/NSEC3 proof for non-existance",
     ),
-    (Cause::NotBuilt, 0, "not built"),
 ];
 
 /// Whether the cause has this code and this text, which is what it is shown as.

@@ -4,7 +4,7 @@ use Rattle.std.specs.Prelude.{find, unwrap_or, ◌==◌}
 use Rattle.std.specs.Str.{bytes_eq}
 use Rattle.dsec_cause.specs.Causes.{AreToldApart, code_of, text_of}
 use Rattle.dsec_cause.specs.declared.cause.Cause.{Cause}
-use Rattle.dsec_cause.specs.declared.cause.Cause.TheVariants.{RrsigWithoutRrset, NoTrustAnchor, NoSignature, BadSignature, TooManyBadSignatures, TooManyBadSignaturesForDnskey, BadSignatureForDnskey, TooManyUnsignedCnames, NoDnskeyForAnchor, RequestFailed, RequestUnreadable, NoDnskey, TooManyDsRecords, TooManyDnskeysForDs, NoSupportedDs, NsecForDsFromWildcard, NsecProvesDs, NsecForDsFromApex, PrefixNsecFromWildcard, PrefixNsecIsDname, PrefixNsecIsDelegation, EmptyNonTerminalNsecFromWildcard, NsecNotUsable, Nsec3IterationsTooHigh, Nsec3UnsupportedAlgorithm, Nsec3BadOwnerHash, Nsec3FromWrongZone, Nsec3ProvesDs, Nsec3ForDsFromApex, Nsec3ProvesNameMissingForDs, NoProofForMissingDs, TooManyAliases, DnameFromWildcard, DnameTooLong, SoaWrongClass, SoaWrongName, MissingSoa, NsecProvesType, NsecFromApexForDs, NsecFromParent, NsecMatches, NsecShowsEmptyNonTerminal, NsecDnameOrDelegation, NsecFromWildcard, WildcardElsewhere, WildcardTooLong, Nsec3ProvesType, Nsec3FromApexForDs, Nsec3FromParent, Nsec3DnameOrDelegation, TooManyNsec3Hashes, Nsec3OptOut, Nsec3IterationsInsecure, NoNsec3Proof, NoDenialProof, NotBuilt}
+use Rattle.dsec_cause.specs.declared.cause.Cause.TheVariants.{RrsigWithoutRrset, NoTrustAnchor, NoSignature, BadSignature, TooManyBadSignatures, TooManyBadSignaturesForDnskey, BadSignatureForDnskey, TooManyUnsignedCnames, NoDnskeyForAnchor, RequestFailed, RequestUnreadable, NoDnskey, TooManyDsRecords, TooManyDnskeysForDs, NoSupportedDs, NsecForDsFromWildcard, NsecProvesDs, NsecForDsFromApex, PrefixNsecFromWildcard, PrefixNsecIsDname, PrefixNsecIsDelegation, EmptyNonTerminalNsecFromWildcard, NsecNotUsable, Nsec3IterationsTooHigh, Nsec3UnsupportedAlgorithm, Nsec3BadOwnerHash, Nsec3FromWrongZone, Nsec3ProvesDs, Nsec3ForDsFromApex, Nsec3ProvesNameMissingForDs, NoProofForMissingDs, TooManyAliases, DnameFromWildcard, DnameTooLong, SoaWrongClass, SoaWrongName, MissingSoa, NsecProvesType, NsecFromApexForDs, NsecFromParent, NsecMatches, NsecShowsEmptyNonTerminal, NsecDnameOrDelegation, NsecFromWildcard, WildcardElsewhere, WildcardTooLong, Nsec3ProvesType, Nsec3FromApexForDs, Nsec3FromParent, Nsec3DnameOrDelegation, TooManyNsec3Hashes, Nsec3OptOut, Nsec3IterationsInsecure, NoNsec3Proof, NoDenialProof}
 
 -- all causes
 abbrev all : List Cause
@@ -20,7 +20,7 @@ all = RrsigWithoutRrset ∷ NoTrustAnchor ∷ NoSignature ∷ BadSignature ∷ T
     ∷ NsecFromApexForDs ∷ NsecFromParent ∷ NsecMatches ∷ NsecShowsEmptyNonTerminal
     ∷ NsecDnameOrDelegation ∷ NsecFromWildcard ∷ WildcardElsewhere ∷ WildcardTooLong
     ∷ Nsec3ProvesType ∷ Nsec3FromApexForDs ∷ Nsec3FromParent ∷ Nsec3DnameOrDelegation
-    ∷ TooManyNsec3Hashes ∷ Nsec3OptOut ∷ Nsec3IterationsInsecure ∷ NoNsec3Proof ∷ NoDenialProof ∷ NotBuilt ∷ []
+    ∷ TooManyNsec3Hashes ∷ Nsec3OptOut ∷ Nsec3IterationsInsecure ∷ NoNsec3Proof ∷ NoDenialProof ∷ []
 
 -- the first cause with this code and text
 abbrev cause_of : ℕ → List ℕ → Option Cause
@@ -82,7 +82,6 @@ back Nsec3OptOut = refl
 back Nsec3IterationsInsecure = refl
 back NoNsec3Proof = refl
 back NoDenialProof = refl
-back NotBuilt = refl
 
 pub told_apart : AreToldApart
 told_apart a b same_code same_text =

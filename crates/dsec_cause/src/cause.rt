@@ -118,8 +118,6 @@ pub enum Cause {
     NoNsec3Proof,
     /// Nothing proves the denial.
     NoDenialProof,
-    /// Judging came to a part that this version leaves out.
-    NotBuilt,
 }
 
 impl Cause {
@@ -133,8 +131,7 @@ impl Cause {
             | Cause::Nsec3FromWrongZone
             | Cause::Nsec3OptOut
             | Cause::Nsec3IterationsInsecure
-            | Cause::NoNsec3Proof
-            | Cause::NotBuilt => 0,
+            | Cause::NoNsec3Proof => 0,
             Cause::RrsigWithoutRrset | Cause::NoTrustAnchor => 5,
             _ => 6,
         }
@@ -204,7 +201,6 @@ impl Cause {
             Cause::Nsec3IterationsInsecure => "NSEC3 with too high iteration count",
             Cause::NoNsec3Proof => "No NSEC3 proves non-existance",
             Cause::NoDenialProof => "No NEC/NSEC3 proof for non-existance",
-            Cause::NotBuilt => "not built",
         }
     }
 }
