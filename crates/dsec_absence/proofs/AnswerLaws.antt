@@ -39,7 +39,7 @@ missing_found s n i c e =
     let f = found_at s.class s.signer (λ r. shows_missing r n) s.groups i c e in
     (f.0, f.1, missing_shown f.0 n c f.2)
 
--- nsec_for_nodata: case a
+-- nsec_for_nodata: the name has no such type
 pub nodata_proves : (s : Source) (n : Place) (q : ℕ) (d : Denial ℕ) → nsec_for_nodata s n q ≡ denied d → Proves s n q d
 nodata_proves s n q d e = by (type_at s n q) refl e
   where
@@ -64,7 +64,7 @@ module _ (s : Source) (n : Place) (within : IsAtOrBelow n s.signer) where
       by (refuted cause) f g = absurd cc
       by (undecided cause) f g = absurd cc
 
-  -- check_not_exists_for_wildcard by NSEC: case d
+  -- not_exists_for_wildcard: no closer name
   pub wildcard_proves : (c : Place) (q : ℕ) (d : Denial ℕ) → not_exists_for_wildcard s n c ≡ denied d → Proves s n q d
   wildcard_proves c q d e = by (missing s n) refl e
     where
@@ -80,7 +80,7 @@ module _ (s : Source) (n : Place) (within : IsAtOrBelow n s.signer) where
       by (refuted cause) f g = absurd cc
       by (undecided cause) f g = absurd cc
 
-  -- nsec_for_nodata_wildcard: case c
+  -- nsec_for_nodata_wildcard: the name is missing, and the wildcard has no such type
   pub nodata_wildcard_proves : (q : ℕ) (d : Denial ℕ) → nsec_for_nodata_wildcard s n q ≡ denied d → Proves s n q d
   nodata_wildcard_proves q d e = by (missing s n) refl e
     where
@@ -106,7 +106,7 @@ module _ (s : Source) (n : Place) (within : IsAtOrBelow n s.signer) where
       by (refuted cause) f g = absurd cc
       by (undecided cause) f g = absurd cc
 
-  -- nsec_for_nxdomain: case b
+  -- nsec_for_nxdomain: neither the name nor the wildcard exists
   pub nxdomain_proves : (q : ℕ) (d : Denial ℕ) → nsec_for_nxdomain s n ≡ denied d → Proves s n q d
   nxdomain_proves q d e = by (missing s n) refl e
     where

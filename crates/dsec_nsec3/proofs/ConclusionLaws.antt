@@ -79,7 +79,7 @@ module _ (limits : HashLimits) (s : Source) (n : Place) (within : IsAtOrBelow n 
   at_concludes true q = type_concludes q
   at_concludes false q = name_concludes q
 
-  -- a name for which the wildcard under c stands: case d, or left open
+  -- no closer name for which the wildcard under c stands, or that is left open
   pub closer_told : (c : Place) → IsStrictlyBelow n c → (q : ℕ) → Told limits s n q (closer_by_hash limits s n c)
   closer_told c under q = by (is_below (next_closer n c) s.signer) refl
     where

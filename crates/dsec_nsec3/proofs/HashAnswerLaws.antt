@@ -58,7 +58,7 @@ module _ (limits : HashLimits) (s : Source) (n : Place) (within : IsAtOrBelow n 
       record { evidence = x.0; stands = x.1; opens = many_open limits s.class s.signer n x.0 x.2 }
   halting q i bad_owner_hash a = tt
 
-  -- nsec3_for_nodata: case a, or left open
+  -- nsec3_for_nodata: the name has no such type, or that is left open
   pub nodata_told : (q : ℕ) → Told limits s n q (nsec3_for_nodata limits s n q)
   nodata_told q = by (type_by_hash limits s n q) (type_by_hash_tells limits s n within q n (λ m h. h))
     where
@@ -119,7 +119,7 @@ module _ (limits : HashLimits) (s : Source) (n : Place) (within : IsAtOrBelow n 
         by exhausted e = tt
         by unfound e = tt
 
-  -- nsec3_for_nxdomain: case b, or left open
+  -- nsec3_for_nxdomain: neither the name nor the wildcard exists, or that is left open
   pub nxdomain_told : (q : ℕ) → Told limits s n q (nsec3_for_nxdomain limits s n)
   nxdomain_told q =
       walk_told q (IsClosed limits s.class s.signer) name_gone (λ star. nsec3_for_not_exists_no_ce limits s star)
@@ -132,7 +132,7 @@ module _ (limits : HashLimits) (s : Source) (n : Place) (within : IsAtOrBelow n 
         denial = λ small. laws.name_denied s.signer g.record_there g.record_around n c (proof_of limits s n c h i g) x.2.r q x.2.covered x.2.no_own;
       })
 
-  -- nsec3_for_nodata_wildcard: case c, or left open
+  -- nsec3_for_nodata_wildcard: the name is missing, and the wildcard has no such type, or that is left open
   pub nodata_wildcard_told : (q : ℕ) → Told limits s n q (nsec3_for_nodata_wildcard limits s n q)
   nodata_wildcard_told q =
       walk_told q (λ (m : Place). IsOwn limits s.class s.signer m q) wildcard_type_gone (λ star. type_by_hash limits s star q)

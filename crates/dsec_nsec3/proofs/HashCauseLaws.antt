@@ -1,28 +1,27 @@
 -- The causes that the calls by NSEC3 records give, each where it may come (RFC 5155 8, RFC 6840 4.1, RFC 8914 4, RFC 9276 3.2).
-use Rattle.std.proofs.Common.{◌≡◌, ℕ, ◌+◌, ◌==◌, ◌&&◌, ◌||◌, Bool, true, false, cond, List, [], ◌∷◌, map, Option, Some, None, refl, sym, ap, ◌∙◌, subst, inl, inr, ◌⊎◌}
+use Rattle.std.proofs.Common.{◌≡◌, ℕ, ◌+◌, ◌==◌, Bool, true, false, cond, List, [], ◌∷◌, map, Option, Some, None, refl, sym, ap, ◌∙◌, subst}
 use Rattle.std.specs.Prelude.{slice_get}
-use Rattle.std.proofs.Math.Bool.{not}
-use Rattle.std.proofs.lemmas.Bool.{true≢false, and_parts}
+use Rattle.std.proofs.lemmas.Bool.{and_parts}
 use Rattle.dsec_cause.specs.declared.cause.Cause.{Cause}
-use Rattle.dsec_cause.specs.declared.cause.Cause.TheVariants.{WildcardTooLong, Nsec3ProvesType, Nsec3FromApexForDs, Nsec3FromParent, Nsec3DnameOrDelegation, Nsec3OptOut, TooManyNsec3Hashes, NoNsec3Proof}
+use Rattle.dsec_cause.specs.declared.cause.Cause.TheVariants.{WildcardTooLong, Nsec3DnameOrDelegation, Nsec3OptOut, TooManyNsec3Hashes, NoNsec3Proof}
 use Rattle.dsec_spec.specs.Names.{Place, asterisk, IsAtOrBelow}
-use Rattle.dsec_spec.specs.Numbers.{NS, CNAME, SOA, DS, DNAME}
+use Rattle.dsec_spec.specs.Numbers.{DS, DNAME}
 use Rattle.dsec_spec.specs.Zones.{wildcard}
 use Rattle.dsec_spec.specs.DenyingRecords.{Nsec3At, has_hashed, opts_out, MatchesHash, CoversHash}
 use Rattle.dsec_spec.proofs.NamesBelow.{below_itself, below_trans}
 use Rattle.dsec_absence.specs.Evidence.{Evidence}
-use Rattle.dsec_absence.specs.Tests.{Shown, silent, refutes, denies, is_ds_above}
+use Rattle.dsec_absence.specs.Tests.{Shown, silent, refutes, denies}
 use Rattle.dsec_absence.specs.Answers.{Source, star_closest_encloser}
 use Rattle.dsec_absence.proofs.AnswerLaws.{star_is}
 use Rattle.dsec_absence.proofs.CauseLaws.{too_long_is}
-use Rattle.dsec_absence.proofs.TestLaws.{above_is, not_above_is}
 use Rattle.dsec_nsec3.specs.Counting.{HashLimits, Counts, End, too_many_iterations, many_iterations, bad_owner_hash, EndsAt, HashedSighting, ignored, stops, hashed, hashed_sighting, hashed_sightings}
 use Rattle.dsec_nsec3.specs.HashedDenials.{HashedDenial, type_gone, name_gone, wildcard_type_gone}
-use Rattle.dsec_nsec3.specs.Tests.{matches_hash, covers_hash, is_hashed_cut, is_hashed_apex, is_plain, own_hash_shows, is_own_dname}
+use Rattle.dsec_nsec3.specs.Tests.{matches_hash, covers_hash, own_hash_shows, is_own_dname}
 use Rattle.dsec_nsec3.specs.Walks.{Walk, gone, barred, halted, exhausted, unfound, nsec3_for_not_exists}
 use Rattle.dsec_nsec3.specs.Openings.{Opening, by_opt_out}
 use Rattle.dsec_nsec3.specs.HashedAnswers.{Hashed, disproved, opened, broken, unshown, told_by_end, told_by_shown, type_from, next_closer, ds_by_walk, type_by_hash, as_told, told_by_covering, cover_from, nsec3_for_not_exists_no_ce, told_under_opt_out, told_of_both, told_by_walk, nsec3_for_nodata, nsec3_for_nodata_wildcard, nsec3_for_nxdomain}
-use Rattle.dsec_nsec3.specs.HashedRefusals.{end_cause, HashRefutesType, hash_with_type, hash_with_alias, hash_of_apex, hash_of_parent, LeadsAway, by_dname, by_cut, IsBarredBy, by_match, by_signer, HashTypeCause, type_refuted_by_hash, type_ended, HashCoverCause, cover_barred, cover_ended, HashNameCause, name_barred, name_ended, name_exhausted, name_unfound, name_opted_out, no_hashed_wildcard, of_wildcard}
+use Rattle.dsec_nsec3.specs.HashedRefusals.{end_cause, HashRefutesType, IsBarredBy, by_match, by_signer, HashTypeCause, type_refuted_by_hash, type_ended, HashCoverCause, cover_barred, cover_ended, HashNameCause, name_barred, name_ended, name_exhausted, name_unfound, name_opted_out, no_hashed_wildcard, of_wildcard}
+use Rattle.dsec_nsec3.proofs.HashRefusalLaws.{leads_away, own_refutes}
 use Rattle.dsec_nsec3.proofs.HashTests.{matches_decides, covers_decides}
 use Rattle.dsec_nsec3.proofs.CountingLaws.{StopsBy, Sights, sighting_is, At, at_index, Somewhere, somewhere_first, somewhere_later}
 use Rattle.dsec_nsec3.proofs.WalkLaws.{IsBarring, bars_by_match, bars_by_signer, IsBarredAt, Walks, whole_walk}
@@ -37,55 +36,6 @@ cause_told (unshown cause) = cause
 
 same_cause : (c d : Cause) → Some c ≡ Some d → c ≡ d
 same_cause c d e = cc
-
-one_is : (a b : Bool) → (a || b) ≡ true → (a ≡ true) ⊎ (b ≡ true)
-one_is true b e = inl refl
-one_is false true e = inr refl
-one_is false false e = absurd (true≢false (sym e))
-
-both_are : (a b : Bool) → (a && not b) ≡ true → (a ≡ true) × (b ≡ false)
-both_are true false e = (refl, refl)
-both_are true true e = absurd (true≢false (sym e))
-both_are false b e = absurd (true≢false (sym e))
-
--- a record that doesn't let names below be denied leads away
-leads_away : (r : Nsec3At) → is_plain r ≡ false → LeadsAway r
-leads_away r e = by (has_hashed r DNAME) refl (is_hashed_cut r) refl e
-  where
-    by : (d : Bool) → has_hashed r DNAME ≡ d → (c : Bool) → is_hashed_cut r ≡ c → (not d && not c) ≡ false → LeadsAway r
-    by true f c g h = by_dname f
-    by false f true g h = let both = both_are (has_hashed r NS) (has_hashed r SOA) g in by_cut both.0 both.1
-    by false f false g h = absurd (true≢false h)
-
-abbrev of_type : Cause → Shown (Unit {0})
-of_type cause = refutes cause
-
-same_of_type : (c d : Cause) → of_type c ≡ of_type d → c ≡ d
-same_of_type c d e = cc
-
-at_root : (n : Place) (q : ℕ) → is_ds_above n q ≡ false → q ≡ DS → n ≡ []
-at_root [] q e ds = refl
-at_root (label ∷ n) q e ds = absurd (not_above_is (label ∷ n) q e ds (λ root. absurd cc))
-
--- why the record that matches the name refutes that the type isn't there
-own_refutes : (r : Nsec3At) (n : Place) (q : ℕ) (cause : Cause) → own_hash_shows r n q ≡ refutes cause → HashRefutesType r n q cause
-own_refutes r n q cause e = by (has_hashed r q || has_hashed r CNAME) refl (is_ds_above n q) refl (is_hashed_apex r) refl (is_hashed_cut r) refl e
-  where
-    yes : Shown (Unit {0})
-    yes = denies tt
-
-    by : (x : Bool) → (has_hashed r q || has_hashed r CNAME) ≡ x → (y : Bool) → is_ds_above n q ≡ y → (p : Bool) → is_hashed_apex r ≡ p → (t : Bool) → is_hashed_cut r ≡ t
-        → cond x (of_type Nsec3ProvesType) (cond y (cond p (of_type Nsec3FromApexForDs) yes) (cond t (of_type Nsec3FromParent) yes)) ≡ of_type cause → HashRefutesType r n q cause
-    by true f y g p h t i k = subst (HashRefutesType r n q) (same_of_type Nsec3ProvesType cause k) (elim (one_is (has_hashed r q) (has_hashed r CNAME) f) [ inl a ↦ hash_with_type a | inr a ↦ hash_with_alias a ])
-    by false f true g true h t i k =
-        let ds = above_is n q g in
-        let bits = and_parts (has_hashed r NS) (has_hashed r SOA) h in
-        subst (HashRefutesType r n q) (same_of_type Nsec3FromApexForDs cause k) (hash_of_apex ds.0 ds.1 bits.0 bits.1)
-    by false f true g false h t i k = absurd cc
-    by false f false g p h true i k =
-        let bits = both_are (has_hashed r NS) (has_hashed r SOA) i in
-        subst (HashRefutesType r n q) (same_of_type Nsec3FromParent cause k) (hash_of_parent (at_root n q g) bits.0 bits.1)
-    by false f false g p h false i k = absurd cc
 
 module _ (limits : HashLimits) (class : ℕ) (signer : Place) where
   -- a group ends a call, with this cause

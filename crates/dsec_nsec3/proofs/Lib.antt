@@ -7,6 +7,7 @@ pub mod GoneLaws
 pub mod TellingLaws
 pub mod HashAnswerLaws
 pub mod ConclusionLaws
+pub mod HashRefusalLaws
 pub mod HashCauseLaws
 pub mod UnprovedLaws
 pub mod HashCountLaws
