@@ -46,13 +46,13 @@ unfolding going_on judged_all
 going_goes w most message [] c h = record {
   in_step = tt;
   says = λ replies a.
-      ap (on_all w c.message c.questions c.answers) (ap Rattle.dsec_nodes.specs.Judging.all (sym (append-nil c.judged))) ∙ h replies (all_front (WalkOf w replies) c.walks [] a);
+      ap (on_all w c.most c.message c.questions c.answers) (ap Rattle.dsec_nodes.specs.Judging.all (sym (append-nil c.judged))) ∙ h replies (all_front (WalkOf w replies) c.walks [] a);
 }
 going_goes w most message (g ∷ gs) c h = by (going_goes w most message gs) (way_of w g) (way_is w g)
   where
     by : ((d : Course) → Leads w most message d gs → CourseGoes w most message (going_on w gs d)) → (x : Way) → WayIs w g x → CourseGoes w most message (by_way g gs x (going_on w gs) c)
     by later (at_once j) once = later (with_judged c j) (λ replies a.
-        ap (on_all w c.message c.questions c.answers) (sym (judged_first w replies c.judged g gs j (once.same replies) once.goes_on)) ∙ h replies a)
+        ap (on_all w c.most c.message c.questions c.answers) (sym (judged_first w replies c.judged g gs j (once.same replies) once.goes_on)) ∙ h replies a)
     by later (by_walk top) needs =
         let f = target_below w g top needs.from_island in
         let goes = advanced_goes w (started top (target_of g (Some top))) begin (started_in_step w top (target_of g (Some top)) f.below f.shorter) tt in
@@ -81,7 +81,7 @@ found_goes w most message c group s n f leads is = by (by_node w group n).findin
 
     further : (x : Finding) → j.finding ≡ x → passes x ≡ true → CourseGoes w most message (going_on w c.left (with_judged (with_walk c s) j))
     further x e p = going_goes w most message c.left (with_judged (with_walk c s) j) (λ replies a.
-        ap (on_all w c.message c.questions c.answers) (sym (judged_first w replies c.judged group c.left j (judged replies a) (ap passes e ∙ p)))
+        ap (on_all w c.most c.message c.questions c.answers) (sym (judged_first w replies c.judged group c.left j (judged replies a) (ap passes e ∙ p)))
         ∙ leads replies (all_last (WalkOf w replies) c.walks s a).0)
 
     by : (x : Finding) → j.finding ≡ x → CourseGoes w most message (by_found w (with_judged (with_walk c s) j) x)
@@ -89,7 +89,7 @@ found_goes w most message c group s n f leads is = by (by_node w group n).findin
       in_step = tt;
       says = λ replies a.
           let b = all_front (WalkOf w replies) (c.walks ++ s ∷ []) [] a in
-          ap (on_all w c.message c.questions c.answers) (sym (ap (behind c.judged) (judged_bogus w replies group c.left j (is_bogus cause links) (one_bogus cause links) (judged replies b) e refl)))
+          ap (on_all w c.most c.message c.questions c.answers) (sym (ap (behind c.judged) (judged_bogus w replies group c.left j (is_bogus cause links) (one_bogus cause links) (judged replies b) e refl)))
           ∙ leads replies (all_last (WalkOf w replies) c.walks s b).0;
     }
     by (is_shown links last signature) e = further (is_shown links last signature) e refl

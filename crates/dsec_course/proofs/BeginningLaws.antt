@@ -1,17 +1,16 @@
 -- What a message begins with: in step with the recursion, sound, and refused only where it can't be read.
-use Rattle.std.proofs.Common.{◌≡◌, ℕ, Bool, true, false, cond, List, [], Option, Some, None, Result, Ok, Err, refl, sym, ap, ◌∙◌, subst}
-use Rattle.std.specs.List.{list_any}
+use Rattle.std.proofs.Common.{◌≡◌, ℕ, List, [], Option, Some, None, Result, Ok, Err, refl, sym, ap, ◌∙◌, subst}
 use Rattle.dsec_spec.specs.Records.{Record}
 use Rattle.dsec_spec.specs.Messages.{Question}
 use Rattle.dsec_spec.specs.Groups.{Group, groups_of}
-use Rattle.dsec_spec.specs.Redirection.{is_bare, moved}
+use Rattle.dsec_spec.specs.Redirection.{moved}
 use Rattle.dsec_nodes.specs.World.{World, Replies}
 use Rattle.dsec_nodes.specs.Causes.{TooManyUnsignedCnames}
 use Rattle.dsec_nodes.specs.Machine.{begin}
-use Rattle.dsec_nodes.specs.Outcomes.{Outcome, by_nothing, bogus_by, not_built}
+use Rattle.dsec_nodes.specs.Outcomes.{Outcome, by_nothing, bogus_by}
 use Rattle.dsec_nodes.specs.Alone.{Refusal, unreadable, on_groups, on_sections, sections_of, alone}
-use Rattle.dsec_course.specs.Course.{to_end, Course, CourseAnswers, groups_in, walks_in}
-use Rattle.dsec_course.specs.Advancing.{beginning, begun_with, begun_by, begun}
+use Rattle.dsec_course.specs.Course.{Course, CourseAnswers, groups_in, walks_in}
+use Rattle.dsec_course.specs.Advancing.{begun_with, begun_by, begun}
 use Rattle.dsec_course.specs.Agreeing.{CourseInStep}
 use Rattle.dsec_course.specs.Justified.{SoundCourse}
 use Rattle.dsec_course.proofs.GroupLaws.{on_both}
@@ -27,31 +26,20 @@ begun_in_step w most message c e = by_sections (sections_of message) refl e
         → ((replies : Replies) → on_sections w most replies message (Some s) ≡ r) → (replies : Replies) → alone w most replies message ≡ r
     known s r f g replies = ap (on_sections w most replies message) f ∙ g replies
 
-    by_moved : (s : Sections) → sections_of message ≡ Some s → list_any is_bare (groups_of s.1) ≡ false → (m : Option (List Group))
-        → moved most (groups_of s.1) ≡ m → CourseInStep w most message (begun_with message s.0 m (groups_of s.2))
-    by_moved s f b None g = known s (Ok (bogus_by TooManyUnsignedCnames by_nothing)) f (λ replies.
-        ap (λ (x : Bool). cond x (Ok not_built) (on_groups w replies message s.0 (moved most (groups_of s.1)) (groups_of s.2))) b
-        ∙ ap (λ (m : Option (List Group)). on_groups w replies message s.0 m (groups_of s.2)) g)
-    by_moved s f b (Some answers) g = λ replies a.
-        on_both w replies message s.0 answers (groups_of s.2)
+    by_moved : (s : Sections) → sections_of message ≡ Some s → (m : Option (List Group))
+        → moved most (groups_of s.1) ≡ m → CourseInStep w most message (begun_with most message s.0 m (groups_of s.2))
+    by_moved s f None g = known s (Ok (bogus_by TooManyUnsignedCnames by_nothing)) f (λ replies.
+        ap (λ (m : Option (List Group)). on_groups w most replies message s.0 m (groups_of s.2)) g)
+    by_moved s f (Some answers) g = λ replies a.
+        on_both w most replies message s.0 answers (groups_of s.2)
         ∙ sym (ap (on_sections w most replies message) f
-        ∙ (ap (λ (y : Bool). cond y (Ok not_built) (on_groups w replies message s.0 (moved most (groups_of s.1)) (groups_of s.2))) b
-        ∙ ap (λ (m : Option (List Group)). on_groups w replies message s.0 m (groups_of s.2)) g))
-
-    by_bare : (s : Sections) → sections_of message ≡ Some s → (b : Bool) → list_any is_bare (groups_of s.1) ≡ b
-        → cond {A = Result Course Refusal} b (Ok (beginning message s.0 0 [] (to_end not_built))) (Ok (begun_with message s.0 (moved most (groups_of s.1)) (groups_of s.2))) ≡ Ok c
-        → CourseInStep w most message c
-    by_bare s f true b g =
-        let same : beginning message s.0 0 [] (to_end not_built) ≡ c = cc in
-        subst (CourseInStep w most message) same (known s (Ok not_built) f (λ replies.
-        ap (λ (x : Bool). cond x (Ok not_built) (on_groups w replies message s.0 (moved most (groups_of s.1)) (groups_of s.2))) b))
-    by_bare s f false b g =
-        let same : begun_with message s.0 (moved most (groups_of s.1)) (groups_of s.2) ≡ c = cc in
-        subst (CourseInStep w most message) same (by_moved s f b (moved most (groups_of s.1)) refl)
+        ∙ ap (λ (m : Option (List Group)). on_groups w most replies message s.0 m (groups_of s.2)) g)
 
     by_sections : (x : Option Sections) → sections_of message ≡ x → begun_by most message x ≡ Ok c → CourseInStep w most message c
     by_sections None f g = absurd cc
-    by_sections (Some s) f g = by_bare s f (list_any is_bare (groups_of s.1)) refl g
+    by_sections (Some s) f g =
+        let same : begun_with most message s.0 (moved most (groups_of s.1)) (groups_of s.2) ≡ c = cc in
+        subst (CourseInStep w most message) same (by_moved s f (moved most (groups_of s.1)) refl)
 
 -- a message whose sections can be read begins soundly
 pub begun_sound : (w : World) (most : ℕ) (message : List ℕ) (c : Course) → begun most message ≡ Ok c → SoundCourse w most message c
@@ -61,11 +49,13 @@ begun_sound w most message c e = by_sections (sections_of message) refl e
     Sections = List Question × List Record × List Record
 
     by_moved : (s : Sections) → sections_of message ≡ Some s → (m : Option (List Group)) → moved most (groups_of s.1) ≡ m
-        → SoundCourse w most message (begun_with message s.0 m (groups_of s.2))
+        → SoundCourse w most message (begun_with most message s.0 m (groups_of s.2))
     by_moved s f None g = (refl, refl, refl)
     by_moved s f (Some answers) g = record {
       same_message = refl;
+      same_most = refl;
       found = tt;
+      sure = tt;
       paced = record { routes = refl; counted = tt };
       opened = record {
         answers = answers;
@@ -76,19 +66,11 @@ begun_sound w most message c e = by_sections (sections_of message) refl e
       };
     }
 
-    by_bare : (s : Sections) → sections_of message ≡ Some s → (b : Bool)
-        → cond {A = Result Course Refusal} b (Ok (beginning message s.0 0 [] (to_end not_built))) (Ok (begun_with message s.0 (moved most (groups_of s.1)) (groups_of s.2))) ≡ Ok c
-        → SoundCourse w most message c
-    by_bare s f true g =
-        let same : beginning message s.0 0 [] (to_end not_built) ≡ c = cc in
-        subst (SoundCourse w most message) same (refl, refl, refl)
-    by_bare s f false g =
-        let same : begun_with message s.0 (moved most (groups_of s.1)) (groups_of s.2) ≡ c = cc in
-        subst (SoundCourse w most message) same (by_moved s f (moved most (groups_of s.1)) refl)
-
     by_sections : (x : Option Sections) → sections_of message ≡ x → begun_by most message x ≡ Ok c → SoundCourse w most message c
     by_sections None f g = absurd cc
-    by_sections (Some s) f g = by_bare s f (list_any is_bare (groups_of s.1)) g
+    by_sections (Some s) f g =
+        let same : begun_with most message s.0 (moved most (groups_of s.1)) (groups_of s.2) ≡ c = cc in
+        subst (SoundCourse w most message) same (by_moved s f (moved most (groups_of s.1)) refl)
 
 -- a course waits to begin, or to end, and has no walk
 pub record HasNothing (c : Course) : Type 0 where
@@ -102,21 +84,15 @@ begun_waits most message c e = by_sections (sections_of message) e
     Sections : Type 0
     Sections = List Question × List Record × List Record
 
-    by_moved : (s : Sections) (m : Option (List Group)) → HasNothing (begun_with message s.0 m (groups_of s.2))
+    by_moved : (s : Sections) (m : Option (List Group)) → HasNothing (begun_with most message s.0 m (groups_of s.2))
     by_moved s None = record { begins = tt; no_walks = refl; groups_are = refl }
     by_moved s (Some answers) = record { begins = tt; no_walks = refl; groups_are = refl }
 
-    by_bare : (s : Sections) (b : Bool)
-        → cond {A = Result Course Refusal} b (Ok (beginning message s.0 0 [] (to_end not_built))) (Ok (begun_with message s.0 (moved most (groups_of s.1)) (groups_of s.2))) ≡ Ok c
-        → HasNothing c
-    by_bare s true g = let same : beginning message s.0 0 [] (to_end not_built) ≡ c = cc in subst HasNothing same (record { begins = tt; no_walks = refl; groups_are = refl })
-    by_bare s false g =
-        let same : begun_with message s.0 (moved most (groups_of s.1)) (groups_of s.2) ≡ c = cc in
-        subst HasNothing same (by_moved s (moved most (groups_of s.1)))
-
     by_sections : (x : Option Sections) → begun_by most message x ≡ Ok c → HasNothing c
     by_sections None g = absurd cc
-    by_sections (Some s) g = by_bare s (list_any is_bare (groups_of s.1)) g
+    by_sections (Some s) g =
+        let same : begun_with most message s.0 (moved most (groups_of s.1)) (groups_of s.2) ≡ c = cc in
+        subst HasNothing same (by_moved s (moved most (groups_of s.1)))
 
 -- a message is refused at the beginning exactly where it can't be read
 pub record IsUnreadable (most : ℕ) (message : List ℕ) (e : Refusal) : Type 0 where
@@ -129,13 +105,9 @@ begun_refused most message e f = by_sections (sections_of message) refl f
     Sections : Type 0
     Sections = List Question × List Record × List Record
 
-    by_bare : (b : Bool) (x y : Course) → cond {A = Result Course Refusal} b (Ok x) (Ok y) ≡ Err e → IsUnreadable most message e
-    by_bare true x y g = absurd cc
-    by_bare false x y g = absurd cc
-
     by_sections : (x : Option Sections) → sections_of message ≡ x → begun_by most message x ≡ Err e → IsUnreadable most message e
     by_sections None g h = record { refusal = (let same : unreadable ≡ e = cc in sym same); none = g }
-    by_sections (Some s) g h = by_bare (list_any is_bare (groups_of s.1)) (beginning message s.0 0 [] (to_end not_built)) (begun_with message s.0 (moved most (groups_of s.1)) (groups_of s.2)) h
+    by_sections (Some s) g h = absurd cc
 
 -- and then the recursion refuses it, by each table
 pub refused_alone : (w : World) (most : ℕ) (replies : Replies) (message : List ℕ) (e : Refusal) → begun most message ≡ Err e

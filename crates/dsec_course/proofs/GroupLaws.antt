@@ -150,22 +150,22 @@ judged_both w replies (g ∷ gs) authorities =
     ap (and_others j j.finding) (judged_both w replies gs authorities) ∙ others_then j j.finding (judged_all w replies gs) (judged_all w replies authorities)
 
 -- the outcome of a message by the groups of both sections, one after the other
-pub on_both : (w : World) (replies : Replies) (message : List ℕ) (questions : List Question) (answers authorities : List Group)
-    → on_all w message questions (length answers) (behind [] (judged_all w replies (answers ++ authorities)))
-    ≡ on_judged w message questions (judged_all w replies answers) (judged_all w replies authorities)
-on_both w replies message questions answers authorities =
-    ap (on_all w message questions (length answers)) (sym (behind_none (judged_all w replies (answers ++ authorities))) ∙ judged_both w replies answers authorities)
+pub on_both : (w : World) (most : ℕ) (replies : Replies) (message : List ℕ) (questions : List Question) (answers authorities : List Group)
+    → on_all w most message questions (length answers) (behind [] (judged_all w replies (answers ++ authorities)))
+    ≡ on_judged w most message questions (judged_all w replies answers) (judged_all w replies authorities)
+on_both w most replies message questions answers authorities =
+    ap (on_all w most message questions (length answers)) (sym (behind_none (judged_all w replies (answers ++ authorities))) ∙ judged_both w replies answers authorities)
     ∙ by (judged_all w replies answers) (judged_all w replies authorities) refl
   where
     by : (a b : AllJudged) → judged_all w replies answers ≡ a
-        → on_all w message questions (length answers) (and_then a b) ≡ on_judged w message questions a b
+        → on_all w most message questions (length answers) (and_then a b) ≡ on_judged w most message questions a b
     by (one_bogus cause links) b e = refl
     by (all js) (one_bogus cause links) e = refl
     by (all js) (all beside) e =
         let long : length answers ≡ length js = ap (length {A = Group}) (sym (groups_same w replies answers js e)) ∙ length-map js (λ (j : Judged). j.group) in
-        ap (λ (k : ℕ). on_questions w message questions (take k (js ++ beside)) (drop k (js ++ beside))) long
-        ∙ (ap (λ (xs : List Judged). on_questions w message questions xs (drop (length js) (js ++ beside))) (take-append_seam js beside)
-        ∙ ap (on_questions w message questions js) (drop-append_seam js beside))
+        ap (λ (k : ℕ). on_questions w most message questions (take k (js ++ beside)) (drop k (js ++ beside))) long
+        ∙ (ap (λ (xs : List Judged). on_questions w most message questions xs (drop (length js) (js ++ beside))) (take-append_seam js beside)
+        ∙ ap (on_questions w most message questions js) (drop-append_seam js beside))
 
 -- judging goes on where no group is left, or by the first
 pub going_none : (w : World) (c : Course) → going_on w [] c ≡ (waiting c [] for_nothing, end_with (at_last w c))

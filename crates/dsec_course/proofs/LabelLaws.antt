@@ -1,5 +1,5 @@
 -- Names that are read from a message have at most 127 labels, and so has the zone that is to have signed a group.
-use Rattle.std.proofs.Common.{◌≡◌, ℕ, zero, suc, ◌+◌, ◌*◌, ◌≤◌, Bool, true, false, cond, List, [], ◌∷◌, length, map, drop, Option, Some, None, Result, Ok, refl, subst, arith}
+use Rattle.std.proofs.Common.{◌≡◌, ℕ, zero, suc, ◌+◌, ◌*◌, ◌≤◌, Bool, true, false, cond, List, [], ◌∷◌, length, map, drop, Option, Some, None, Ok, refl, subst, arith}
 use Rattle.std.specs.Prelude.{filter, filter_map, nat_lt, slice_get}
 use Rattle.std.specs.List.{AllByRecursion, cons_option, flat_map, list_any}
 use Rattle.std.specs.Option.{option_map, is_some}
@@ -19,11 +19,10 @@ use Rattle.dsec_spec.proofs.ReadingLemmas.{from_bind, unrefused}
 use Rattle.dsec_spec.proofs.WireNameLemmas.{from_name_in, labels_within}
 use Rattle.dsec_spec.proofs.NamesInMessages.{from_name_at}
 use Rattle.dsec_nodes.specs.World.{World}
-use Rattle.dsec_nodes.specs.Outcomes.{not_built}
-use Rattle.dsec_nodes.specs.Alone.{Refusal, sections_of}
-use Rattle.dsec_course.specs.Course.{to_end, Course}
+use Rattle.dsec_nodes.specs.Alone.{sections_of}
+use Rattle.dsec_course.specs.Course.{Course}
 use Rattle.dsec_course.specs.Justified.{most_for}
-use Rattle.dsec_course.specs.Advancing.{beginning, begun_with, begun_by, begun}
+use Rattle.dsec_course.specs.Advancing.{begun_with, begun_by, begun}
 use Rattle.dsec_course.proofs.Lists.{all_both, all_map}
 use Rattle.dsec_course.proofs.AskingLaws.{HasLabels, labels_of_target, most_for_each}
 
@@ -174,7 +173,7 @@ begun_named most message c e = by_sections (sections_of message) refl e
     Named d = AllByRecursion (λ (g : Group). IsName g.owner) d.left
 
     by_moved : (s : Sections) → sections_of message ≡ Some s → (m : Option (List Group)) → moved most (groups_of s.1) ≡ m
-        → Named (begun_with message s.0 m (groups_of s.2))
+        → Named (begun_with most message s.0 m (groups_of s.2))
     by_moved s f None g = tt
     by_moved s f (Some answers) g =
         let authorities = from_bind (authorities_of message) _ s f in
@@ -185,14 +184,8 @@ begun_named most message c e = by_sections (sections_of message) refl e
         (moved_named most (groups_of s.1) answers g (subst (λ (x : Sections). AllByRecursion (λ (y : Group). IsName y.owner) (groups_of x.1)) parts (groups_named answered.0.0 (answers_named message answered.0 answered.1))))
         (subst (λ (x : Sections). AllByRecursion (λ (y : Group). IsName y.owner) (groups_of x.2)) parts (groups_named authorities.0.0 (authorities_named message authorities.0 authorities.1)))
 
-    by_bare : (s : Sections) → sections_of message ≡ Some s → (b : Bool)
-        → cond {A = Result Course Refusal} b (Ok (beginning message s.0 0 [] (to_end not_built))) (Ok (begun_with message s.0 (moved most (groups_of s.1)) (groups_of s.2))) ≡ Ok c
-        → Named c
-    by_bare s f true g = let same : beginning message s.0 0 [] (to_end not_built) ≡ c = cc in subst Named same tt
-    by_bare s f false g =
-        let same : begun_with message s.0 (moved most (groups_of s.1)) (groups_of s.2) ≡ c = cc in
-        subst Named same (by_moved s f (moved most (groups_of s.1)) refl)
-
     by_sections : (x : Option Sections) → sections_of message ≡ x → begun_by most message x ≡ Ok c → Named c
     by_sections None f g = absurd cc
-    by_sections (Some s) f g = by_bare s f (list_any is_bare (groups_of s.1)) g
+    by_sections (Some s) f g =
+        let same : begun_with most message s.0 (moved most (groups_of s.1)) (groups_of s.2) ≡ c = cc in
+        subst Named same (by_moved s f (moved most (groups_of s.1)) refl)

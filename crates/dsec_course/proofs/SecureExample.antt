@@ -12,6 +12,7 @@ use Rattle.dsec_spec.specs.Groups.{Group, firsts}
 use Rattle.dsec_spec.specs.Lasting.{least_ttl}
 use Rattle.dsec_spec.specs.Islands.{longest}
 use Rattle.dsec_spec.specs.Redirection as redirection
+use Rattle.dsec_alias.specs.Following.{do_cname_dname}
 use Rattle.dsec_nodes.specs.World.{World}
 use Rattle.dsec_nodes.specs.Nodes.{Node}
 use Rattle.dsec_nodes.specs.Outcomes.{State, secure}
@@ -75,7 +76,7 @@ address = record {
 }
 
 abbrev pub c : Course
-c = beginning message (record { name = parent; rtype = 1; class = 1 } ∷ []) 1 (address ∷ []) to_begin
+c = beginning 11 message (record { name = parent; rtype = 1; class = 1 } ∷ []) 1 (address ∷ []) to_begin
 
 pub it_begins : begun 11 message ≡ Ok c
 unfolding questions_of answers_of authorities_of many_of question_at record_at data_at parts_at name_at name_within firsts redirection.staying_from
@@ -102,7 +103,7 @@ unfolding going_on longest questions_of answers_of authorities_of many_of questi
 it_hears = (tt, tt, (tt, tt, (tt, tt, tt)))
 
 pub it_is_secure : state_at (after_heard w (first_run w c) inputs).step ≡ Some secure
-unfolding going_on longest questions_of answers_of authorities_of many_of question_at record_at data_at parts_at name_at name_within firsts rrsig_of name_in labels_in signs least_ttl opt_of first_opt
+unfolding going_on longest questions_of answers_of authorities_of many_of question_at record_at data_at parts_at name_at name_within firsts rrsig_of name_in labels_in signs least_ttl opt_of first_opt do_cname_dname
 it_is_secure = refl
 
 -- one question was asked, and one node put
@@ -122,7 +123,7 @@ abbrev again : List Input
 again = node (first (after_heard w (first_run w c) inputs).puts) ∷ []
 
 pub again_secure : state_at (after_heard w (first_run w c) again).step ≡ Some secure
-unfolding going_on longest questions_of answers_of authorities_of many_of question_at record_at data_at parts_at name_at name_within firsts rrsig_of name_in labels_in signs least_ttl opt_of first_opt
+unfolding going_on longest questions_of answers_of authorities_of many_of question_at record_at data_at parts_at name_at name_within firsts rrsig_of name_in labels_in signs least_ttl opt_of first_opt do_cname_dname
 again_secure = refl
 
 pub again_asks : asked_in (after_heard w (first_run w c) again).course ≡ []

@@ -1,7 +1,7 @@
 -- A message judged a step at a time is sound, whatever kept nodes its walks are given, from whichever moment.
-use Rattle.std.proofs.Common.{◌≡◌, ℕ, ◌==◌, ◌+◌, ◌≤◌, List, [], ◌∷◌, ◌++◌, length, take, drop, map, Option, Some, None, refl, sym, ap, ◌∙◌, subst, append-nil, append_assoc}
+use Rattle.std.proofs.Common.{◌≡◌, ℕ, true, ◌==◌, ◌+◌, ◌≤◌, List, [], ◌∷◌, ◌++◌, length, take, drop, map, Option, Some, None, refl, sym, ap, ◌∙◌, subst, append-nil, append_assoc}
 use Rattle.std.specs.Prelude.{filter_map}
-use Rattle.std.specs.List.{AllByRecursion, list_any}
+use Rattle.std.specs.List.{AllByRecursion}
 use Rattle.std.proofs.Math.Seq.{take-append_seam, drop-append_seam}
 use Rattle.std.proofs.lemmas.Bool.{cond-false}
 use Rattle.std.proofs.lemmas.Option.{same_Some}
@@ -19,21 +19,22 @@ use Rattle.dsec_nodes.specs.Machine.{Walking, Step, Input, begin, node, stored, 
 use Rattle.dsec_nodes.specs.InStep.{IsCounted}
 use Rattle.dsec_nodes.specs.SoundSteps.{OnTheWay, SoundAt, SoundStep, InputKept}
 use Rattle.dsec_nodes.specs.Judging.{Finding, is_shown, has_no_set, is_insecure, is_bogus, is_indeterminate, Judged, by_node, target_of}
-use Rattle.dsec_nodes.specs.Outcomes.{alias_path}
+use Rattle.dsec_nodes.specs.Aliases.{alias_path}
 use Rattle.dsec_nodes.specs.Alone.{at_end, on_questions, sections_of}
 use Rattle.dsec_nodes.specs.SoundOutcomes.{IsRead}
 use Rattle.dsec_nodes.proofs.SoundWalk.{advanced_sound, started_sound}
 use Rattle.dsec_nodes.proofs.CountLaws.{advanced_counted, started_counted, asked_at_most}
-use Rattle.dsec_nodes.proofs.EndLaws.{Means, end_justified}
+use Rattle.dsec_nodes.proofs.WeakWays.{Means}
+use Rattle.dsec_nodes.proofs.EndLaws.{end_justified}
 use Rattle.dsec_nodes.proofs.OutcomeLaws.{read_is}
 use Rattle.dsec_course.specs.Course.{Waiting, to_begin, to_end, for_walk, for_nothing, Course, CourseAnswers, Way, at_once, by_walk, way_under, way_of}
 use Rattle.dsec_course.specs.Advancing.{waiting, with_judged, with_walk, at_last, by_way, going_on, by_found, by_step, by_waiting, course_advanced}
 use Rattle.dsec_course.specs.Agreeing.{IsFor}
-use Rattle.dsec_course.specs.Justified.{IsEnd, IsFound, route, route_by, route_of, most_on, IsPaced, IsOpen, SoundSoFar, SoundCourseAt, SoundCourse, SoundGoing}
+use Rattle.dsec_course.specs.Justified.{IsEnd, IsFound, IsSure, route, route_by, route_of, most_on, IsPaced, IsOpen, SoundSoFar, SoundCourseAt, SoundCourse, SoundGoing}
 use Rattle.dsec_course.proofs.Lists.{all_front, all_back, all_both}
 use Rattle.dsec_course.proofs.WalkSteps.{HasReached, advances}
 use Rattle.dsec_course.proofs.WalkPuts.{PutUnder, put_under}
-use Rattle.dsec_course.proofs.GroupLaws.{IsOnce, WayIs, way_is}
+use Rattle.dsec_course.proofs.GroupLaws.{passes, IsOnce, WayIs, way_is}
 use Rattle.dsec_course.proofs.AgreeingLaws.{target_below, sets_out, still_for}
 use Rattle.dsec_course.proofs.FoundLaws.{found_is}
 
@@ -54,7 +55,7 @@ more_groups js j group e = map-append (λ (x : Judged). x.group) js (j ∷ []) �
 -- one more group of the message is judged
 more_open : (most : ℕ) (message : List ℕ) (c : Course) (s : List Walking) (group : Group) (groups : List Group) (j : Judged) → j.group ≡ group
     → IsOpen most message c (group ∷ groups)
-    → IsOpen most message (record { message = c.message; questions = c.questions; answers = c.answers; left = c.left; judged = c.judged ++ j ∷ []; walks = s; waits = c.waits }) groups
+    → IsOpen most message (record { message = c.message; questions = c.questions; most = c.most; answers = c.answers; left = c.left; judged = c.judged ++ j ∷ []; walks = s; waits = c.waits }) groups
 more_open most message c s group groups j e o = record {
   answers = o.answers;
   authorities = o.authorities;
@@ -71,13 +72,23 @@ route_for w group s f =
     ap (route_by group) (cond-false (length group.records == 0) (at_once no_set) (way_under group (island w.anchors (place group.owner) group.rtype)) f.has_records ∙ ap (way_under group) f.from_island)
     ∙ ap (λ (p : Place). Some (s.top, p)) (sym f.to_signer)
 
+-- what judging goes on after isn't bogus
+sure_is : (f : Finding) → passes f ≡ true → IsSure f
+sure_is (is_bogus cause links) e = absurd cc
+sure_is (is_shown links last signature) e = tt
+sure_is has_no_set e = tt
+sure_is (is_insecure cause signed) e = tt
+sure_is is_indeterminate e = tt
+
 -- a group that is judged at once keeps what has been judged sound
 once_so_far : (w : World) (most : ℕ) (message : List ℕ) (c : Course) (group : Group) (groups : List Group) (j : Judged)
     → way_of w group ≡ at_once j → IsOnce w group j → SoundSoFar w most message c (group ∷ groups)
     → SoundSoFar w most message (with_judged c j) groups
 once_so_far w most message c group groups j e once h = record {
   same_message = h.same_message;
+  same_most = h.same_most;
   found = all_both (IsFound w) c.judged (j ∷ []) h.found (once.found, tt);
+  sure = all_both (λ (x : Judged). IsSure x.finding) c.judged (j ∷ []) h.sure (sure_is j.finding once.goes_on, tt);
   paced = record {
     routes = h.paced.routes ∙ sym (ap (filter_map (route_of w)) (more_groups c.judged j group once.its)
         ∙ left_out (route_of w) (map (λ (x : Judged). x.group) c.judged) group (ap (route_by group) e));
@@ -86,19 +97,27 @@ once_so_far w most message c group groups j e once h = record {
   opened = more_open most message c c.walks group groups j once.its h.opened;
 }
 
--- so does one whose walk has ended
+-- what is judged of one whose walk has ended is so, and asked no more than it may
+walked_paced : (w : World) (most : ℕ) (message : List ℕ) (c : Course) (group : Group) (groups : List Group) (s : Walking) (n : Node)
+    → IsFor w group s → length s.asked ≤ most_on (route s) → SoundSoFar w most message c (group ∷ groups)
+    → IsPaced w (with_judged (with_walk c s) (by_node w group n))
+walked_paced w most message c group groups s n f counted h = record {
+  routes = map-append route c.walks (s ∷ []) ∙ (ap (λ (rs : List (Place × Place)). rs ++ route s ∷ []) h.paced.routes
+      ∙ sym (ap (filter_map (route_of w)) (more_groups c.judged (by_node w group n) group refl)
+      ∙ left_in (route_of w) (map (λ (x : Judged). x.group) c.judged) group (route s) (route_for w group s f)));
+  counted = all_both (λ (x : Walking). length x.asked ≤ most_on (route x)) c.walks (s ∷ []) h.paced.counted (counted, tt);
+}
+
+-- so what has been judged stays sound, unless it is bogus
 walked_so_far : (w : World) (most : ℕ) (message : List ℕ) (c : Course) (group : Group) (groups : List Group) (s : Walking) (n : Node)
-    → IsFor w group s → length s.asked ≤ most_on (route s) → IsFound w (by_node w group n)
+    → IsFor w group s → length s.asked ≤ most_on (route s) → IsFound w (by_node w group n) → IsSure (by_node w group n).finding
     → SoundSoFar w most message c (group ∷ groups) → SoundSoFar w most message (with_judged (with_walk c s) (by_node w group n)) groups
-walked_so_far w most message c group groups s n f counted found h = record {
+walked_so_far w most message c group groups s n f counted found sure h = record {
   same_message = h.same_message;
+  same_most = h.same_most;
   found = all_both (IsFound w) c.judged (by_node w group n ∷ []) h.found (found, tt);
-  paced = record {
-    routes = map-append route c.walks (s ∷ []) ∙ (ap (λ (rs : List (Place × Place)). rs ++ route s ∷ []) h.paced.routes
-        ∙ sym (ap (filter_map (route_of w)) (more_groups c.judged (by_node w group n) group refl)
-        ∙ left_in (route_of w) (map (λ (x : Judged). x.group) c.judged) group (route s) (route_for w group s f)));
-    counted = all_both (λ (x : Walking). length x.asked ≤ most_on (route x)) c.walks (s ∷ []) h.paced.counted (counted, tt);
-  };
+  sure = all_both (λ (x : Judged). IsSure x.finding) c.judged (by_node w group n ∷ []) h.sure (sure, tt);
+  paced = walked_paced w most message c group groups s n f counted h;
   opened = more_open most message c (c.walks ++ s ∷ []) group groups (by_node w group n) refl h.opened;
 }
 
@@ -107,7 +126,9 @@ waits_so_far : (w : World) (most : ℕ) (message : List ℕ) (c : Course) (group
     → SoundSoFar w most message c groups → SoundSoFar w most message (waiting c left waits) groups
 waits_so_far w most message c groups left waits h = record {
   same_message = h.same_message;
+  same_most = h.same_most;
   found = h.found;
+  sure = h.sure;
   paced = record { routes = h.paced.routes; counted = h.paced.counted };
   opened = record {
     answers = h.opened.answers;
@@ -161,6 +182,9 @@ last_is w most message c h = by c.questions refl
     others = sym (drop-map (λ (x : Judged). x.group) c.answers c.judged)
         ∙ (ap (drop c.answers) in_order ∙ (ap (λ (k : ℕ). drop k (o.answers ++ o.authorities)) o.split ∙ drop-append_seam o.answers o.authorities))
 
+    sure : AllByRecursion (λ (x : Judged). IsSure x.finding) (js ++ beside)
+    sure = subst (AllByRecursion (λ (x : Judged). IsSure x.finding)) (sym (take-append-drop c.answers c.judged)) h.sure
+
     both : AllByRecursion (IsFound w) (js ++ beside)
     both = subst (AllByRecursion (IsFound w)) (sym (take-append-drop c.answers c.judged)) h.found
 
@@ -169,7 +193,7 @@ last_is w most message c h = by c.questions refl
         let a = asked_is message o.read.sections o.read.read in
         (a.0, a.1 ∙ ap (λ (x : List Question). Some (x, a.0)) (sym o.read.asks ∙ e))
 
-    by : (qs : List Question) → c.questions ≡ qs → IsEnd w most message (on_questions w c.message qs js beside)
+    by : (qs : List Question) → c.questions ≡ qs → IsEnd w most message (on_questions w c.most c.message qs js beside)
     by [] e = (refl, λ question rest f. none_is_one question (same_questions ([], (asks [] e).0) (question ∷ [], rest) (sym (asks [] e).1 ∙ f)))
     by (first ∷ other ∷ more) e = (
       refl,
@@ -178,9 +202,11 @@ last_is w most message c h = by c.questions refl
     by (question ∷ []) e =
         let read = subst (IsRead message most question o.answers) o.read.authorities_are
         (read_is most message question o.answers o.read.sections o.read.read (sym o.read.asks ∙ e) o.read.answers_are) in
-        subst (Means w most message) (ap (λ (m : List ℕ). at_end w m question js beside (alias_path w question js)) (sym h.same_message))
+        subst (Means w most message)
+        (ap (λ (m : List ℕ). at_end w m question js beside (alias_path w most question js beside)) (sym h.same_message)
+        ∙ ap (λ (k : ℕ). at_end w c.message question js beside (alias_path w k question js beside)) (sym h.same_most))
         (end_justified w most message question o.answers o.authorities js beside read same others (all_front (IsFound w) js beside both)
-        (all_back (IsFound w) js beside both))
+        (all_back (IsFound w) js beside both) (all_front (λ (x : Judged). IsSure x.finding) js beside sure))
 
 -- judging goes on soundly
 going_sound : (w : World) (most : ℕ) (message : List ℕ) (groups : List Group) (c : Course) → SoundSoFar w most message c groups
@@ -216,20 +242,26 @@ ended_found w group s n f h at =
 found_sound : (w : World) (most : ℕ) (message : List ℕ) (c : Course) (group : Group) (s : Walking) (n : Node) → IsFor w group s → SoundStep w s
     → IsCounted s → HasReached (done n) s.reached → SoundSoFar w most message c (group ∷ c.left)
     → SoundGoing w most message (by_step w c group s (done n))
-found_sound w most message c group s n f h counted at so_far = by (by_node w group n).finding
+found_sound w most message c group s n f h counted at so_far = by (by_node w group n).finding refl
   where
     d : Course
     d = with_judged (with_walk c s) (by_node w group n)
 
-    more : SoundSoFar w most message d c.left
-    more = walked_so_far w most message c group c.left s n f (asked_at_most w s h counted) (ended_found w group s n f h at) so_far
+    found : IsFound w (by_node w group n)
+    found = ended_found w group s n f h at
 
-    by : (x : Finding) → SoundGoing w most message (by_found w d x)
-    by (is_bogus cause links) = ((more.found, record { routes = more.paced.routes; counted = more.paced.counted }), refl)
-    by (is_shown links last signature) = going_sound w most message c.left d more
-    by has_no_set = going_sound w most message c.left d more
-    by (is_insecure cause signed) = going_sound w most message c.left d more
-    by is_indeterminate = going_sound w most message c.left d more
+    paced : IsPaced w d
+    paced = walked_paced w most message c group c.left s n f (asked_at_most w s h counted) so_far
+
+    more : IsSure (by_node w group n).finding → SoundSoFar w most message d c.left
+    more sure = walked_so_far w most message c group c.left s n f (asked_at_most w s h counted) found sure so_far
+
+    by : (x : Finding) → (by_node w group n).finding ≡ x → SoundGoing w most message (by_found w d x)
+    by (is_bogus cause links) e = ((all_both (IsFound w) c.judged (by_node w group n ∷ []) so_far.found (found, tt), record { routes = paced.routes; counted = paced.counted }), refl)
+    by (is_shown links last signature) e = going_sound w most message c.left d (more (subst IsSure (sym e) tt))
+    by has_no_set e = going_sound w most message c.left d (more (subst IsSure (sym e) tt))
+    by (is_insecure cause signed) e = going_sound w most message c.left d (more (subst IsSure (sym e) tt))
+    by is_indeterminate e = going_sound w most message c.left d (more (subst IsSure (sym e) tt))
 
 -- the course after a step of the walk that is waited for
 walk_sound : (w : World) (most : ℕ) (message : List ℕ) (c : Course) (group : Group) (p : Walking × Step) → IsFor w group p.0 → SoundStep w p.0

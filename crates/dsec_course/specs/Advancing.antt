@@ -1,23 +1,23 @@
 -- A message judged a step at a time: what it begins with, and what it makes of each input (RFC 4035 4.3, 5).
-use Rattle.std.specs.Prelude.{ℕ, List, [], ◌∷◌, ◌++◌, length, take, drop, Option, Some, None, Result, Ok, Err, if◌then◌else◌}
-use Rattle.std.specs.List.{list_any}
+use Rattle.std.specs.Prelude.{ℕ, List, [], ◌∷◌, ◌++◌, length, take, drop, Option, Some, None, Result, Ok, Err}
 use Rattle.dsec_spec.specs.Records.{Record}
 use Rattle.dsec_spec.specs.Messages.{Question}
 use Rattle.dsec_spec.specs.Groups.{Group, groups_of}
-use Rattle.dsec_spec.specs.Redirection.{is_bare, moved}
+use Rattle.dsec_spec.specs.Redirection.{moved}
 use Rattle.dsec_nodes.specs.World.{World}
 use Rattle.dsec_nodes.specs.Causes.{TooManyUnsignedCnames}
 use Rattle.dsec_nodes.specs.Machine.{Walking, Step, node_get, node_put, ask, done, Input, gets, in_phase, started, name_at, advanced}
 use Rattle.dsec_nodes.specs.Judging.{Finding, is_bogus, Judged, by_node, target_of}
-use Rattle.dsec_nodes.specs.Outcomes.{Outcome, by_links, by_nothing, bogus_by, not_built}
+use Rattle.dsec_nodes.specs.Outcomes.{Outcome, by_links, by_nothing, bogus_by, unproved_outcome}
 use Rattle.dsec_nodes.specs.Alone.{Refusal, unreadable, on_questions, sections_of}
 pub use Rattle.dsec_course.specs.Course.{Waiting, to_begin, to_end, for_walk, for_nothing, Course, CourseStep, get_node, put_node, ask_for, end_with, CourseAnswers, Way, at_once, by_walk, way_of}
 
 -- a course with nothing behind it
-abbrev pub beginning : List ℕ → List Question → ℕ → List Group → Waiting → Course
-beginning message questions answers left waits = record {
+abbrev pub beginning : ℕ → List ℕ → List Question → ℕ → List Group → Waiting → Course
+beginning most message questions answers left waits = record {
   message = message;
   questions = questions;
+  most = most;
   answers = answers;
   left = left;
   judged = [];
@@ -27,19 +27,17 @@ beginning message questions answers left waits = record {
 
 -- the beginning by the groups of both sections, those of CNAME records made for a DNAME record moved to it; too many of them are bogus
 -- (RFC 6672 3.1)
-abbrev pub begun_with : List ℕ → List Question → Option (List Group) → List Group → Course
-begun_with message questions None authorities = beginning message questions 0 [] (to_end (bogus_by TooManyUnsignedCnames by_nothing))
-begun_with message questions (Some answers) authorities = beginning message questions (length answers) (answers ++ authorities) to_begin
+abbrev pub begun_with : ℕ → List ℕ → List Question → Option (List Group) → List Group → Course
+begun_with most message questions None authorities = beginning most message questions 0 [] (to_end (bogus_by TooManyUnsignedCnames by_nothing))
+begun_with most message questions (Some answers) authorities = beginning most message questions (length answers) (answers ++ authorities) to_begin
 
--- the beginning by the sections, where they can be read; an answer with a bare CNAME record ends with a cause of its own, since following it
--- is left out (RFC 6672 3.1)
+-- the beginning by the sections, where they can be read
 abbrev pub begun_by : ℕ → List ℕ → Option (List Question × List Record × List Record) → Result Course Refusal
 begun_by most message None = Err unreadable
-begun_by most message (Some s) =
-    if list_any is_bare (groups_of s.1) then Ok (beginning message s.0 0 [] (to_end not_built))
-    else Ok (begun_with message s.0 (moved most (groups_of s.1)) (groups_of s.2))
+begun_by most message (Some s) = Ok (begun_with most message s.0 (moved most (groups_of s.1)) (groups_of s.2))
 
--- what judging a message begins with, where so many bare CNAME records are followed; nothing is asked where it can't be read (RFC 1035 4.1)
+-- what judging a message begins with, where so many bare CNAME records are followed, and so many aliases; nothing is asked where it can't be read
+-- (RFC 1035 4.1)
 abbrev pub begun : ℕ → List ℕ → Result Course Refusal
 begun most message = begun_by most message (sections_of message)
 
@@ -48,6 +46,7 @@ abbrev pub waiting : Course → List Group → Waiting → Course
 waiting c left waits = record {
   message = c.message;
   questions = c.questions;
+  most = c.most;
   answers = c.answers;
   left = left;
   judged = c.judged;
@@ -60,6 +59,7 @@ abbrev pub with_judged : Course → Judged → Course
 with_judged c j = record {
   message = c.message;
   questions = c.questions;
+  most = c.most;
   answers = c.answers;
   left = c.left;
   judged = c.judged ++ j ∷ [];
@@ -72,6 +72,7 @@ abbrev pub with_walk : Course → Walking → Course
 with_walk c s = record {
   message = c.message;
   questions = c.questions;
+  most = c.most;
   answers = c.answers;
   left = c.left;
   judged = c.judged;
@@ -81,7 +82,7 @@ with_walk c s = record {
 
 -- the outcome where all groups are judged, and none is bogus (RFC 4033 5)
 abbrev pub at_last : World → Course → Result Outcome Refusal
-at_last w c = on_questions w c.message c.questions (take c.answers c.judged) (drop c.answers c.judged)
+at_last w c = on_questions w c.most c.message c.questions (take c.answers c.judged) (drop c.answers c.judged)
 
 -- a walk for a group sets out, first to get the node of its island (RFC 4033 2)
 abbrev pub setting_out : Course → Group → List Group → Walking → Course × CourseStep
@@ -114,7 +115,7 @@ abbrev pub by_waiting : World → Course → Input → Waiting → Course × Cou
 by_waiting w c input to_begin = going_on w c.left c
 by_waiting w c input (to_end o) = (waiting c c.left for_nothing, end_with (Ok o))
 by_waiting w c input (for_walk group s) = by_step w c group (advanced w s input).0 (advanced w s input).1
-by_waiting w c input for_nothing = (c, end_with (Ok not_built))
+by_waiting w c input for_nothing = (c, end_with (Ok unproved_outcome))
 
 -- the step after what answers the last one (RFC 4035 4.3, 5)
 abbrev pub course_advanced : World → Course → Input → Course × CourseStep

@@ -26,15 +26,16 @@ abbrev pub behind : List Judged → AllJudged → AllJudged
 behind js (all later) = all (js ++ later)
 behind js (one_bogus cause links) = one_bogus cause links
 
--- the outcome of a message by what judging all its groups came to, so many of which are the answer section's (RFC 4033 5)
-abbrev pub on_all : World → List ℕ → List Question → ℕ → AllJudged → Result Outcome Refusal
-on_all w message questions answers (one_bogus cause links) = Ok (bogus_by cause (by_links links))
-on_all w message questions answers (all js) = on_questions w message questions (take answers js) (drop answers js)
+-- the outcome of a message by what judging all its groups came to, so many of which are the answer section's, where so many aliases are followed
+-- (RFC 4033 5)
+abbrev pub on_all : World → ℕ → List ℕ → List Question → ℕ → AllJudged → Result Outcome Refusal
+on_all w most message questions answers (one_bogus cause links) = Ok (bogus_by cause (by_links links))
+on_all w most message questions answers (all js) = on_questions w most message questions (take answers js) (drop answers js)
 
 -- with these groups still to be judged, a course comes to the outcome of the message by each table of which its ended walks are
 abbrev pub Leads : World → ℕ → List ℕ → Course → List Group → Type 0
 Leads w most message c groups = (replies : Replies) → AllByRecursion (WalkOf w replies) c.walks
-    → on_all w c.message c.questions c.answers (behind c.judged (judged_all w replies groups)) ≡ alone w most replies message
+    → on_all w c.most c.message c.questions c.answers (behind c.judged (judged_all w replies groups)) ≡ alone w most replies message
 
 -- a walk is from the island of a group, which has records, to the zone that is to have signed it (RFC 4033 2, RFC 4035 5.3.1)
 pub record IsFor (w : World) (group : Group) (s : Walking) : Type 0 where

@@ -20,11 +20,12 @@ pub data Waiting : Type 0 where
   for_walk : Group → Walking → Waiting
   for_nothing : Waiting
 
--- Judging a message: its octets and questions; how many of its groups are the answer section's; the groups that come after the one it waits
--- for, in order; those that are judged, in order; and the walks that have ended, in order (RFC 4035 4.3)
+-- Judging a message: its octets and questions; how many aliases are followed; how many of its groups are the answer section's; the groups that come
+-- after the one it waits for, in order; those that are judged, in order; and the walks that have ended, in order (RFC 4035 4.3)
 pub record Course : Type 0 where
   pub message : List ℕ
   pub questions : List Question
+  pub most : ℕ
   pub answers : ℕ
   pub left : List Group
   pub judged : List Judged

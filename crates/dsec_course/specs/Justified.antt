@@ -17,7 +17,7 @@ use Rattle.dsec_nodes.specs.Alone.{Refusal, not_one_question, sections_of}
 use Rattle.dsec_nodes.specs.SoundOutcomes.{IsJustified}
 use Rattle.dsec_course.specs.Course.{Waiting, to_begin, to_end, for_walk, for_nothing, Course, CourseStep, get_node, put_node, ask_for, end_with, Way, at_once, by_walk, way_of}
 use Rattle.dsec_course.specs.Agreeing.{IsFor}
-pub use Rattle.dsec_nodes.specs.SoundFindings.{Justifies, IsFound}
+pub use Rattle.dsec_nodes.specs.SoundFindings.{Justifies, IsFound, IsSure}
 
 -- from which island to which zone a walk is
 abbrev pub route : Walking → Place × Place
@@ -61,10 +61,12 @@ pub record IsOpen (most : ℕ) (message : List ℕ) (c : Course) (groups : List 
   pub split : c.answers ≡ length answers
   pub in_order : map (λ j. j.group) c.judged ++ groups ≡ answers ++ authorities
 
--- what has been judged of the message is sound, with these groups still to be judged
+-- what has been judged of the message is sound, none of it bogus, with these groups still to be judged
 pub record SoundSoFar (w : World) (most : ℕ) (message : List ℕ) (c : Course) (groups : List Group) : Type 0 where
   pub same_message : c.message ≡ message
+  pub same_most : c.most ≡ most
   pub found : AllByRecursion (IsFound w) c.judged
+  pub sure : AllByRecursion (λ j. IsSure j.finding) c.judged
   pub paced : IsPaced w c
   pub opened : IsOpen most message c groups
 

@@ -17,6 +17,7 @@ use Rattle.dsec_absence.specs.Tests.{common}
 use Rattle.dsec_absence.specs.Answers.{search}
 use Rattle.dsec_nsec3.specs.Walks.{walk_from}
 use Rattle.dsec_nsec3.specs.HashedAnswers.{type_from, cover_from}
+use Rattle.dsec_alias.specs.Following.{do_cname_dname}
 use Rattle.dsec_nodes.specs.World.{World, Replies}
 use Rattle.dsec_nodes.specs.Causes.{Cause}
 use Rattle.dsec_nodes.specs.Outcomes.{State, secure, bogus, Why, by_groups, by_cause, by_links, by_nothing, Outcome}
@@ -99,40 +100,40 @@ expanded = signed named 1 1 (192 ∷ 0 ∷ 2 ∷ 1 ∷ [])
 
 -- `example. TXT`: the type isn't among the apex's
 type_is_denied : told (alone w 11 replies (message_of 0 0 4 parent 16 (soa ++ apex_nsec))) ≡ Some (secure, None, 1 ∷ [])
-unfolding longest judged_all search common questions_of answers_of authorities_of many_of question_at record_at data_at parts_at name_at name_within firsts redirection.staying_from rrsig_of name_in labels_in blocks_in signs least_ttl opt_of first_opt
+unfolding longest judged_all search common questions_of answers_of authorities_of many_of question_at record_at data_at parts_at name_at name_within firsts redirection.staying_from rrsig_of name_in labels_in blocks_in signs least_ttl opt_of first_opt do_cname_dname
 type_is_denied = refl
 
 -- `example. NS`: it is, and the last cause is that no NSEC3 record proves otherwise
 type_is_there : told (alone w 11 replies (message_of 0 0 4 parent 2 (soa ++ apex_nsec))) ≡ Some (bogus, Some NoNsec3Proof, [])
-unfolding walk_from type_from longest judged_all search common questions_of answers_of authorities_of many_of question_at record_at data_at parts_at name_at name_within firsts redirection.staying_from rrsig_of name_in labels_in blocks_in signs least_ttl opt_of first_opt
+unfolding walk_from type_from longest judged_all search common questions_of answers_of authorities_of many_of question_at record_at data_at parts_at name_at name_within firsts redirection.staying_from rrsig_of name_in labels_in blocks_in signs least_ttl opt_of first_opt do_cname_dname
 type_is_there = refl
 
 -- `a.example. A`: one record is around the name and around the wildcard
 name_is_denied : told (alone w 11 replies (message_of 3 0 4 named 1 (soa ++ apex_nsec))) ≡ Some (secure, None, 1 ∷ 1 ∷ [])
-unfolding longest judged_all search common questions_of answers_of authorities_of many_of question_at record_at data_at parts_at name_at name_within firsts redirection.staying_from rrsig_of name_in labels_in blocks_in signs least_ttl opt_of first_opt
+unfolding longest judged_all search common questions_of answers_of authorities_of many_of question_at record_at data_at parts_at name_at name_within firsts redirection.staying_from rrsig_of name_in labels_in blocks_in signs least_ttl opt_of first_opt do_cname_dname
 name_is_denied = refl
 
 -- without an SOA record nothing is denied
 no_soa : told (alone w 11 replies (message_of 3 0 2 named 1 apex_nsec)) ≡ Some (bogus, Some MissingSoa, [])
-unfolding longest judged_all search common questions_of answers_of authorities_of many_of question_at record_at data_at parts_at name_at name_within firsts redirection.staying_from rrsig_of name_in labels_in blocks_in signs least_ttl opt_of first_opt
+unfolding longest judged_all search common questions_of answers_of authorities_of many_of question_at record_at data_at parts_at name_at name_within firsts redirection.staying_from rrsig_of name_in labels_in blocks_in signs least_ttl opt_of first_opt do_cname_dname
 no_soa = refl
 
 -- `a.example. TXT`: the name is missing, and its wildcard hasn't the type
 type_below_is_denied : told (alone w 11 replies (message_of 0 0 4 named 16 (soa ++ star_nsec))) ≡ Some (secure, None, 1 ∷ 1 ∷ [])
-unfolding longest judged_all search common questions_of answers_of authorities_of many_of question_at record_at data_at parts_at name_at name_within firsts redirection.staying_from rrsig_of name_in labels_in blocks_in signs least_ttl opt_of first_opt
+unfolding longest judged_all search common questions_of answers_of authorities_of many_of question_at record_at data_at parts_at name_at name_within firsts redirection.staying_from rrsig_of name_in labels_in blocks_in signs least_ttl opt_of first_opt do_cname_dname
 type_below_is_denied = refl
 
 -- `a.example. A`, from the wildcard: a closer name is missing
 wildcard_answers : told (alone w 11 replies (message_of 0 2 2 named 1 (expanded ++ star_nsec))) ≡ Some (secure, None, 0 ∷ [])
-unfolding longest judged_all search common questions_of answers_of authorities_of many_of question_at record_at data_at parts_at name_at name_within firsts redirection.staying_from rrsig_of name_in labels_in blocks_in signs least_ttl opt_of first_opt
+unfolding longest judged_all search common questions_of answers_of authorities_of many_of question_at record_at data_at parts_at name_at name_within firsts redirection.staying_from rrsig_of name_in labels_in blocks_in signs least_ttl opt_of first_opt do_cname_dname
 wildcard_answers = refl
 
 -- without its denial it isn't to be relied on
 wildcard_alone : told (alone w 11 replies (message_of 0 2 0 named 1 expanded)) ≡ Some (bogus, Some NoDenialProof, [])
-unfolding cover_from longest judged_all search common questions_of answers_of authorities_of many_of question_at record_at data_at parts_at name_at name_within firsts redirection.staying_from rrsig_of name_in labels_in blocks_in signs least_ttl opt_of first_opt
+unfolding cover_from longest judged_all search common questions_of answers_of authorities_of many_of question_at record_at data_at parts_at name_at name_within firsts redirection.staying_from rrsig_of name_in labels_in blocks_in signs least_ttl opt_of first_opt do_cname_dname
 wildcard_alone = refl
 
 -- the wildcard itself needs none
 wildcard_itself : told (alone w 11 replies (message_of 0 2 0 starred 1 (signed starred 1 1 (192 ∷ 0 ∷ 2 ∷ 1 ∷ [])))) ≡ Some (secure, None, [])
-unfolding longest judged_all search common questions_of answers_of authorities_of many_of question_at record_at data_at parts_at name_at name_within firsts redirection.staying_from rrsig_of name_in labels_in blocks_in signs least_ttl opt_of first_opt
+unfolding longest judged_all search common questions_of answers_of authorities_of many_of question_at record_at data_at parts_at name_at name_within firsts redirection.staying_from rrsig_of name_in labels_in blocks_in signs least_ttl opt_of first_opt do_cname_dname
 wildcard_itself = refl

@@ -26,6 +26,10 @@ pub mod SoaLaws
 pub mod DenialLaws
 pub mod HashUseLaws
 pub mod RcodeLaws
+pub mod DisproofLaws
+pub mod WayLists
+pub mod AliasWays
+pub mod WeakWays
 pub mod EndLaws
 pub mod OutcomeLaws
 pub mod QuestionLaws

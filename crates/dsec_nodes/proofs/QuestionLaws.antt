@@ -1,5 +1,5 @@
 -- The one question of a message of octets has a type of 16 bits (RFC 1035 3.2.3), so that what a message denies is.
-use Rattle.std.proofs.Common.{◌≡◌, ℕ, zero, suc, ◌+◌, ◌*◌, ◌<◌, List, [], ◌∷◌, drop, Some, ap, subst, arith}
+use Rattle.std.proofs.Common.{◌≡◌, ℕ, zero, suc, ◌+◌, ◌*◌, ◌<◌, List, [], ◌∷◌, drop, Some, sym, ap, subst, arith}
 use Rattle.std.specs.Prelude.{All}
 use Rattle.std.proofs.lemmas.Option.{same_Some}
 use Rattle.std.proofs.lemmas.List.Elements.{All-drop}
@@ -68,6 +68,7 @@ denied_so w authorities question signer (by_nsec3 d) p small = p.denies small
 pub denial_holds : (w : World) (most : ℕ) (message : List ℕ) (o : Outcome) (d : IsSecureDenial w most message o) → All (λ x. x < 256) message
     → Disproves w d.has_soa.end.authorities d.has_soa.end.question d.judged.signer d.disproof d.denied
 denial_holds w most message o d h =
-    let read = d.has_soa.end.read in
-    denied_so w d.has_soa.end.authorities d.has_soa.end.question d.judged.signer d.disproof d.denied
-    (type_is_small message d.has_soa.end.question read.questions_end h read.asked)
+    let end = d.has_soa.end in
+    let its : end.question.rtype ≡ end.asked.rtype = ap (λ (q : Question). q.rtype) end.question_is in
+    denied_so w end.authorities end.question d.judged.signer d.disproof d.denied
+    (subst (λ (n : ℕ). n < 65536) (sym its) (type_is_small message end.asked end.read.questions_end h end.read.asked))

@@ -18,7 +18,7 @@ use Rattle.dsec_nodes.specs.World.{World, limits_of}
 use Rattle.dsec_nodes.specs.Causes.{MissingSoa}
 use Rattle.dsec_nodes.specs.Signing.{is_expanded}
 use Rattle.dsec_nodes.specs.Judging.{Finding, is_shown, has_no_set, is_insecure, is_bogus, is_indeterminate, Judged}
-use Rattle.dsec_nodes.specs.Outcomes.{Used, Outcome, by_nothing, secure_by, open_by, bogus_by, not_built, by_finding}
+use Rattle.dsec_nodes.specs.Outcomes.{Used, Outcome, by_nothing, secure_by, open_by, bogus_by, unproved_outcome, by_finding}
 
 -- whether links show a group's set (RFC 4035 5)
 abbrev pub is_secure : Finding → Bool
@@ -95,7 +95,7 @@ denied_under w message question name authorities soa =
 
 -- the outcome by the SOA set at an index; where none counts, bogus, and why none does (RFC 2308 2.1, 2.2, RFC 4035 5.4)
 abbrev pub at_soa : World → List ℕ → Question → Place → List Judged → Option Judged → Outcome
-at_soa w message question name authorities None = not_built
+at_soa w message question name authorities None = unproved_outcome
 at_soa w message question name authorities (Some soa) =
     by_finding (λ signature. on_conclusion authorities soa (denied_under w message question name authorities soa)) soa.finding
 

@@ -21,10 +21,12 @@ pub mod SoundSteps
 pub mod Judging
 pub mod Outcomes
 pub mod ByDenial
+pub mod Aliases
 pub mod Alone
 pub mod SoundFindings
 pub mod SoundDenials
 pub mod SoundHashes
 pub mod SoundProofs
+pub mod SoundAliases
 pub mod SoundOutcomes
 pub mod Runs

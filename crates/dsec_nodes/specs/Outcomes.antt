@@ -1,22 +1,11 @@
--- What a message comes to, and the parts of judging it that are left out (RFC 4033 5, RFC 4035 5).
-use Rattle.std.specs.Prelude.{ℕ, List, [], Option, Some, None, if◌then◌else◌}
-use Rattle.std.specs.List.{list_any}
-use Rattle.dsec_spec.specs.Names.{Place, place}
+-- What a message comes to (RFC 4033 5, RFC 4035 5).
+use Rattle.std.specs.Prelude.{ℕ, List, Option, Some, None}
 use Rattle.dsec_spec.specs.Records.{Record}
-use Rattle.dsec_spec.specs.Messages.{Question}
-use Rattle.dsec_spec.specs.Answering.{leads_on}
 use Rattle.dsec_spec.specs.Chain as chain
-use Rattle.dsec_nodes.specs.World.{World}
-use Rattle.dsec_nodes.specs.Causes.{Cause, RrsigWithoutRrset, NoTrustAnchor, NotBuilt}
+pub use Rattle.dsec_alias.specs.States.{State, secure, insecure, bogus, indeterminate}
+use Rattle.dsec_nodes.specs.Causes.{Cause, RrsigWithoutRrset, NoTrustAnchor, NoDenialProof}
 use Rattle.dsec_nodes.specs.Nodes.{SignedCause}
 use Rattle.dsec_nodes.specs.Judging.{Finding, is_shown, has_no_set, is_insecure, is_bogus, is_indeterminate, Judged}
-
--- the four states (RFC 4033 5)
-pub data State : Type 0 where
-  secure : State
-  insecure : State
-  bogus : State
-  indeterminate : State
 
 -- a judged group of the authority section that a denial uses, and its index there (RFC 4035 5.4)
 pub record Used : Type 0 where
@@ -49,9 +38,9 @@ open_by cause judged used = record { state = insecure; cause = cause; why = by_g
 abbrev pub bogus_by : Cause → Why → Outcome
 bogus_by cause why = record { state = bogus; cause = Some cause; why = why }
 
--- an outcome where judging came to a part that is left out (RFC 4033 5)
-abbrev pub not_built : Outcome
-not_built = bogus_by NotBuilt by_nothing
+-- the outcome where nothing is proved (RFC 4033 5)
+abbrev pub unproved_outcome : Outcome
+unproved_outcome = bogus_by NoDenialProof by_nothing
 
 -- the outcome by what was found of the group that decides: where links show its set, what comes of it with the signature by which they do
 -- (RFC 4033 5)
@@ -61,14 +50,3 @@ by_finding where_shown has_no_set = record { state = insecure; cause = Some Rrsi
 by_finding where_shown (is_insecure cause signed) = record { state = insecure; cause = cause; why = by_cause signed }
 by_finding where_shown (is_bogus cause links) = bogus_by cause (by_links links)
 by_finding where_shown is_indeterminate = record { state = indeterminate; cause = Some NoTrustAnchor; why = by_nothing }
-
--- where the path of names from a question's ends: at a name, with the state of the aliases and the groups used, or not at all
--- (RFC 1034 3.6.2)
-pub data AliasEnd : Type 0 where
-  ends_at : Place → State → List Judged → AliasEnd
-  ends_bogus : Cause → AliasEnd
-
--- the path of names; following a CNAME or DNAME record is left out (RFC 1034 3.6.2, RFC 6672 2.2)
-abbrev pub alias_path : World → Question → List Judged → AliasEnd
-alias_path w question answers =
-    if list_any (λ j. leads_on w.anchors question j.group) answers then ends_bogus NotBuilt else ends_at (place question.name) secure []

@@ -56,6 +56,14 @@ Justifies w j is_indeterminate = island w.anchors (place j.group.owner) j.group.
 abbrev pub IsFound : World → Judged → Type 0
 IsFound w j = Justifies w j j.finding
 
+-- what was found isn't bogus (RFC 4033 5)
+abbrev pub IsSure : Finding → Type 0
+IsSure (is_shown links last signature) = Unit {0}
+IsSure has_no_set = Unit {0}
+IsSure (is_insecure cause signed) = Unit {0}
+IsSure (is_bogus cause links) = ⊥
+IsSure is_indeterminate = Unit {0}
+
 -- links were found that show a judged group's set (RFC 4035 5)
 pub record IsShown (w : World) (j : Judged) : Type 0 where
   pub links : List Link

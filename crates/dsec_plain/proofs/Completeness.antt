@@ -1,12 +1,12 @@
 -- Ordinary replies are Secure.
 use Rattle.std.proofs.Common.{◌≡◌, ℕ, ◌+◌, ◌<◌, ◌==◌, ◌&&◌, ◌||◌, Bool, true, false, cond, List, [], ◌∷◌, ◌++◌, length, Option, Some, None, Ok, refl, sym, ap, ◌∙◌, subst, arith, inl, inr, append-nil}
-use Rattle.std.specs.Prelude.{filter_map, nat_lt, position, unwrap_or}
+use Rattle.std.specs.Prelude.{Contains, filter_map, nat_lt, position, unwrap_or}
 use Rattle.std.specs.List.{list_any, cons_option}
 use Rattle.std.specs.Option.{is_some, option_map}
 use Rattle.std.proofs.Math.Bool.{not}
 use Rattle.std.proofs.lemmas.Bool.{true≢false, and_parts, and_from, and_left, and_right, or_from, eqb-true, eq-eqb, ne_eqb, cond-true, cond-false, not_from_true, not_from_false, false_from_ne_true, cases_Bool, ltb-true}
 use Rattle.dsec_spec.specs.Reading.{◌>>=◌}
-use Rattle.dsec_spec.specs.Names.{Place, place, is_strictly_below, IsAtOrBelow, IsStrictlyBelow}
+use Rattle.dsec_spec.specs.Names.{Labels, Place, place, is_strictly_below, IsAtOrBelow, IsStrictlyBelow}
 use Rattle.dsec_spec.specs.Numbers.{CNAME, DS, ANY}
 use Rattle.dsec_spec.specs.Records.{Record, Rrsig, rrsig_of}
 use Rattle.dsec_spec.specs.Messages.{rcode_of}
@@ -20,13 +20,19 @@ use Rattle.dsec_spec.specs.Chain as chain
 use Rattle.dsec_spec.proofs.CanonicalNames.{same_place_decides}
 use Rattle.dsec_spec.proofs.SignedTests.{below_decides, strictly_below_decides}
 use Rattle.dsec_spec.proofs.NamesBelow.{not_strictly_itself}
+use Rattle.dsec_spec.proofs.AnsweringLemmas.{leads_on_told}
+use Rattle.dsec_spec.proofs.Members.{not_in_none, in_more, from_map}
 use Rattle.dsec_nodes.specs.World.{World, Replies}
 use Rattle.dsec_nodes.specs.Signing.{link_under}
 use Rattle.dsec_nodes.specs.Walk.{node_of}
 use Rattle.dsec_nodes.specs.Judging.{is_shown, has_no_set, Judged, all, and_others, found_by, by_node, target_of, by_island, judged_of, judged_all}
-use Rattle.dsec_nodes.specs.Outcomes.{secure, Outcome, secure_by, not_built, ends_at, ends_bogus, alias_path}
+use Rattle.dsec_alias.specs.Candidates.{Candidate, Reply}
+use Rattle.dsec_alias.specs.Following.{ends_at}
+use Rattle.dsec_alias.specs.Paths.{LeadsOnTo, stays}
+use Rattle.dsec_alias.proofs.PathLaws.{path_told}
+use Rattle.dsec_nodes.specs.Outcomes.{secure, Outcome, secure_by}
+use Rattle.dsec_nodes.specs.Aliases.{candidate_of, Beside, reply_to, alias_path, reached}
 use Rattle.dsec_nodes.specs.ByDenial.{encloser_of, by_encloser, no_error_in, by_denial}
-use Rattle.dsec_nodes.specs.Causes.{NotBuilt}
 use Rattle.dsec_nodes.specs.Alone.{is_answer, by_answers, after_path, at_end, on_judged, on_groups, on_sections}
 use Rattle.dsec_plain.specs.PlainAnswers.{IsPlainAnswer}
 use Rattle.dsec_plain.specs.Coming.{IsSecureBy}
@@ -187,37 +193,52 @@ module _ (w : World) (replies : Replies) (message : List ℕ) (a : IsPlainAnswer
   first_position : {A : Type 0} (test : A → Bool) (x : A) → test x ≡ true → position test (x ∷ []) ≡ Some 0
   first_position test x e = ap (λ (b : Bool). cond (nat_lt (cond (not b) (1 + 0) 0) 1) (Some (cond (not b) (1 + 0) 0)) None) e
 
-  ends_secure : at_end w message a.question (plain_judged ∷ []) [] (alias_path w a.question (plain_judged ∷ [])) ≡ plain_outcome
-  ends_secure =
+  -- no alias leads on from the question's name
+  abbrev plain_reply : Reply Beside
+  plain_reply = reply_to w a.question (plain_judged ∷ []) []
+
+  path_ends : (most : ℕ) → alias_path w most a.question (plain_judged ∷ []) [] ≡ ends_at a.question.name secure []
+  path_ends most = path_told plain_reply {left = most} (stays (λ c there target leads. no_alias c (from_map candidate_of (plain_judged ∷ []) c there) target leads))
+    where
+      own : (group : Group) → a.group ≡ group → (target : Labels) → LeadsOnTo w.anchors a.question group target → ⊥
+      own group same target leads =
+          true≢false (sym (leads_on_told w.anchors a.question group leads.leads) ∙ (ap (leads_on w.anchors a.question) (sym same) ∙ leads_nowhere))
+
+      no_alias : (c : Candidate) → ((j : Judged) × Contains (plain_judged ∷ []) j × (candidate_of j ≡ c)) → (target : Labels)
+          → LeadsOnTo w.anchors (reached a.question a.question.name) c.group target → ⊥
+      no_alias c it target leads = elim (in_more plain_judged it.0 [] it.1) [
+        | inl same ↦ own c.group (ap (λ (j : Judged). (candidate_of j).group) same ∙ ap (λ (x : Candidate). x.group) it.2) target leads
+        | inr none ↦ not_in_none it.0 none
+      ]
+
+  ends_secure : (most : ℕ) → at_end w message a.question (plain_judged ∷ []) [] (alias_path w most a.question (plain_judged ∷ []) []) ≡ plain_outcome
+  ends_secure most =
       let name : Place = place a.question.name in
       let js : List Judged = plain_judged ∷ [] in
-      let aliases : list_any (λ (j : Judged). leads_on w.anchors a.question j.group) js ≡ false = or_from _ _ leads_nowhere refl in
       let asked : (no_error_in (rcode_of message) && not (a.question.rtype == ANY)) ≡ true =
       and_from _ _ (ap no_error_in a.no_error) (not_from_false _ (ne_eqb a.question.rtype ANY a.asks_for_a_set)) in
-      ap (at_end w message a.question js []) (cond-false (list_any (λ (j : Judged). leads_on w.anchors a.question j.group) js) (ends_bogus NotBuilt) (ends_at name secure []) aliases)
-      ∙ ap (after_path secure []) (
+      ap (at_end w message a.question js []) (path_ends most)
+      ∙ ap (after_path secure [] []) (
       cond-true (no_error_in (rcode_of message) && not (a.question.rtype == ANY)) (by_answers w message a.question name js [] (position (is_answer name a.question) js)) (by_denial w message a.question name []) asked
       ∙ (ap (by_answers w message a.question name js []) (first_position (is_answer name a.question) plain_judged answers_it)
       ∙ ap (by_encloser w a.question name [] plain_judged) own_set))
 
   -- what is found where both sections' groups are judged
-  judged_so : 0 < w.bounds.room → on_judged w message (a.question ∷ []) (judged_all w replies (a.group ∷ [])) (judged_all w replies []) ≡ Ok plain_outcome
+  judged_so : (most : ℕ) → 0 < w.bounds.room → on_judged w most message (a.question ∷ []) (judged_all w replies (a.group ∷ [])) (judged_all w replies []) ≡ Ok plain_outcome
   unfolding judged_all
-  judged_so some =
-      ap (λ (j : Judged). on_judged w message (a.question ∷ []) (and_others j j.finding (all [])) (all [])) (is_judged some)
-      ∙ ap (λ (o : Outcome). Ok o) ends_secure
+  judged_so most some =
+      ap (λ (j : Judged). on_judged w most message (a.question ∷ []) (and_others j j.finding (all [])) (all [])) (is_judged some)
+      ∙ ap (λ (o : Outcome). Ok o) (ends_secure most)
 
   plain_is_secure : (most : ℕ) → 0 < w.bounds.room → IsSecureBy w most replies message a.group
   plain_is_secure most some = record {
     outcome = plain_outcome;
     comes_to =
         ap (on_sections w most replies message) a.read
-        ∙ (ap (λ (gs : List Group). cond (list_any is_bare gs) (Ok not_built) (on_groups w replies message (a.question ∷ []) (moved most gs) (groups_of []))) a.one_group
-        ∙ (cond-false (list_any is_bare (a.group ∷ [])) (Ok not_built) (on_groups w replies message (a.question ∷ []) (moved most (a.group ∷ [])) (groups_of []))
-        (or_from _ _ (ap (λ (o : Option Record). is_some o) no_alias_record) refl)
-        ∙ (ap (λ (m : Option (List Group)). on_groups w replies message (a.question ∷ []) m (groups_of [])) (stays_same most)
-        ∙ (ap (λ (gs : List Group). on_judged w message (a.question ∷ []) (judged_all w replies (a.group ∷ [])) (judged_all w replies gs)) no_groups
-        ∙ judged_so some))));
+        ∙ (ap (λ (gs : List Group). on_groups w most replies message (a.question ∷ []) (moved most gs) (groups_of [])) a.one_group
+        ∙ (ap (λ (m : Option (List Group)). on_groups w most replies message (a.question ∷ []) m (groups_of [])) (stays_same most)
+        ∙ (ap (λ (gs : List Group). on_judged w most message (a.question ∷ []) (judged_all w replies (a.group ∷ [])) (judged_all w replies gs)) no_groups
+        ∙ judged_so most some)));
     is_secure = refl;
     no_cause = refl;
     judged = plain_judged;

@@ -1,13 +1,12 @@
 -- When a message is refused, and when it has an outcome.
-use Rattle.std.proofs.Common.{◌≡◌, ℕ, suc, Bool, true, false, cond, List, [], ◌∷◌, length, Option, Some, None, Result, Ok, Err, ◌↔◌, ◌⊎◌, refl, sym, ap, ◌∙◌, subst, arith, inl, inr}
-use Rattle.std.specs.List.{list_any}
+use Rattle.std.proofs.Common.{◌≡◌, ℕ, suc, List, [], ◌∷◌, length, Option, Some, None, Result, Ok, Err, ◌↔◌, ◌⊎◌, refl, sym, ap, ◌∙◌, subst, arith, inl, inr}
 use Rattle.dsec_spec.specs.Records.{Record}
 use Rattle.dsec_spec.specs.Messages.{Question}
 use Rattle.dsec_spec.specs.Groups.{Group, groups_of}
-use Rattle.dsec_spec.specs.Redirection.{is_bare, moved}
+use Rattle.dsec_spec.specs.Redirection.{moved}
 use Rattle.dsec_nodes.specs.World.{World, Replies}
 use Rattle.dsec_nodes.specs.Judging.{Judged, AllJudged, all, one_bogus, judged_all}
-use Rattle.dsec_nodes.specs.Outcomes.{bogus, Outcome, not_built}
+use Rattle.dsec_nodes.specs.Outcomes.{bogus, Outcome}
 use Rattle.dsec_nodes.specs.Alone.{Refusal, unreadable, not_one_question, on_questions, on_judged, on_groups, on_sections, sections_of, alone}
 use Rattle.dsec_plain.specs.Coming.{HasOutcome, IsBogusOutcome, IsReadable, HasNotOneQuestion}
 
@@ -19,25 +18,21 @@ Sections = List Question × List Record × List Record
 readable_has : (w : World) (most : ℕ) (replies : Replies) (message : List ℕ) (s : Sections) (Has : Result Outcome Refusal → Type 0)
     → ((o : Outcome) → o.state ≡ bogus → Has (Ok o)) → (length s.0 ≡ 1 → (o : Outcome) → Has (Ok o))
     → ((length s.0 ≡ 1 → ⊥) → Has (Err not_one_question)) → Has (on_sections w most replies message (Some s))
-readable_has w most replies message s Has bad ended refused = by_bare (list_any is_bare (groups_of s.1))
+readable_has w most replies message s Has bad ended refused = by_moved (moved most (groups_of s.1))
   where
-    by_questions : (qs : List Question) → s.0 ≡ qs → (js beside : List Judged) → Has (on_questions w message qs js beside)
+    by_questions : (qs : List Question) → s.0 ≡ qs → (js beside : List Judged) → Has (on_questions w most message qs js beside)
     by_questions [] e js beside = refused (λ one. let z : 0 ≡ 1 = sym (ap length e) ∙ one in omega (arith, z))
     by_questions (q ∷ []) e js beside = ended (ap length e) _
     by_questions (q ∷ r ∷ qs) e js beside = refused (λ one. let z : suc (suc (length qs)) ≡ 1 = sym (ap length e) ∙ one in omega (arith, z))
 
-    by_judged : (x y : AllJudged) → Has (on_judged w message s.0 x y)
+    by_judged : (x y : AllJudged) → Has (on_judged w most message s.0 x y)
     by_judged (one_bogus cause links) y = bad _ refl
     by_judged (all js) (one_bogus cause links) = bad _ refl
     by_judged (all js) (all beside) = by_questions s.0 refl js beside
 
-    by_moved : (m : Option (List Group)) → Has (on_groups w replies message s.0 m (groups_of s.2))
+    by_moved : (m : Option (List Group)) → Has (on_groups w most replies message s.0 m (groups_of s.2))
     by_moved None = bad _ refl
     by_moved (Some groups) = by_judged (judged_all w replies groups) (judged_all w replies (groups_of s.2))
-
-    by_bare : (b : Bool) → Has (cond b (Ok not_built) (on_groups w replies message s.0 (moved most (groups_of s.1)) (groups_of s.2)))
-    by_bare true = bad not_built refl
-    by_bare false = by_moved (moved most (groups_of s.1))
 
 module _ (w : World) (most : ℕ) (replies : Replies) (message : List ℕ) where
   at_sections : (x : Option Sections) → sections_of message ≡ x → (Has : Result Outcome Refusal → Type 0)
