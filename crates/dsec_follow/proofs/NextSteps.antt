@@ -6,7 +6,7 @@ use Rattle.std.proofs.Math.Bool.{not}
 use Rattle.std.proofs.lemmas.List.{length-map}
 use Rattle.dsec_nodes.specs.Judging.{Judged}
 use Rattle.dsec_alias.specs.Candidates.{Candidate}
-use Rattle.dsec_follow.specs.Candidates.{candidate_of}
+use Rattle.dsec_nodes.specs.Aliases.{candidate_of}
 
 module _ {A B : Type 0} (f : A → B) (test : B → Bool) where
   same_place : (xs : List A) → position_or_len test (map f xs) ≡ position_or_len (λ x. test (f x)) xs

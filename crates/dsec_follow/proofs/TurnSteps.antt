@@ -14,7 +14,7 @@ use Rattle.dsec_nsec3_calls.specs.Answers.{conclusion_of}
 use Rattle.dsec_negative.specs.Views.{source_of}
 use Rattle.dsec_nodes.specs.Judging.{Judged}
 use Rattle.dsec_nodes.specs.ByDenial.{source_of as among}
-use Rattle.dsec_follow.specs.Candidates.{Beside, as_denied, denying_in}
+use Rattle.dsec_nodes.specs.Aliases.{Beside, as_denied, denying_in}
 use Rattle.dsec_alias.specs.States.{State}
 use Rattle.dsec_alias.specs.Candidates.{Candidate, Denied, unproved, Reply}
 use Rattle.dsec_alias.specs.Following.{by_denying, cname_turn, dname_turn, turn_to}

@@ -10,7 +10,7 @@ use Rattle.dsec_nodes.specs.Judging.{Judged}
 use Rattle.dsec_nodes.proofs.Lists.{from_mapped_at}
 use Rattle.dsec_nodes.proofs.Signs.{mapped_at}
 use Rattle.dsec_alias.proofs.Firsts.{from_position}
-use Rattle.dsec_follow.specs.Candidates.{candidate_of, Beside}
+use Rattle.dsec_nodes.specs.Aliases.{candidate_of, Beside}
 use Rattle.dsec_alias.specs.States.{State, secure, insecure, bogus, indeterminate, map_maybe_secure}
 use Rattle.dsec_alias.specs.Candidates.{Candidate, Reply, only_target}
 use Rattle.dsec_alias.specs.Following.{AliasStep, AliasEnd, ends_at, ends_bogus, Turn, goes_to, fails_at, next_alias, turn_to, after_step, by_turn, by_target, by_alias, by_next, path_from, do_cname_dname}

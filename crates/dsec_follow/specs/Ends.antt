@@ -1,11 +1,8 @@
 -- Where a path of aliases ends, as it is told (RFC 1034 3.6.2).
-use Rattle.std.specs.Prelude.{ℕ, List, [], ◌∷◌, map, Option, Some, None}
+use Rattle.std.specs.Prelude.{ℕ, List, [], map, Option, Some, None}
 use Rattle.dsec_cause.specs.declared.cause.Cause.{Cause}
 use Rattle.dsec_spec.specs.Names.{Labels}
-use Rattle.dsec_absence.specs.Denials.{used_in}
-use Rattle.dsec_nsec3.specs.HashedDenials.{hashed_used_in}
-use Rattle.dsec_nsec3_calls.specs.Tellings.{opening_index}
-use Rattle.dsec_follow.specs.Candidates.{Beside, by_nsec, by_hash, by_opening}
+use Rattle.dsec_nodes.specs.Aliases.{Beside, used_beside}
 use Rattle.dsec_alias.specs.States.{State, bogus}
 use Rattle.dsec_alias.specs.Following.{AliasStep, AliasEnd, ends_at, ends_bogus}
 
@@ -13,16 +10,6 @@ use Rattle.dsec_alias.specs.Following.{AliasStep, AliasEnd, ends_at, ends_bogus}
 pub record StepTold : Type 0 where
   pub group : ℕ
   pub used : List ℕ
-
--- the groups that stand beside an alias: those that a denial uses, or the one that leaves the name open
-abbrev pub used_by : Beside → List ℕ
-used_by (by_nsec denial) = used_in denial
-used_by (by_hash denial) = hashed_used_in denial
-used_by (by_opening opening) = opening_index opening ∷ []
-
-abbrev pub used_beside : Option Beside → List ℕ
-used_beside None = []
-used_beside (Some beside) = used_by beside
 
 abbrev pub step_told : AliasStep Beside → StepTold
 step_told step = record { group = step.group; used = used_beside step.denial }

@@ -1,4 +1,3 @@
-pub mod Candidates
 pub mod Replies
 pub mod Ends
 pub mod Turns

@@ -1,20 +1,12 @@
 -- What a path of aliases goes by, as the code keeps it.
-use Rattle.std.specs.Prelude.{ℕ, List, map}
 use Rattle.dsec_spec.specs.Names.{Labels}
-use Rattle.dsec_spec.specs.Records.{Record}
 use Rattle.dsec_spec.specs.Messages.{Question}
-use Rattle.dsec_nsec3.specs.Counting.{HashLimits}
-use Rattle.dsec_nsec3_calls.specs.Views.{hash_limits}
-use Rattle.dsec_nodes.specs.Judging.{Judged}
 use Rattle.dsec_alias.specs.Candidates.{Reply}
-use Rattle.dsec_follow.specs.Candidates.{candidate_of, Beside, denying_in}
+use Rattle.dsec_nsec3_calls.specs.Views.{hash_limits}
+use Rattle.dsec_nodes.specs.Aliases.{Beside, reply_of}
 use Rattle.dsec_follow.specs.declared.reply.Reply as code
 
 -- how far hashes are followed, the anchors, the class and the type that are asked for, and the judged groups of both sections
-abbrev pub reply_of : HashLimits → List Record → ℕ → ℕ → List Judged → List Judged → Reply Beside
-reply_of limits anchors class rtype answers authorities =
-    record { anchors = anchors; class = class; rtype = rtype; candidates = map candidate_of answers; denying = denying_in limits authorities class }
-
 abbrev pub reply_view : {V : Type 0} → code.Reply V → Reply Beside
 reply_view reply = reply_of (hash_limits reply.limits.now) reply.anchors.now reply.class reply.rtype reply.answers.now reply.authorities.now
 

@@ -8,8 +8,8 @@ use Rattle.dsec_alias.specs.States.{State}
 use Rattle.dsec_alias.specs.Candidates.{Candidate}
 use Rattle.dsec_alias.specs.Following as following
 use Rattle.dsec_alias.specs.Following.{goes_to, fails_at, by_mapping}
-use Rattle.dsec_follow.specs.Candidates.{status_of, Beside}
-use Rattle.dsec_follow.specs.Ends.{used_beside}
+use Rattle.dsec_found.specs.Outcomes.{state_view}
+use Rattle.dsec_nodes.specs.Aliases.{Beside, used_beside}
 use Rattle.dsec_follow.specs.declared.turn.Turn.{Turn}
 use Rattle.dsec_follow.specs.declared.turn.Turn.TheVariants.{GoesTo, FailsAt}
 
@@ -23,7 +23,7 @@ turn_told (goes_to target state denial) = told_onto target state (used_beside de
 turn_told (fails_at reached cause) = told_failed reached cause
 
 abbrev pub turn_view : Turn → TurnTold
-turn_view (GoesTo target state used) = told_onto target (status_of state) used
+turn_view (GoesTo target state used) = told_onto target (state_view state) used
 turn_view (FailsAt reached cause) = told_failed reached cause
 
 -- what a DNAME record comes to, by whether it is an expansion of a wildcard

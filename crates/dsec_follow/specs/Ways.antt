@@ -6,7 +6,8 @@ use Rattle.dsec_spec.specs.Names.{Labels}
 use Rattle.dsec_alias.specs.States.{State, bogus, map_maybe_secure}
 use Rattle.dsec_alias.specs.Candidates.{Reply}
 use Rattle.dsec_alias.specs.Following.{AliasEnd, ends_at, ends_bogus, do_cname_dname}
-use Rattle.dsec_follow.specs.Candidates.{status_of, Beside}
+use Rattle.dsec_found.specs.Outcomes.{state_view}
+use Rattle.dsec_nodes.specs.Aliases.{Beside}
 use Rattle.dsec_follow.specs.Ends.{StepTold, step_told, EndTold}
 use Rattle.dsec_follow.specs.declared.path.Way.{Way}
 use Rattle.dsec_follow.specs.declared.path.Progress.{Progress}
@@ -20,7 +21,7 @@ pub record WaySeen : Type 0 where
   pub left : ℕ
 
 abbrev pub way_view : Way → WaySeen
-way_view way = record { name = way.name; state = status_of way.state; steps = way.steps.items; left = way.left }
+way_view way = record { name = way.name; state = state_view way.state; steps = way.steps.items; left = way.left }
 
 -- a Bogus end
 abbrev pub bogus_told : Labels → Cause → EndTold

@@ -2,7 +2,7 @@
 
 ghost use Rattle.std.specs.Prelude.{◌≡◌, [], None, Some};
 ghost use Rattle.dsec_alias.specs.States.{bogus};
-ghost use Rattle.dsec_follow.specs.Candidates.{status_of};
+ghost use Rattle.dsec_found.specs.Outcomes.{state_view};
 
 use dsec_cause::Cause;
 use dsec_group::ValidationState;
@@ -64,18 +64,18 @@ pub struct AliasEnd {
 }
 
 impl Model for AliasEnd {
-    ghost use Rattle.dsec_follow.specs.Candidates.{status_of};
+    ghost use Rattle.dsec_found.specs.Outcomes.{state_view};
     ghost use Rattle.dsec_follow.specs.Ends.{EndTold};
 
     ghost Value = { EndTold };
 
-    ghost view = { λ end. record { name = end.name; state = status_of end.state; cause = end.cause; steps = end.steps.items } };
+    ghost view = { λ end. record { name = end.name; state = state_view end.state; cause = end.cause; steps = end.steps.items } };
 }
 
 impl AliasEnd {
     /// The end of a path at its final name.
     pub(crate) fn at(name: Name, state: ValidationState, steps: AliasSteps) -> AliasEnd
-        ensures { result ≡ record { name = name; state = status_of state; cause = None; steps = steps.items } }
+        ensures { result ≡ record { name = name; state = state_view state; cause = None; steps = steps.items } }
     {
         AliasEnd {
             name,
@@ -106,7 +106,7 @@ impl AliasEnd {
 
     /// The state.
     pub fn state(&self) -> ValidationState
-        ensures { status_of result ≡ self.now.state }
+        ensures { state_view result ≡ self.now.state }
     {
         self.state
     }

@@ -1,7 +1,7 @@
 //! Which groups are expansions of wildcards (RFC 4035 5.3.4).
 
 ghost use Rattle.std.specs.Prelude.{◌≡◌, IfOk};
-ghost use Rattle.dsec_follow.specs.Candidates.{expansion_in};
+ghost use Rattle.dsec_nodes.specs.Aliases.{expansion_in};
 ghost use Rattle.dsec_nodes.specs.ByDenial.{encloser_of as encloser_in};
 ghost use Rattle.dsec_spec.specs.JudgedGroups.{encloser_in as encloser_by_labels};
 ghost use Rattle.dsec_spec.specs.Numbers.{RRSIG};

@@ -6,7 +6,6 @@ mod expansion;
 mod next;
 mod path;
 mod reply;
-mod status;
 mod turn;
 
 pub use end::{AliasEnd, AliasStep, AliasSteps};

@@ -2,23 +2,23 @@
 
 ghost use Rattle.std.specs.Prelude.{◌≡◌, None, IfOk};
 ghost use Rattle.dsec_alias.specs.Following.{do_cname_dname as end_of};
-ghost use Rattle.dsec_follow.specs.Candidates.{status_of};
+ghost use Rattle.dsec_found.specs.Outcomes.{state_view};
 ghost use Rattle.dsec_follow.specs.Ends.{end_told};
-ghost use Rattle.dsec_follow.specs.Replies.{reply_of, reply_view};
+ghost use Rattle.dsec_nodes.specs.Aliases.{reply_of};
+ghost use Rattle.dsec_follow.specs.Replies.{reply_view};
 ghost use Rattle.dsec_nsec3_calls.specs.Views.{hash_limits};
 ghost use Rattle.dsec_follow.specs.Ways.{ProgressIs, StepsOnto, way_view};
 
 use crate::end::{AliasEnd, AliasStep, AliasSteps};
 use crate::next::{next_alias, only_target};
 use crate::reply::Reply;
-use crate::status::after;
 use crate::turn::{Turn, turn_to};
 use dsec_cause::Cause;
 use dsec_crypto::Verifier;
 use dsec_found::JudgedGroup;
 use dsec_group::{Limits, Memo, ValidationState};
 use dsec_name::{Name, NoMemory};
-use dsec_negative::Used;
+use dsec_negative::{Used, map_maybe_secure};
 use dsec_number::{Class, Rtype};
 use dsec_wire::Record;
 use std::alloc::Global;
@@ -108,7 +108,7 @@ impl Way {
 
     /// The end of the path here.
     fn ends(self) -> AliasEnd
-        ensures { result ≡ record { name = self.name; state = status_of self.state; cause = None; steps = self.steps.items } }
+        ensures { result ≡ record { name = self.name; state = state_view self.state; cause = None; steps = self.steps.items } }
     {
         AliasEnd::at(self.name, self.state, self.steps)
     }
@@ -122,7 +122,7 @@ impl Way {
         state: ValidationState,
         used: Used,
     ) -> Result<Progress, NoMemory>
-        ensures { IfOk result (StepsOnto (way_view self) index target (status_of state) used) }
+        ensures { IfOk result (StepsOnto (way_view self) index target (state_view state) used) }
     {
         if self.left == 0 {
             return Ok(Progress::Ends(AliasEnd::bogus(alloc, target, Cause::TooManyAliases)));
@@ -131,7 +131,7 @@ impl Way {
         steps.push(AliasStep::new(index, used))?;
         Ok(Progress::Goes(Way {
             name: target,
-            state: after(state, self.state),
+            state: map_maybe_secure(state, self.state),
             steps,
             left: self.left - 1,
         }))

@@ -2,20 +2,19 @@
 
 ghost use Rattle.std.specs.Prelude.{◌≡◌, IfOk};
 ghost use Rattle.dsec_alias.specs.Following.{by_denying as denying_of, turn_to as turn_of};
-ghost use Rattle.dsec_follow.specs.Candidates.{candidate_of, denying_in};
+ghost use Rattle.dsec_nodes.specs.Aliases.{candidate_of, denying_in};
 ghost use Rattle.dsec_follow.specs.Replies.{reply_view};
 ghost use Rattle.dsec_nsec3_calls.specs.Views.{hash_limits};
 ghost use Rattle.dsec_follow.specs.Turns.{dname_by, turn_told, turn_view};
 
 use crate::expansion::closest_encloser;
 use crate::reply::Reply;
-use crate::status::after;
 use dsec_cause::Cause;
 use dsec_crypto::Verifier;
 use dsec_found::JudgedGroup;
 use dsec_group::{Memo, ValidationState, map_dname};
 use dsec_name::{Name, NoMemory, PushNameError};
-use dsec_negative::Used;
+use dsec_negative::{Used, map_maybe_secure};
 use dsec_nsec3_calls::{Conclusion, closer_denied};
 use dsec_number::Rtype;
 use std::alloc::Global;
@@ -91,7 +90,7 @@ fn by_denying<V: Verifier>(
     match closer_denied::<V>(alloc, name, groups, class, &signer, encloser, limits, memo)? {
         Conclusion::Proved(used) => Ok(Turn::GoesTo(target, alias.state(), used)),
         Conclusion::LeftOpen(_, index) => {
-            let state = after(alias.state(), ValidationState::Insecure);
+            let state = map_maybe_secure(alias.state(), ValidationState::Insecure);
             Ok(Turn::GoesTo(target, state, Used::one(index)))
         }
         Conclusion::Unproved(cause) => Ok(Turn::FailsAt(copy_of(name)?, cause)),

@@ -3,9 +3,9 @@
 ghost use Rattle.std.specs.Prelude.{◌≡◌, Some, IfSome};
 ghost use Rattle.std.specs.Option.{option_map};
 ghost use Rattle.dsec_absence.specs.Replies.{answer_at, is_set_of as set_of};
+ghost use Rattle.dsec_alias.specs.States.{map_maybe_secure as maybe_secure_of};
 ghost use Rattle.dsec_found.specs.Outcomes.{state_view};
 ghost use Rattle.dsec_negative.specs.Told.{HasStateAndCause, answer_index_in};
-ghost use Rattle.dsec_nodes.specs.Alone.{map_maybe_secure as maybe_secure_of};
 ghost use Rattle.dsec_nodes.specs.Judging.{Judged};
 ghost use Rattle.dsec_spec.specs.Names.{place};
 

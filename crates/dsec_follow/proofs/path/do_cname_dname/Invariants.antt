@@ -2,7 +2,8 @@ use Rattle.std.proofs.Common.{◌≡◌}
 use Rattle.dsec_alias.specs.Following.{do_cname_dname}
 use Rattle.dsec_nsec3_calls.specs.Views.{hash_limits}
 use Rattle.dsec_follow.specs.Ends.{end_told}
-use Rattle.dsec_follow.specs.Replies.{reply_of, reply_view}
+use Rattle.dsec_follow.specs.Replies.{reply_view}
+use Rattle.dsec_nodes.specs.Aliases.{reply_of}
 use Rattle.dsec_follow.specs.Ways.{way_end, way_view}
 use Rattle.dsec_follow.proofs.path.do_cname_dname.Given as goal
 

@@ -1,5 +1,5 @@
 use Rattle.dsec_nsec3_calls.specs.Views.{hash_limits}
-use Rattle.dsec_follow.specs.Candidates.{state_in, candidate_of}
+use Rattle.dsec_nodes.specs.Aliases.{state_in, candidate_of}
 use Rattle.dsec_follow.proofs.TurnSteps.{fails_is}
 use Rattle.dsec_follow.proofs.turn.by_denying.Goals as goal
 

@@ -6,7 +6,8 @@ use Rattle.dsec_spec.specs.Names.{Labels}
 use Rattle.dsec_nodes.specs.Judging.{Judged}
 use Rattle.dsec_alias.specs.Candidates.{Candidate, only_target}
 use Rattle.dsec_alias.specs.Following.{is_alias, next_alias, turn_to}
-use Rattle.dsec_follow.specs.Candidates.{candidate_of, status_of}
+use Rattle.dsec_found.specs.Outcomes.{state_view}
+use Rattle.dsec_nodes.specs.Aliases.{candidate_of}
 use Rattle.dsec_follow.specs.Replies.{reply_view}
 use Rattle.dsec_follow.specs.Turns.{turn_told, turn_view}
 use Rattle.dsec_follow.specs.Ways.{way_view}
@@ -41,7 +42,7 @@ returns-in-GoesTo g c =
     ∙ (sym c.only_target.ensures ∙ (ap (option_map name_view) c.in-Some-only_target.is ∙ ap (λ (n : Labels). Some n) (sym c.in_ok-target.ensures)))) in
     goes_as_told reply way c.in-Some.index (candidate_of x) next
     (stands_at (λ (y : Candidate). is_alias reply way.name y.group) c.args.reply.now.answers.now c.in-Some.index x next c.index-reply-index.is)
-    c.in_ok-target.target reads c.in-GoesTo.target (status_of c.in-GoesTo.state) c.in-GoesTo.used
+    c.in_ok-target.target reads c.in-GoesTo.target (state_view c.in-GoesTo.state) c.in-GoesTo.used
     (ap (λ (j : Judged). turn_told (turn_to reply way.name (candidate_of j) c.in_ok-target.target)) c.index-reply-index.is
     ∙ (sym c.in_ok-target-2.ensures ∙ ap turn_view c.in-GoesTo.is))
     c.onto.result c.onto.ensures
