@@ -1,5 +1,5 @@
 -- What a message comes to by a denial, as the calls tell of it.
-use Rattle.std.proofs.Common.{◌≡◌, ℕ, List, [], ◌∷◌, ◌==◌, ◌&&◌, Bool, true, false, cond, get_or, Option, Some, None, sym, ap, ◌∙◌}
+use Rattle.std.proofs.Common.{◌≡◌, ℕ, List, ◌==◌, ◌&&◌, Bool, true, false, cond, get_or, Option, Some, None, sym, ap, ◌∙◌}
 use Rattle.std.specs.Prelude.{slice_get, unwrap_or, position}
 use Rattle.std.specs.Option.{option_map}
 use Rattle.std.proofs.lemmas.Option.{get_or_from_slice_get}
@@ -18,33 +18,11 @@ use Rattle.dsec_negative.specs.Views.{source_of}
 use Rattle.dsec_negative.specs.Told.{index_in, answer_index_in}
 use Rattle.dsec_nodes.specs.World.{World, limits_of}
 use Rattle.dsec_nodes.specs.Judging.{Judged}
-use Rattle.dsec_nodes.specs.Outcomes.{Outcome, by_nothing, secure_by, bogus_by}
+use Rattle.dsec_nodes.specs.Outcomes.{Outcome, by_nothing, bogus_by}
 use Rattle.dsec_nodes.specs.Causes.{MissingSoa}
 use Rattle.dsec_nodes.specs.ByDenial.{source_of as among}
-use Rattle.dsec_nodes.specs.ByDenial.{on_conclusion, encloser_of, by_wildcard, by_encloser, no_error_in, denied_under, at_soa, by_soa, by_denial}
+use Rattle.dsec_nodes.specs.ByDenial.{no_error_in, denied_under, at_soa, by_soa, by_denial}
 use Rattle.dsec_nodes.specs.Alone.{by_answer, is_answer, at_answer, by_answers, at_name}
-use Rattle.dsec_found.specs.Told.{signature_of}
-use Rattle.dsec_outcome.proofs.FindingSteps.{shown_is}
-
--- an answer that links show, and that isn't an expansion of a wildcard
-pub itself_is : (w : World) (question : Question) (name : Place) (authorities : List Judged) (j : Judged) (signature : Record) (o : Outcome) → signature_of j.finding ≡ Some signature
-    → encloser_of j.group signature ≡ None → o ≡ secure_by (j ∷ []) [] → o ≡ by_answer w question name authorities j j.finding
-itself_is w question name authorities j signature o shown none is =
-    is ∙ sym (shown_is (λ s. by_encloser w question name authorities j (encloser_of j.group s)) j.finding signature shown ∙ ap (by_encloser w question name authorities j) none)
-
--- and one that is
-pub expansion_is : (w : World) (question : Question) (name : Place) (authorities : List Judged) (j : Judged) (signature : Record) (encloser : Labels) (o : Outcome)
-    → signature_of j.finding ≡ Some signature → encloser_of j.group signature ≡ Some encloser → o ≡ by_wildcard w question name authorities j encloser
-    → o ≡ by_answer w question name authorities j j.finding
-expansion_is w question name authorities j signature encloser o shown some is =
-    is ∙ sym (shown_is (λ s. by_encloser w question name authorities j (encloser_of j.group s)) j.finding signature shown ∙ ap (by_encloser w question name authorities j) some)
-
--- an SOA set that links show
-pub soa_is : (w : World) (message : List ℕ) (question : Question) (name : Place) (authorities : List Judged) (soa : Judged) (signature : Record) (o : Outcome)
-    → signature_of soa.finding ≡ Some signature → o ≡ on_conclusion authorities soa (denied_under w message question name authorities soa)
-    → o ≡ at_soa w message question name authorities (Some soa)
-soa_is w message question name authorities soa signature o shown is =
-    is ∙ sym (shown_is (λ s. on_conclusion authorities soa (denied_under w message question name authorities soa)) soa.finding signature shown)
 
 -- the group at an index
 pub there_is : (js : List Judged) (i : ℕ) (x j : Judged) → slice_get js i ≡ Some j → x ≡ get_or js i x → slice_get js i ≡ Some x

@@ -1,6 +1,5 @@
 -- The outcome by what was found of the group that decides.
-use Rattle.std.proofs.Common.{◌≡◌, Option, Some, None, refl, ap, ◌∙◌}
-use Rattle.std.proofs.lemmas.Option.{same_Some}
+use Rattle.std.proofs.Common.{◌≡◌, Option, None, refl, ap, ◌∙◌}
 use Rattle.dsec_spec.specs.Records.{Record}
 use Rattle.dsec_group.specs.declared.state.ValidationState.{ValidationState}
 use Rattle.dsec_nodes.specs.Causes.{Cause}
@@ -28,11 +27,3 @@ unshown_is where_shown f s cause why es ec ew none =
     ap (λ (x : ValidationState). told x cause why) es
     ∙ (ap (λ (x : Option Cause). told (state_of f) x why) ec
     ∙ (ap (λ (x : Why). told (state_of f) (cause_of f) x) ew ∙ by_told where_shown f none))
-
--- where they do, it is what comes of it with the signature by which they do
-pub shown_is : (where_shown : Record → Outcome) (f : Finding) (signature : Record) → signature_of f ≡ Some signature → by_finding where_shown f ≡ where_shown signature
-shown_is where_shown (is_shown links last own) signature e = ap where_shown (same_Some own signature e)
-shown_is where_shown has_no_set signature e = absurd cc
-shown_is where_shown (is_insecure cause signed) signature e = absurd cc
-shown_is where_shown (is_bogus cause links) signature e = absurd cc
-shown_is where_shown is_indeterminate signature e = absurd cc

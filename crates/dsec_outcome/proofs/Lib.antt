@@ -2,5 +2,5 @@ pub mod AnswerSteps
 pub mod FindingSteps
 pub mod ConclusionSteps
 pub mod DenialSteps
-pub mod EncloserSteps
 pub mod UsedSteps
+pub mod AliasSteps

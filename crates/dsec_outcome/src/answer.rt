@@ -3,9 +3,12 @@
 ghost use Rattle.std.specs.Prelude.{◌≡◌, ℕ, ◌==◌, ◌&&◌, List, Some, IfOk};
 ghost use Rattle.std.proofs.Math.Bool.{not};
 ghost use Rattle.std.specs.Arc.{arc_value};
-ghost use Rattle.dsec_nodes.specs.Alone.{at_end, at_name as at_name_of, on_judged as judged_comes_to, on_questions as questions_come_to};
+ghost use Rattle.dsec_alias.specs.Following.{AliasEnd as AliasEnds};
+ghost use Rattle.dsec_follow.specs.Ends.{end_told};
+ghost use Rattle.dsec_nodes.specs.Aliases.{Beside, alias_path, reached};
+ghost use Rattle.dsec_nodes.specs.Alone.{after_path, at_end as at_end_of, at_name as at_name_of, on_judged as judged_comes_to, on_questions as questions_come_to};
 ghost use Rattle.dsec_nodes.specs.ByDenial.{no_error_in};
-ghost use Rattle.dsec_nodes.specs.Outcomes.{alias_path, bogus_by, by_links};
+ghost use Rattle.dsec_nodes.specs.Outcomes.{bogus_by, by_links};
 ghost use Rattle.dsec_node.specs.Views.{bounds_of, world_of};
 ghost use Rattle.dsec_spec.specs.Messages.{rcode_of};
 ghost use Rattle.dsec_spec.specs.Names.{place};
@@ -13,16 +16,18 @@ ghost use Rattle.dsec_spec.specs.Numbers.{ANY};
 ghost use Rattle.dsec_spec.specs.Reading.{Gives};
 ghost use Rattle.dsec_found.specs.Errors.{answer_of, wants_memory};
 ghost use Rattle.dsec_found.specs.Outcomes.{section_view};
+ghost use Rattle.dsec_outcome.specs.Aliases.{aliases_at, denials_at};
 
-use crate::alias::is_any_leading_on;
+use crate::aliases::{aliases_on, denials_on};
 use crate::answered::answered;
 use crate::denied::by_denial;
 use crate::outcome::{Outcome, Why};
 use dsec_cause::Cause;
 use dsec_crypto::Verifier;
+use dsec_follow::{AliasEnd, do_cname_dname};
 use dsec_found::{AllJudged, Error, JudgedGroup};
-use dsec_group::{Memo, ValidationState};
-use dsec_name::NoMemory;
+use dsec_group::{Limits, Memo, ValidationState};
+use dsec_name::{Name, NoMemory};
 use dsec_negative::get_answer_state;
 use dsec_node::{Config, Node};
 use dsec_number::{Rcode, Rtype};
@@ -31,10 +36,11 @@ use std::alloc::Global;
 use std::sync::Arc;
 
 /// What a message with this rcode comes to, by what judging the groups of its answer section came to, and then those of its
-/// authority section: the first bogus group decides.
+/// authority section: the first bogus group decides. So many aliases are followed.
 pub fn on_judged<V: Verifier>(
     alloc: Global,
     anchors: &[Record],
+    most: u8,
     config: &Config,
     rcode: Rcode,
     questions: &[Question],
@@ -44,7 +50,7 @@ pub fn on_judged<V: Verifier>(
 ) -> Result<Outcome<V>, Error>
     ensures { (now : ℕ) (message : List ℕ) → rcode_of message ≡ Some rcode
         → Gives wants_memory (λ outcome. outcome) result
-        (answer_of (judged_comes_to (world_of V.accepts anchors.now (bounds_of config.now) now) message questions.now (section_view answers.now) (section_view authorities.now))) }
+        (answer_of (judged_comes_to (world_of V.accepts anchors.now (bounds_of config.now) now) most message questions.now (section_view answers.now) (section_view authorities.now))) }
 {
     match (answers, authorities) {
         (AllJudged::OneBogus(cause, node), _) => Ok(bogus_under(*cause, node)?),
@@ -53,6 +59,7 @@ pub fn on_judged<V: Verifier>(
             on_questions(
                 alloc,
                 anchors,
+                most,
                 config,
                 rcode,
                 questions,
@@ -72,10 +79,12 @@ fn bogus_under<V: Verifier>(cause: Cause, node: &Arc<Node<V>>) -> Result<Outcome
     Ok(Outcome::new(ValidationState::Bogus, Some(cause), Why::ByLinks(node)))
 }
 
-/// What a message with this rcode comes to, none of whose groups is bogus: there has to be one question (RFC 1035 4.1.2).
+/// What a message with this rcode comes to, none of whose groups is bogus: there has to be one question (RFC 1035 4.1.2). So many
+/// aliases are followed.
 pub fn on_questions<V: Verifier>(
     alloc: Global,
     anchors: &[Record],
+    most: u8,
     config: &Config,
     rcode: Rcode,
     questions: &[Question],
@@ -85,7 +94,7 @@ pub fn on_questions<V: Verifier>(
 ) -> Result<Outcome<V>, Error>
     ensures { (now : ℕ) (message : List ℕ) → rcode_of message ≡ Some rcode
         → Gives wants_memory (λ outcome. outcome) result
-        (answer_of (questions_come_to (world_of V.accepts anchors.now (bounds_of config.now) now) message questions.now answers.now authorities.now)) }
+        (answer_of (questions_come_to (world_of V.accepts anchors.now (bounds_of config.now) now) most message questions.now answers.now authorities.now)) }
 {
     if questions.len() != 1 {
         return Err(Error::FormError);
@@ -94,6 +103,7 @@ pub fn on_questions<V: Verifier>(
     Ok(on_question(
         alloc,
         anchors,
+        most,
         config,
         rcode,
         question,
@@ -103,10 +113,11 @@ pub fn on_questions<V: Verifier>(
     )?)
 }
 
-/// What it comes to at its one question. Following aliases is left out.
+/// What it comes to at its one question: where the path of aliases from its name ends, in so many steps at most.
 fn on_question<V: Verifier>(
     alloc: Global,
     anchors: &[Record],
+    most: u8,
     config: &Config,
     rcode: Rcode,
     question: &Question,
@@ -115,24 +126,93 @@ fn on_question<V: Verifier>(
     memo: &mut impl Memo<V>,
 ) -> Result<Outcome<V>, NoMemory>
     ensures { IfOk result (λ outcome. (now : ℕ) (message : List ℕ) → rcode_of message ≡ Some rcode
-        → outcome ≡ at_end (world_of V.accepts anchors.now (bounds_of config.now) now) message question.now answers.now authorities.now (alias_path (world_of V.accepts anchors.now (bounds_of config.now) now) question.now answers.now)) }
+        → outcome ≡ at_end_of (world_of V.accepts anchors.now (bounds_of config.now) now) message question.now answers.now authorities.now (alias_path (world_of V.accepts anchors.now (bounds_of config.now) now) most question.now answers.now authorities.now)) }
 {
-    if is_any_leading_on(anchors, question, answers) {
-        return Ok(Outcome::not_built());
-    }
-    at_name(
+    let (name, class, rtype) = (question.qname(), question.qclass(), question.qtype());
+    let limits = Limits {
+        max_cname_dname: most,
+        ..config.limits()
+    };
+    let end = do_cname_dname(
+        alloc,
+        name,
+        class,
+        rtype,
+        answers,
+        authorities,
+        anchors,
+        &limits,
+        memo,
+    )?;
+    at_end(
         alloc,
         anchors,
         config,
         rcode,
         question,
+        &end,
         answers,
         authorities,
         memo,
     )
 }
 
-/// What it comes to at its question's own name: by an answer, where there was no error and one type is asked for, or else by a
+/// What it comes to where a path of aliases ends: at the name there, after the aliases; or Bogus, as the path is.
+fn at_end<V: Verifier>(
+    alloc: Global,
+    anchors: &[Record],
+    config: &Config,
+    rcode: Rcode,
+    question: &Question,
+    end: &AliasEnd,
+    answers: &[JudgedGroup<V>],
+    authorities: &[JudgedGroup<V>],
+    memo: &mut impl Memo<V>,
+) -> Result<Outcome<V>, NoMemory>
+    ensures { IfOk result (λ outcome. (now : ℕ) (message : List ℕ) (e : AliasEnds Beside) → rcode_of message ≡ Some rcode → end.now ≡ end_told e
+        → outcome ≡ at_end_of (world_of V.accepts anchors.now (bounds_of config.now) now) message question.now answers.now authorities.now e) }
+{
+    if let Some(cause) = end.cause() {
+        return Ok(Outcome::bogus(cause));
+    }
+    let reached = reached_by(question, end.name())?;
+    let outcome = at_name(
+        alloc,
+        anchors,
+        config,
+        rcode,
+        &reached,
+        answers,
+        authorities,
+        memo,
+    )?;
+    after_aliases(alloc, outcome, end, answers, authorities)
+}
+
+/// The question at a name that aliases lead to.
+fn reached_by(question: &Question, name: &Name) -> Result<Question, NoMemory>
+    ensures { IfOk result (λ asked. asked ≡ reached question.now name.now) }
+{
+    let name = name.clone()?;
+    Ok(Question::new(name, question.qtype(), question.qclass()))
+}
+
+/// What it comes to at the name where a path of aliases ends, after the aliases.
+fn after_aliases<V: Verifier>(
+    alloc: Global,
+    outcome: Outcome<V>,
+    end: &AliasEnd,
+    answers: &[JudgedGroup<V>],
+    authorities: &[JudgedGroup<V>],
+) -> Result<Outcome<V>, NoMemory>
+    ensures { IfOk result (λ after. after ≡ after_path end.now.state (aliases_at answers.now end.now.steps) (denials_at authorities.now end.now.steps) outcome) }
+{
+    let aliases = aliases_on(alloc, answers, end.steps())?;
+    let beside = denials_on(alloc, authorities, end.steps())?;
+    outcome.after(end.state(), aliases, beside)
+}
+
+/// What it comes to at a question's own name: by an answer, where there was no error and one type is asked for, or else by a
 /// denial.
 fn at_name<V: Verifier>(
     alloc: Global,

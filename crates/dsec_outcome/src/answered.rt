@@ -2,22 +2,21 @@
 
 ghost use Rattle.std.specs.Prelude.{◌≡◌, IfOk};
 ghost use Rattle.dsec_nodes.specs.Alone.{by_answer};
-ghost use Rattle.dsec_nodes.specs.ByDenial.{by_wildcard as by_wildcard_of, encloser_of as encloser_in};
+ghost use Rattle.dsec_nodes.specs.ByDenial.{by_wildcard as by_wildcard_of};
 ghost use Rattle.dsec_nodes.specs.World.{World};
 ghost use Rattle.dsec_node.specs.Views.{bounds_of};
-ghost use Rattle.dsec_spec.specs.JudgedGroups.{encloser_in as encloser_by_labels};
 ghost use Rattle.dsec_spec.specs.Names.{place};
-ghost use Rattle.dsec_spec.specs.Numbers.{RRSIG};
 
 use crate::concluded::on_conclusion;
 use crate::outcome::Outcome;
 use dsec_crypto::Verifier;
+use dsec_follow::closest_encloser;
 use dsec_found::JudgedGroup;
-use dsec_group::{Group, Memo};
+use dsec_group::Memo;
 use dsec_name::{Name, NoMemory};
 use dsec_node::Config;
 use dsec_nsec3_calls::closer_denied;
-use dsec_wire::{Question, Record};
+use dsec_wire::Question;
 use std::alloc::Global;
 
 /// What a message comes to by the group that answers its question: Secure where links show it, and for an expansion of a wildcard
@@ -32,10 +31,10 @@ pub(crate) fn answered<V: Verifier>(
 ) -> Result<Outcome<V>, NoMemory>
     ensures { IfOk result (λ outcome. (w : World) → w.bounds ≡ bounds_of config.now → outcome ≡ by_answer w question.now (place question.now.name) authorities.now judged.now judged.now.finding) }
 {
-    let Some(signature) = judged.signature() else {
+    if judged.signature().is_none() {
         return Outcome::unshown(judged);
-    };
-    match encloser_of(alloc, judged.group(), signature)? {
+    }
+    match closest_encloser(alloc, judged)? {
         Some(encloser) => {
             by_wildcard(
                 alloc,
@@ -49,29 +48,6 @@ pub(crate) fn answered<V: Verifier>(
         }
         None => Outcome::secure_by(alloc, judged, Vec::new(alloc)),
     }
-}
-
-/// The closest encloser of an expansion of a wildcard, by what the signature counts; none where the group isn't one.
-fn encloser_of(alloc: Global, group: &Group, signature: &Record) -> Result<Option<Name>, NoMemory>
-    requires { signature.now.rtype ≡ RRSIG }
-    ensures { IfOk result (λ encloser. encloser ≡ encloser_in group.now signature.now) }
-{
-    match signature.rdata().rrsig() {
-        Some(rrsig) => encloser_by(alloc, group.owner(), rrsig.labels),
-        None => Ok(None),
-    }
-}
-
-/// The closest encloser of an owner that is an expansion by a signature that counts so many labels.
-#[tactic(auto, using(dsec_denial::proofs::ExpansionLaws::expansion_counts))]
-fn encloser_by(alloc: Global, owner: &Name, labels: u8) -> Result<Option<Name>, NoMemory>
-    ensures { IfOk result (λ encloser. encloser ≡ encloser_by_labels labels owner.now) }
-{
-    if labels < owner.rrsig_label_count() {
-        let encloser = owner.ancestor(alloc, usize::from(labels))?;
-        return Ok(Some(encloser));
-    }
-    Ok(None)
 }
 
 /// What it comes to by a group that links show as an expansion of the wildcard under this name.

@@ -1,7 +1,8 @@
 //! What a message comes to (RFC 4033 5, RFC 4035 4.3).
 
 ghost use Rattle.std.specs.Prelude.{◌≡◌, ◌∷◌, [], IfOk, None};
-ghost use Rattle.dsec_nodes.specs.Outcomes.{bogus_by, by_finding, by_nothing, not_built as not_built_of, open_by, secure_by as secure_of};
+ghost use Rattle.dsec_nodes.specs.Alone.{after_path, why_after as why_after_of};
+ghost use Rattle.dsec_nodes.specs.Outcomes.{bogus_by, by_finding, by_nothing, open_by, secure_by as secure_of};
 ghost use Rattle.dsec_nodes.specs.Outcomes as outcomes;
 ghost use Rattle.dsec_spec.specs.Records as records;
 ghost use Rattle.dsec_found.specs.Outcomes.{state_view};
@@ -14,6 +15,7 @@ use dsec_crypto::Verifier;
 use dsec_found::JudgedGroup;
 use dsec_group::ValidationState;
 use dsec_name::NoMemory;
+use dsec_negative::map_maybe_secure;
 use dsec_node::Node;
 use std::alloc::Global;
 use std::marker::Model;
@@ -99,11 +101,18 @@ impl<V: Verifier> Outcome<V> {
         Outcome::new(ValidationState::Bogus, Some(cause), Why::ByNothing)
     }
 
-    /// The outcome where judging came to a part that is left out.
-    pub(crate) fn not_built() -> Outcome<V>
-        ensures { result ≡ not_built_of }
+    /// The outcome after aliases, by their state, their groups, and the groups beside them.
+    pub(crate) fn after(
+        self,
+        state: ValidationState,
+        aliases: Vec<JudgedGroup<V>>,
+        beside: Vec<UsedGroup<V>>,
+    ) -> Result<Outcome<V>, NoMemory>
+        ensures { IfOk result (λ outcome. outcome ≡ after_path (state_view state) aliases.items beside.items self) }
     {
-        Outcome::bogus(Cause::NotBuilt)
+        let state = map_maybe_secure(self.state, state);
+        let why = why_after(self.why, aliases, beside)?;
+        Ok(Outcome::new(state, self.cause, why))
     }
 
     /// The security status of what the message answers (RFC 4033 5).
@@ -138,6 +147,24 @@ fn alone<V: Verifier>(
     let mut groups = Vec::with_capacity(alloc, 1)?;
     groups.push(judged.clone()?)?;
     Ok(groups)
+}
+
+/// Why, with the groups of aliases before the others, and those beside them.
+fn why_after<V: Verifier>(
+    why: Why<V>,
+    mut aliases: Vec<JudgedGroup<V>>,
+    mut beside: Vec<UsedGroup<V>>,
+) -> Result<Why<V>, NoMemory>
+    ensures { IfOk result (λ after. why_view after ≡ why_after_of aliases.items beside.items (why_view why)) }
+{
+    match why {
+        Why::ByGroups(mut groups, mut used) => {
+            aliases.append(&mut groups)?;
+            beside.append(&mut used)?;
+            Ok(Why::ByGroups(aliases, beside))
+        }
+        other => Ok(other),
+    }
 }
 
 /// Why a group that links don't show is as it is.
