@@ -1,0 +1,2 @@
+//! Messages whose groups are all judged, and what these are cut to.
+#![tactic(auto)]
