@@ -1,17 +1,15 @@
 -- What a message begins with is sound, and in step with the recursion.
-use Rattle.std.proofs.Common.{◌≡◌, ℕ, Bool, true, false, cond, List, [], Option, Some, None, Result, Ok, refl, sym, subst}
-use Rattle.std.specs.List.{list_any}
+use Rattle.std.proofs.Common.{◌≡◌, ℕ, List, Option, Some, None, Ok, refl, sym, subst}
 use Rattle.dsec_spec.specs.Accepts.{Accepts}
 use Rattle.dsec_spec.specs.Messages.{Question}
 use Rattle.dsec_spec.specs.Records.{Record}
 use Rattle.dsec_spec.specs.Groups.{Group, groups_of}
-use Rattle.dsec_spec.specs.Redirection.{is_bare, moved}
+use Rattle.dsec_spec.specs.Redirection.{moved}
 use Rattle.dsec_nodes.specs.World.{World}
-use Rattle.dsec_nodes.specs.Outcomes.{not_built}
-use Rattle.dsec_nodes.specs.Alone.{Refusal, sections_of}
+use Rattle.dsec_nodes.specs.Alone.{sections_of}
 use Rattle.dsec_node.specs.Configs.{Settings}
-use Rattle.dsec_course.specs.Course.{to_end, Course}
-use Rattle.dsec_course.specs.Advancing.{beginning, begun, begun_by, begun_with}
+use Rattle.dsec_course.specs.Course.{Course}
+use Rattle.dsec_course.specs.Advancing.{begun, begun_by, begun_with}
 use Rattle.dsec_course.specs.Justified.{SoundCourse}
 use Rattle.dsec_course.proofs.BeginningLaws.{begun_sound}
 use Rattle.dsec_core.specs.Validating.{IsInZoneAt, IsSoundBy, Validating, most_of, world_by}
@@ -27,23 +25,15 @@ begun_so most message c e = by_sections (sections_of message) e
     Sections : Type 0
     Sections = List Question × List Record × List Record
 
-    by_moved : (s : Sections) (m : Option (List Group)) → BeginsSo message (begun_with message s.0 m (groups_of s.2))
+    by_moved : (s : Sections) (m : Option (List Group)) → BeginsSo message (begun_with most message s.0 m (groups_of s.2))
     by_moved s None = record { same_message = refl; in_zone = λ w. tt }
     by_moved s (Some answers) = record { same_message = refl; in_zone = λ w. tt }
 
-    by_bare : (s : Sections) (b : Bool)
-        → cond {A = Result Course Refusal} b (Ok (beginning message s.0 0 [] (to_end not_built))) (Ok (begun_with message s.0 (moved most (groups_of s.1)) (groups_of s.2))) ≡ Ok c
-        → BeginsSo message c
-    by_bare s true g =
-        let same : beginning message s.0 0 [] (to_end not_built) ≡ c = cc in
-        subst (BeginsSo message) same (record { same_message = refl; in_zone = λ w. tt })
-    by_bare s false g =
-        let same : begun_with message s.0 (moved most (groups_of s.1)) (groups_of s.2) ≡ c = cc in
-        subst (BeginsSo message) same (by_moved s (moved most (groups_of s.1)))
-
     by_sections : (x : Option Sections) → begun_by most message x ≡ Ok c → BeginsSo message c
     by_sections None g = absurd cc
-    by_sections (Some s) g = by_bare s (list_any is_bare (groups_of s.1)) g
+    by_sections (Some s) g =
+        let same : begun_with most message s.0 (moved most (groups_of s.1)) (groups_of s.2) ≡ c = cc in
+        subst (BeginsSo message) same (by_moved s (moved most (groups_of s.1)))
 
 -- so it is sound whatever it is judged by
 pub begun_sound_by : (accepts : Accepts) (anchors : List Record) (config : Settings) (moment : ℕ) (message : List ℕ) (c : Course)

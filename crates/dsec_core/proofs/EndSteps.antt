@@ -10,6 +10,6 @@ use Rattle.dsec_nodes.specs.Alone.{on_judged}
 use Rattle.dsec_found.specs.Errors.{answer_of}
 
 -- a message with a bogus group comes to its cause and links
-pub bogus_answer : (w : World) (message : List ℕ) (questions : List Question) (later : AllJudged) (cause : Cause) (links : List Link) (o : Outcome)
-    → answer_of (on_judged w message questions (one_bogus cause links) later) ≡ Ok o → o ≡ bogus_by cause (by_links links)
-bogus_answer w message questions later cause links o h = cc
+pub bogus_answer : (w : World) (most : ℕ) (message : List ℕ) (questions : List Question) (later : AllJudged) (cause : Cause) (links : List Link) (o : Outcome)
+    → answer_of (on_judged w most message questions (one_bogus cause links) later) ≡ Ok o → o ≡ bogus_by cause (by_links links)
+bogus_answer w most message questions later cause links o h = cc

@@ -5,3 +5,5 @@ pub mod EndSteps
 pub mod BeginLaws
 pub mod BoundSteps
 pub mod StepLaws
+pub mod BoundedSteps
+pub mod HandingSteps

@@ -3,20 +3,19 @@ use Rattle.std.proofs.Common.{◌≡◌, ℕ, ◌+◌, ◌<◌, Bool, true, fals
 use Rattle.std.proofs.lemmas.List.{take_more}
 use Rattle.std.specs.Prelude.{unwrap_or, Result, Ok, Err}
 use Rattle.std.specs.Bool.{OnFalse}
-use Rattle.std.specs.List.{list_any}
 use Rattle.std.specs.Option.{option_map}
 use Rattle.dsec_spec.specs.Reading.{◌>>=◌}
 use Rattle.dsec_spec.specs.Messages.{Question, questions_of, answers_of, authorities_of}
 use Rattle.dsec_spec.specs.Records.{Record}
 use Rattle.dsec_spec.specs.Groups.{Group, groups_of}
-use Rattle.dsec_spec.specs.Redirection.{has_too_many, is_bare, moved, staying_from}
-use Rattle.dsec_nodes.specs.Outcomes.{Outcome, by_nothing, bogus_by, not_built}
+use Rattle.dsec_spec.specs.Redirection.{has_too_many, moved, staying_from}
+use Rattle.dsec_nodes.specs.Outcomes.{Outcome, by_nothing, bogus_by}
 use Rattle.dsec_nodes.specs.Alone.{Refusal, sections_of}
 use Rattle.dsec_course.specs.Course.{to_begin, to_end, Course}
 use Rattle.dsec_course.specs.Advancing.{beginning, begun, begun_by, begun_with}
 use Rattle.dsec_core.specs.Progress.{MovesOrEnds, read_as}
 use Rattle.dsec_cause.specs.declared.cause.Cause.{Cause}
-use Rattle.dsec_cause.specs.declared.cause.Cause.TheVariants.{NotBuilt, TooManyUnsignedCnames}
+use Rattle.dsec_cause.specs.declared.cause.Cause.TheVariants.{TooManyUnsignedCnames}
 use Rattle.dsec_course.proofs.BeginningLaws.{unreadable_refused}
 use Rattle.dsec_found.specs.Errors.{error_of, wants_memory}
 use Rattle.dsec_group.specs.Reading.{groups_and_place}
@@ -86,25 +85,17 @@ pub read_so : (r : Result Course Refusal) (c : Course) → read_as r ≡ Ok c �
 read_so (Ok d) c e = let same : d ≡ c = cc in ap (λ (x : Course). Ok x) same
 read_so (Err refusal) c e = absurd cc
 
--- a bare CNAME record ends the message
-pub bare_ends : (most : ℕ) (before : List Group) → list_any is_bare before ≡ true → MovesOrEnds most before before (Some NotBuilt)
-bare_ends most before e message s same =
-    ap (λ (b : Bool). cond {A = Result Course Refusal} b (Ok (beginning message s.0 0 [] (to_end not_built))) (Ok (begun_with message s.0 (moved most (groups_of s.1)) (groups_of s.2))))
-    (ap (list_any is_bare) same ∙ e)
-
--- without one, groups are moved, or there are too many to move
-pub moves_or_ends : (most : ℕ) (before after : List Group) (cause : Option Cause) → list_any is_bare before ≡ false
+-- groups are moved, or there are too many to move
+pub moves_or_ends : (most : ℕ) (before after : List Group) (cause : Option Cause)
     → cause ≡ cond (has_too_many most before) (Some TooManyUnsignedCnames) None → after ≡ unwrap_or (moved most before) before
     → MovesOrEnds most before after cause
-moves_or_ends most before after cause e c m =
+moves_or_ends most before after cause c m =
     subst (MovesOrEnds most before after) (sym c) (by (has_too_many most before) refl m)
   where
     begins : (o : Option (List Group)) → moved most before ≡ o → (message : List ℕ) (s : List Question × List Record × List Record) → groups_of s.1 ≡ before
-        → begun_by most message (Some s) ≡ Ok (begun_with message s.0 o (groups_of s.2))
+        → begun_by most message (Some s) ≡ Ok (begun_with most message s.0 o (groups_of s.2))
     begins o f message s same =
-        ap (λ (b : Bool). cond {A = Result Course Refusal} b (Ok (beginning message s.0 0 [] (to_end not_built))) (Ok (begun_with message s.0 (moved most (groups_of s.1)) (groups_of s.2))))
-        (ap (list_any is_bare) same ∙ e)
-        ∙ ap (λ (x : Option (List Group)). Ok (begun_with message s.0 x (groups_of s.2))) (ap (moved most) same ∙ f)
+        ap (λ (x : Option (List Group)). Ok (begun_with most message s.0 x (groups_of s.2))) (ap (moved most) same ∙ f)
 
     moved_if : (b : Bool) → has_too_many most before ≡ b → moved most before ≡ cond b None (Some (staying_from before 0 before))
     moved_if b f = ap (λ (x : Bool). cond x None (Some (staying_from before 0 before))) f
@@ -117,21 +108,21 @@ moves_or_ends most before after cause e c m =
 -- a message that ends at its beginning
 pub ends_so : (most : ℕ) (octets : List ℕ) (s : List Question × List Record × List Record) (before after : List Group) (cause : Cause) (c : Course)
     (questions : List Question) (left : List Group) (o : Outcome) → MovesOrEnds most before after (Some cause) → before ≡ groups_of s.1
-    → c ≡ beginning octets questions 0 left (to_end o) → questions ≡ s.0 → left ≡ [] → o ≡ bogus_by cause by_nothing → Ok c ≡ begun_by most octets (Some s)
+    → c ≡ beginning most octets questions 0 left (to_end o) → questions ≡ s.0 → left ≡ [] → o ≡ bogus_by cause by_nothing → Ok c ≡ begun_by most octets (Some s)
 ends_so most octets s before after cause c questions left o h same is qs ls os =
     ap (λ (x : Course). Ok x)
-    (is ∙ (ap (λ (q : List Question). beginning octets q 0 left (to_end o)) qs
-    ∙ (ap (λ (l : List Group). beginning octets s.0 0 l (to_end o)) ls ∙ ap (λ (x : Outcome). beginning octets s.0 0 [] (to_end x)) os)))
+    (is ∙ (ap (λ (q : List Question). beginning most octets q 0 left (to_end o)) qs
+    ∙ (ap (λ (l : List Group). beginning most octets s.0 0 l (to_end o)) ls ∙ ap (λ (x : Outcome). beginning most octets s.0 0 [] (to_end x)) os)))
     ∙ sym (h octets s (sym same))
 
 -- one that begins
 pub begins_so : (most : ℕ) (octets : List ℕ) (s : List Question × List Record × List Record) (before after : List Group) (c : Course)
     (questions : List Question) (count : ℕ) (left : List Group) → MovesOrEnds most before after None → before ≡ groups_of s.1
-    → c ≡ beginning octets questions count left to_begin → questions ≡ s.0 → count ≡ length after → left ≡ after ++ groups_of s.2 → Ok c ≡ begun_by most octets (Some s)
+    → c ≡ beginning most octets questions count left to_begin → questions ≡ s.0 → count ≡ length after → left ≡ after ++ groups_of s.2 → Ok c ≡ begun_by most octets (Some s)
 begins_so most octets s before after c questions count left h same is qs ns ls =
     ap (λ (x : Course). Ok x)
-    (is ∙ (ap (λ (q : List Question). beginning octets q count left to_begin) qs
-    ∙ (ap (λ (n : ℕ). beginning octets s.0 n left to_begin) ns ∙ ap (λ (l : List Group). beginning octets s.0 (length after) l to_begin) ls)))
+    (is ∙ (ap (λ (q : List Question). beginning most octets q count left to_begin) qs
+    ∙ (ap (λ (n : ℕ). beginning most octets s.0 n left to_begin) ns ∙ ap (λ (l : List Group). beginning most octets s.0 (length after) l to_begin) ls)))
     ∙ sym (h octets s (sym same))
 
 -- copies of groups pushed one after the other

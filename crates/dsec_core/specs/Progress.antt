@@ -61,10 +61,10 @@ read_as (Err refusal) = Err (refusal_of refusal)
 -- the answer section's groups are moved, or the message ends at its beginning with this cause (RFC 6672 3.1)
 abbrev pub MovesOrEnds : ℕ → List Group → List Group → Option Cause → Type 0
 MovesOrEnds most before after (Some cause) = (message : List ℕ) (s : List Question × List Record × List Record) → groups_of s.1 ≡ before
-    → begun_by most message (Some s) ≡ Ok (beginning message s.0 0 [] (courses.to_end (bogus_by cause by_nothing)))
+    → begun_by most message (Some s) ≡ Ok (beginning most message s.0 0 [] (courses.to_end (bogus_by cause by_nothing)))
 MovesOrEnds most before after None = (message : List ℕ) (s : List Question × List Record × List Record) → groups_of s.1 ≡ before
-    → begun_by most message (Some s) ≡ Ok (beginning message s.0 (length after) (after ++ groups_of s.2) courses.to_begin)
+    → begun_by most message (Some s) ≡ Ok (beginning most message s.0 (length after) (after ++ groups_of s.2) courses.to_begin)
 
 -- a message that isn't judged any further
 abbrev pub given_up : Course → Course
-given_up c = record { message = c.message; questions = c.questions; answers = c.answers; left = []; judged = []; walks = []; waits = courses.for_nothing }
+given_up c = record { message = c.message; questions = c.questions; most = c.most; answers = c.answers; left = []; judged = []; walks = []; waits = courses.for_nothing }

@@ -1,5 +1,5 @@
 -- A message being judged: what judging it goes by, and its course (RFC 4033 2, RFC 4035 4.3).
-use Rattle.std.specs.Prelude.{◌≡◌, ◌+◌, ℕ, List, Result, Ok, Err}
+use Rattle.std.specs.Prelude.{◌≡◌, ◌+◌, ℕ, List, [], Result, Ok, Err}
 use Rattle.dsec_spec.specs.Accepts.{Accepts}
 use Rattle.dsec_spec.specs.Records.{Record}
 use Rattle.dsec_nodes.specs.World.{World}
@@ -12,7 +12,7 @@ use Rattle.dsec_course.specs.Justified.{SoundCourse}
 use Rattle.dsec_walk.specs.Checks.{most_checked_by}
 use Rattle.dsec_walk.specs.UnderWay.{IsInZone}
 use Rattle.dsec_found.specs.declared.error.Error.{Error}
-use Rattle.dsec_found.specs.declared.error.Error.TheVariants.{FormError, ParseError, NoMemory}
+use Rattle.dsec_found.specs.declared.error.Error.TheVariants.{FormError, NoMemory}
 use Rattle.dsec_found.specs.Errors.{refusal_of}
 use Rattle.dsec_core.specs.declared.step.Step.{Step}
 use Rattle.dsec_core.specs.Views.{step_view}
@@ -28,7 +28,7 @@ pub record Validating : Type 0 where
 abbrev pub world_by : Accepts → Validating → World
 world_by accepts it = world_of accepts it.anchors (bounds_of it.config) it.moment
 
--- how many bare CNAME records of it are followed (RFC 6672 3.1)
+-- how many bare CNAME records of it are followed, and how many aliases (RFC 6672 3.1, RFC 1034 3.6.2)
 abbrev pub most_of : Validating → ℕ
 most_of it = it.config.max_cname_dname
 
@@ -41,13 +41,13 @@ abbrev pub begun_as : List Record → Settings → ℕ → Result Course Refusal
 begun_as anchors config moment (Ok course) = Ok (record { anchors = anchors; config = config; moment = moment; course = course })
 begun_as anchors config moment (Err refusal) = Err (refusal_of refusal)
 
--- the course and the step, or the refusal of a message that hasn't one question; where memory is wanting nothing is waited for any more
--- (RFC 1035 4.1.2)
+-- the course and the step, or the refusal of a message that hasn't one question; where memory is wanting nothing is waited for any more, and no
+-- judged group is kept; no other error comes (RFC 1035 4.1.2)
 abbrev pub AdvancesTo : {V : Type 0} → Course × CourseStep → Course → Result (Step V) Error → Type 0
 AdvancesTo p course (Ok step) = (course, step_view step) ≡ p
 AdvancesTo p course (Err FormError) = (course, end_with (Err not_one_question)) ≡ p
-AdvancesTo p course (Err ParseError) = ⊥
-AdvancesTo p course (Err NoMemory) = course.waits ≡ for_nothing
+AdvancesTo p course (Err NoMemory) = (course.waits ≡ for_nothing) × (course.judged ≡ [])
+AdvancesTo p course (Err _) = ⊥
 
 -- how many sets are checked at most for what answers a step: those for the step of the walk that is waited for, and the group that is judged by
 -- the node to which it comes (RFC 4035 5.2, 5.3)

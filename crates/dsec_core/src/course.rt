@@ -11,6 +11,7 @@ ghost use Rattle.dsec_core.specs.Views.{next_view};
 
 mod ending;
 mod groups;
+mod handing;
 mod reading;
 mod walks;
 
@@ -43,13 +44,14 @@ pub(crate) enum Waits<V: Verifier> {
     ForNothing,
 }
 
-/// How far judging a message has come. The groups of its answer section, so many of which there are, come before those of its
-/// authority section.
+/// How far judging a message has come, of which so many aliases are followed. The groups of its answer section, so many of which there
+/// are, come before those of its authority section.
 #[derive(Drop)]
 pub(crate) struct Course<V: Verifier> {
     message: Vec<u8>,
     rcode: Rcode,
     questions: Vec<Question>,
+    most: u8,
     answers: usize,
     left: VecDeque<Group>,
     judged: Vec<JudgedGroup<V>>,
@@ -65,7 +67,7 @@ impl<V: Verifier> Model for Course<V> {
 
     ghost Value = { courses.Course };
 
-    ghost view = { λ it. record { message = it.message.items; questions = it.questions.items; answers = it.answers; left = it.left.items; judged = it.judged.items; walks = it.walks.items; waits = waits_view it.waits } };
+    ghost view = { λ it. record { message = it.message.items; questions = it.questions.items; most = it.most; answers = it.answers; left = it.left.items; judged = it.judged.items; walks = it.walks.items; waits = waits_view it.waits } };
 
     ghost invariant = { λ it. rcode_of it.message.items ≡ Some it.rcode };
 }
@@ -121,13 +123,6 @@ impl<V: Verifier> Course<V> {
         ensures { result.now ≡ self.now.judged }
     {
         &self.judged
-    }
-
-    /// How many of the groups are the answer section's.
-    pub(crate) fn answers(&self) -> usize
-        ensures { result ≡ self.now.answers }
-    {
-        self.answers
     }
 
     /// Lets go of all that was judged and is still to be.

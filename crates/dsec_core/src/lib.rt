@@ -2,10 +2,12 @@
 #![tactic(auto)]
 
 mod begun;
+mod bounds;
 mod course;
 mod step;
 mod validation;
 
+pub use bounds::{all_bounded, bounded};
 pub use dsec_walk::Input;
 pub use step::Step;
 pub use validation::Validation;

@@ -1,14 +1,17 @@
 //! A message judged a step at a time (RFC 4035 4.3, 5).
 
-ghost use Rattle.std.specs.Prelude.{◌≡◌, ◌↔◌, ◌<◌, ◌≤◌, ◌+◌, ◌*◌, IfOk, IsTrue, OnErr, drop, take};
+ghost use Rattle.std.specs.Prelude.{◌≡◌, ◌↔◌, ◌<◌, ◌≤◌, ◌+◌, ◌*◌, IfOk, IsTrue, OnErr};
 ghost use Rattle.std.specs.List.{AllByRecursion};
+ghost use Rattle.std.specs.Option.{option_map};
 ghost use Rattle.dsec_spec.specs.Reading.{Gives};
 ghost use Rattle.dsec_course.specs.Advancing.{begun as begun_of, course_advanced};
 ghost use Rattle.dsec_course.specs.Agreeing.{CourseGoes, CourseInStep};
 ghost use Rattle.dsec_course.specs.Course as courses;
 ghost use Rattle.dsec_course.specs.Ending.{steps_left};
 ghost use Rattle.dsec_course.specs.Justified.{IsFound, SoundCourse, SoundGoing};
+ghost use Rattle.dsec_cut.specs.Cuts.{to_rewrite};
 ghost use Rattle.dsec_found.specs.Errors.{wants_memory};
+ghost use Rattle.dsec_nodes.specs.World.{on_circle};
 ghost use Rattle.dsec_walk.specs.Views.{input_view};
 ghost use Rattle.dsec_core.specs.Validating.{AdvancesTo, begun_as, most_checked_at, most_of, with_course, world_by};
 ghost use Rattle.dsec_core.specs.Views.{step_view};
@@ -129,12 +132,11 @@ impl<V: Verifier> Validation<V> {
         self.course.judged()
     }
 
-    /// The groups that are judged, in order: first those of the answer section, and then those of the authority section.
-    pub fn groups(&self) -> (&[JudgedGroup<V>], &[JudgedGroup<V>])
-        ensures answers { result.0.now ≡ take self.now.course.answers self.now.course.judged }
-        ensures authorities { result.1.now ≡ drop self.now.course.answers self.now.course.judged }
+    /// The judged groups of the answer section and of the authority section, where the message is rewritten by them: all its groups are
+    /// judged, none is bogus, and TTLs are cut or there were duplicates. They outlive the end.
+    pub fn groups(&self) -> Option<(&[JudgedGroup<V>], &[JudgedGroup<V>])>
+        ensures { option_map (λ both. (both.0.now, both.1.now)) result ≡ to_rewrite (on_circle self.now.moment) self.now.course }
     {
-        let judged = self.course.judged();
-        judged.split_at(self.course.answers().min(judged.len()))
+        self.course.handed_on(self.moment)
     }
 }

@@ -48,11 +48,11 @@ impl<V: Verifier> Course<V> {
     ) -> Result<Next<V>, NoMemory>
         ensures { IfOk result (λ n. next_view n ≡ courses.end_with (at_last (world_in V.accepts setting.now) self.now)) }
     {
-        let at = self.answers.min(self.judged.len());
-        let (answers, authorities) = self.judged.split_at(at);
+        let (answers, authorities) = self.both();
         match on_questions(
             alloc,
             setting.anchors,
+            self.most,
             setting.config,
             self.rcode,
             &self.questions,
@@ -103,6 +103,7 @@ impl<V: Verifier> Course<V> {
         match on_judged(
             alloc,
             setting.anchors,
+            self.most,
             setting.config,
             self.rcode,
             &self.questions,

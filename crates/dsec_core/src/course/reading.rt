@@ -1,10 +1,8 @@
 //! A message read: its groups, which are still to be judged (RFC 1035 4.1, RFC 6672 3.1).
 
 ghost use Rattle.std.specs.Prelude.{◌≡◌, ◌++◌, IfOk, OnOk, Some, Ok};
-ghost use Rattle.std.specs.List.{list_any};
 ghost use Rattle.dsec_spec.specs.Messages.{rcode_of};
 ghost use Rattle.dsec_spec.specs.Reading.{Gives};
-ghost use Rattle.dsec_spec.specs.Redirection.{is_bare as bare};
 ghost use Rattle.dsec_course.specs.Advancing.{beginning as beginning_of, begun as begun_of, begun_by};
 ghost use Rattle.dsec_found.specs.Errors.{wants_memory};
 ghost use Rattle.dsec_group.specs.Reading.{in_groups};
@@ -18,13 +16,13 @@ use dsec_crypto::Verifier;
 use dsec_found::Error;
 use dsec_group::{Group, GroupSet, GroupedSections, Seed, read_groups};
 use dsec_name::NoMemory;
-use dsec_number::{Rcode, Rtype};
+use dsec_number::Rcode;
 use dsec_outcome::Outcome;
 use dsec_wire::{Message, Question};
 use std::alloc::Global;
 use std::collections::VecDeque;
 
-/// A message read, of which so many bare CNAME records are followed.
+/// A message read, of which so many bare CNAME records are followed, and so many aliases.
 pub(crate) fn begun<V: Verifier>(
     alloc: Global,
     most: u8,
@@ -60,31 +58,47 @@ fn by_groups<V: Verifier>(
     match moved_or_ended(most, &mut answers)? {
         Some(cause) => {
             let waits = Waits::ToEnd(Outcome::bogus(cause));
-            Ok(beginning(alloc, octets, rcode, questions, 0, Vec::new(alloc), waits))
+            Ok(beginning(
+                alloc,
+                most,
+                octets,
+                rcode,
+                questions,
+                0,
+                Vec::new(alloc),
+                waits,
+            ))
         }
         None => {
             let count = answers.len();
             let left = in_order(answers, authority)?;
-            Ok(beginning(alloc, octets, rcode, questions, count, left, Waits::ToBegin))
+            Ok(beginning(
+                alloc,
+                most,
+                octets,
+                rcode,
+                questions,
+                count,
+                left,
+                Waits::ToBegin,
+            ))
         }
     }
 }
 
-/// The bare CNAME records of the answer section's groups are moved; or there are too many of them, or one is to be followed, which is
-/// left out, and the message ends for this cause.
-#[tactic(auto, using(crate::proofs::ReadSteps::bare_ends, crate::proofs::ReadSteps::moves_or_ends))]
+/// The bare CNAME records of the answer section's groups are moved; or there are too many of them, and the message ends for this
+/// cause.
+#[tactic(auto, using(crate::proofs::ReadSteps::moves_or_ends))]
 fn moved_or_ended(most: u8, answers: &mut GroupSet) -> Result<Option<Cause>, NoMemory>
     ensures { IfOk result (λ cause. MovesOrEnds most answers.old answers.new cause) }
 {
-    if is_any_bare(answers.as_slice()) {
-        return Ok(Some(Cause::NotBuilt));
-    }
     answers.move_redundant_cnames(most)
 }
 
 /// A course with nothing behind it.
 fn beginning<V: Verifier>(
     alloc: Global,
+    most: u8,
     message: Vec<u8>,
     rcode: Rcode,
     questions: Vec<Question>,
@@ -93,12 +107,13 @@ fn beginning<V: Verifier>(
     waits: Waits<V>,
 ) -> Course<V>
     requires { rcode_of message.items ≡ Some rcode }
-    ensures { result ≡ beginning_of message.items questions.items answers left.items (waits_view waits) }
+    ensures { result ≡ beginning_of most message.items questions.items answers left.items (waits_view waits) }
 {
     Course {
         message,
         rcode,
         questions,
+        most,
         answers,
         left: VecDeque::from_vec(left),
         judged: Vec::new(alloc),
@@ -115,20 +130,6 @@ fn in_order(answers: GroupSet, authorities: GroupSet) -> Result<Vec<Group>, NoMe
     let mut others = authorities.into_vec();
     all.append(&mut others)?;
     Ok(all)
-}
-
-/// Whether any group is a bare CNAME record.
-fn is_any_bare(groups: &[Group]) -> bool
-    ensures { result ≡ list_any bare groups.now }
-{
-    groups.iter().any(is_bare)
-}
-
-/// Whether a group is one CNAME record without a signature.
-fn is_bare(group: &Group) -> bool
-    ensures { result ≡ bare group.now }
-{
-    group.rtype() == Rtype::CNAME && group.rr_set().len() == 1 && group.sig_set_len() == 0
 }
 
 /// A copy of a message's octets.

@@ -12,7 +12,7 @@ returns-in-ToBegin-clause-exact g c =
     let w = world_in g.V.Verifier.accepts c.args.setting.now in
     let i = input_view c.args.input in
     let it = c.self.inside in
-    let seen : Course = record { message = it.message.items; questions = it.questions.items; answers = it.answers; left = it.left.items; judged = it.judged.items; walks = it.walks.items; waits = waits_view it.waits } in
+    let seen : Course = record { message = it.message.items; questions = it.questions.items; most = it.most; answers = it.answers; left = it.left.items; judged = it.judged.items; walks = it.walks.items; waits = waits_view it.waits } in
     let e = ap waits_view (sym c.replace.ensures.value ∙ c.in-ToBegin.is) in
     if_there c.go_on.result _ _
     (λ n h. subst (λ (x : Course). (c.go_on.new.self, next_view n) ≡ course_advanced w x i) c.self.view_is (begins_so w seen (waits_view c.replace.new.dest) i (c.go_on.new.self, next_view n) e h))
@@ -23,7 +23,7 @@ returns-in-ForWalk-clause-exact g c =
     let w = world_in g.V.Verifier.accepts c.args.setting.now in
     let i = input_view c.args.input in
     let it = c.self.inside in
-    let seen : Course = record { message = it.message.items; questions = it.questions.items; answers = it.answers; left = it.left.items; judged = it.judged.items; walks = it.walks.items; waits = waits_view it.waits } in
+    let seen : Course = record { message = it.message.items; questions = it.questions.items; most = it.most; answers = it.answers; left = it.left.items; judged = it.judged.items; walks = it.walks.items; waits = waits_view it.waits } in
     let e = ap waits_view (sym c.replace.ensures.value ∙ c.in-ForWalk.is) in
     if_there c.walked.result _ _
     (λ n h. subst (λ (x : Course). (c.walked.new.self, next_view n) ≡ course_advanced w x i) c.self.view_is (walks_so w seen (waits_view c.replace.new.dest) i (c.walked.new.self, next_view n) c.in-ForWalk.group c.in-ForWalk.walk e h))

@@ -12,7 +12,7 @@ returns-in-Some-2-clause-exact g c =
     let w = world_in g.V.Verifier.accepts c.args.setting.now in
     let it = c.self.inside in
     let later = c.pop_front.new.self.items in
-    let seen : Course = record { message = it.message.items; questions = it.questions.items; answers = it.answers; left = it.left.items; judged = it.judged.items; walks = it.walks.items; waits = waits_view it.waits } in
+    let seen : Course = record { message = it.message.items; questions = it.questions.items; most = it.most; answers = it.answers; left = it.left.items; judged = it.judged.items; walks = it.walks.items; waits = waits_view it.waits } in
     let p : Course × CourseStep = (c.passed.new.self, next_view c.in-Some-2.next) in
     let h = subst (Passes w c.in-Some.group (waiting seen later seen.waits) c.passed.new.self) c.in-Some-2.is c.in_ok-next.ensures.passes in
     sym (subst (λ (l : Course). going_on w l.left l ≡ p) c.self.view_is (one_sets_out w c.in-Some.group later seen p c.in-Some.ensures.items h)) ∙ c.loop-group.invariant.0
@@ -22,7 +22,7 @@ loop-group-preserved g c =
     let w = world_in g.V.Verifier.accepts c.args.setting.now in
     let it = c.self.inside in
     let later = c.pop_front.new.self.items in
-    let seen : Course = record { message = it.message.items; questions = it.questions.items; answers = it.answers; left = it.left.items; judged = it.judged.items; walks = it.walks.items; waits = waits_view it.waits } in
+    let seen : Course = record { message = it.message.items; questions = it.questions.items; most = it.most; answers = it.answers; left = it.left.items; judged = it.judged.items; walks = it.walks.items; waits = waits_view it.waits } in
     let after = c.passed.new.self in
     let h = subst (Passes w c.in-Some.group (waiting seen later seen.waits) after) c.in-None.is c.in_ok-next.ensures.passes in
     (sym (subst (λ (l : Course). going_on w l.left l ≡ going_on w after.left after) c.self.view_is (one_passed w c.in-Some.group later seen after c.in-Some.ensures.items h.0 h.1)) ∙ c.loop-group.invariant.0, omega (arith, c.in_ok-next.ensures.bound, c.loop-group.invariant.1))

@@ -1,5 +1,4 @@
-use Rattle.std.proofs.Common.{◌++◌, List, ap, ◌∙◌, subst}
-use Rattle.dsec_spec.specs.Groups.{Group}
+use Rattle.std.proofs.Common.{◌++◌, ap, ◌∙◌, subst}
 use Rattle.dsec_group.specs.declared.sections.GroupedSections.{GroupedSections}
 use Rattle.dsec_core.specs.Progress.{MovesOrEnds}
 use Rattle.dsec_core.proofs.ReadSteps.{begins_so, ends_so, parts}
