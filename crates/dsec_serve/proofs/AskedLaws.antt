@@ -16,7 +16,8 @@ use Rattle.dsec_core.specs.declared.step.Step.{Step}
 use Rattle.dsec_core.specs.Validating.{AdvancesTo}
 use Rattle.dsec_core.specs.Views.{step_view}
 use Rattle.dsec_serve.specs.Outside.{Outside, WasHeld, IsServed}
-use Rattle.dsec_serve.specs.Calls.{WereHeard, IsCall, most_questions}
+use Rattle.dsec_serve.specs.Calls.{WereHeard, most_questions}
+use Rattle.dsec_serve.specs.Judgements.{judgement_at, IsJudging}
 use Rattle.dsec_serve.specs.Turns.{asks, IsAt}
 use Rattle.dsec_serve.proofs.ServingLaws.{serving_holds, begins_unasked}
 use Rattle.dsec_serve.proofs.CallLaws.{were_heard, heard_few, ends_ok}
@@ -106,7 +107,8 @@ first_unasked w most message old new step e a =
 -- a message that has come to its end has a verdict
 pub at_end : (w : World) (most : ℕ) (message : List ℕ) (table : Option Table) (before now : Outside) (course : Course) (o : Outcome) (questions : ℕ)
     → IsAt w most message table before now course (end_with (Ok o)) → questions ≡ length (asked_in course)
-    → IsCall w most message table before now (Ok (record { outcome = o; questions = questions }))
+    → IsJudging w most message table before now (judgement_at w course (Ok (record { outcome = o; questions = questions })))
 at_end w most message table before now course o questions (r, at, its, s) count =
-    subst (λ (n : ℕ). IsCall w most message table before now (Ok (record { outcome = o; questions = n })))
-    (ap (λ (c : Course). length (asked_in c)) at ∙ sym count) (ends_ok w most message table before now r o s its)
+    subst (λ (c : Course). IsJudging w most message table before now (judgement_at w c (Ok (record { outcome = o; questions = questions })))) at
+    (subst (λ (n : ℕ). IsJudging w most message table before now (judgement_at w r.course (Ok (record { outcome = o; questions = n }))))
+    (ap (λ (c : Course). length (asked_in c)) at ∙ sym count) (ends_ok w most message table before now r o s its))

@@ -1,7 +1,7 @@
 -- What a call promises where judging a message ends, by how far it has come.
 use Rattle.std.proofs.Common.{◌≡◌, ℕ, ◌≤◌, List, [], ◌∷◌, length, Option, Some, None, IfSome, Result, Ok, Err, IfOk, refl, sym, ap, ◌∙◌, subst, inl, inr, arith}
 use Rattle.dsec_spec.specs.Outside.{Table, risen}
-use Rattle.dsec_nodes.specs.World.{World, Replies}
+use Rattle.dsec_nodes.specs.World.{World, Replies, moment}
 use Rattle.dsec_nodes.specs.Nodes.{Node, Kept}
 use Rattle.dsec_nodes.specs.Machine.{Question as Asked, Input, begin}
 use Rattle.dsec_nodes.specs.InStep.{AskedOf}
@@ -11,18 +11,21 @@ use Rattle.dsec_nodes.specs.Alone.{Refusal, unreadable, not_one_question, alone}
 use Rattle.dsec_found.specs.declared.error.Error.{Error}
 use Rattle.dsec_found.specs.declared.error.Error.TheVariants.{FormError, ParseError, NoMemory}
 use Rattle.dsec_found.specs.Errors.{answer_of}
-use Rattle.dsec_course.specs.Course.{CourseStep, end_with, groups_in, asked_in}
+use Rattle.dsec_course.specs.Course.{for_nothing, Course, CourseStep, end_with, groups_in, asked_in}
 use Rattle.dsec_course.specs.Advancing.{begun}
 use Rattle.dsec_course.specs.Hearing.{Run, first_run, ran_on, AreHeard, after_heard, HoldsRun}
 use Rattle.dsec_course.specs.Justified.{IsEnd, CourseStepSound}
 use Rattle.dsec_course.proofs.AskingLaws.{groups_stay}
 use Rattle.dsec_course.proofs.BeginningLaws.{begun_waits, begun_refused, refused_alone}
 use Rattle.dsec_course.proofs.RunLaws.{run_begins, run_asks, run_ends, heard_holds}
+use Rattle.dsec_cut.specs.Cuts.{to_rewrite}
+use Rattle.dsec_cut.proofs.CutLaws.{none_without_groups, none_while_waiting}
 use Rattle.dsec_serve.specs.Outside.{Outside, replies_of, WasHeld, HoldsTable}
 use Rattle.dsec_serve.specs.Serving.{IsServing}
 use Rattle.dsec_serve.specs.Calls.{Verdict, WereHeard, AgreesWith, IsCall, count_of, most_questions}
-use Rattle.dsec_serve.proofs.CountLaws.{counted_lost, counted_none}
-use Rattle.dsec_serve.proofs.HoldingLaws.{held_of_table, holds_after}
+use Rattle.dsec_serve.specs.Judgements.{judgement_at, IsToRewrite, IsJudging}
+use Rattle.dsec_lookup.proofs.CountLaws.{counted_lost, counted_none}
+use Rattle.dsec_lookup.proofs.HoldingLaws.{held_of_table, holds_after}
 use Rattle.dsec_serve.proofs.ReadLaws.{begun_reads}
 use Rattle.dsec_serve.proofs.ServingLaws.{serving_holds}
 
@@ -58,94 +61,122 @@ sound_end : (w : World) (most : ℕ) (message : List ℕ) (table : Option Table)
 sound_end w most message table before now r x s e =
     subst (λ (y : CourseStep). CourseStepSound w most message y r.course.waits) e (serving_holds w most message table before now r s).sound.1
 
+-- and its end has the groups by which the message is rewritten
+hands_on_at : (w : World) (most : ℕ) (message : List ℕ) (table : Option Table) (before now : Outside) (r : Run) (x : Result Outcome Refusal)
+    → IsServing w most message table before now r → r.step ≡ end_with x
+    → IsToRewrite w most message (WasHeld w.accepts before.held) (asked_in r.course) x (to_rewrite (moment w) r.course)
+hands_on_at w most message table before now r x s e = record {
+  course = s.course;
+  begins = s.begins;
+  inputs = s.inputs;
+  heard = s.heard;
+  are = ap (λ (y : Run). asked_in y.course) (sym s.comes_to);
+  ends = ap (λ (y : Run). y.step) s.comes_to ∙ e;
+  groups_are = ap (λ (y : Run). to_rewrite (moment w) y.course) (sym s.comes_to);
+}
+
 -- an outcome at the end
 pub ends_ok : (w : World) (most : ℕ) (message : List ℕ) (table : Option Table) (before now : Outside) (r : Run) (o : Outcome)
     → IsServing w most message table before now r → r.step ≡ end_with (Ok o)
-    → IsCall w most message table before now (Ok (record { outcome = o; questions = length (asked_in r.course) }))
-ends_ok w most message table before now r o s e = record {
-  asked = asked_in r.course;
-  lost = 0;
-  counted = s.counted;
-  few = refl;
-  in_turn = inr (were_heard w most message table before now r s);
-  so = (refl, sound_end w most message table before now r (Ok o) s e, begun_reads most message s.course s.begins);
-  agrees = λ replies h asked. record {
-    says = sym (end_so w most message table before now r replies (Ok o) s e h asked);
-    holds = held_so w most message table before now r replies s h asked;
-  };
-}
+    → IsJudging w most message table before now (judgement_at w r.course (Ok (record { outcome = o; questions = length (asked_in r.course) })))
+ends_ok w most message table before now r o s e =
+    let v : Verdict = record { outcome = o; questions = length (asked_in r.course) } in
+    let call : IsCall w most message table before now (Ok v) = record {
+      asked = asked_in r.course;
+      lost = 0;
+      counted = s.counted;
+      few = refl;
+      in_turn = inr (were_heard w most message table before now r s);
+      so = (refl, sound_end w most message table before now r (Ok o) s e, begun_reads most message s.course s.begins);
+      agrees = λ replies h asked. record {
+        says = sym (end_so w most message table before now r replies (Ok o) s e h asked);
+        holds = held_so w most message table before now r replies s h asked;
+      };
+    } in
+    record { call = call; hands_on = hands_on_at w most message table before now r (Ok o) s e }
 
 -- a refusal at the end
 pub ends_refused : (w : World) (most : ℕ) (message : List ℕ) (table : Option Table) (before now : Outside) (r : Run)
-    → IsServing w most message table before now r → r.step ≡ end_with (Err not_one_question) → IsCall w most message table before now (Err FormError)
-ends_refused w most message table before now r s e = record {
-  asked = asked_in r.course;
-  lost = 0;
-  counted = s.counted;
-  few = refl;
-  in_turn = inr (were_heard w most message table before now r s);
-  so = (begun_reads most message s.course s.begins, (sound_end w most message table before now r (Err not_one_question) s e).1);
-  agrees = λ replies h asked. record {
-    says = ap answer_of (sym (end_so w most message table before now r replies (Err not_one_question) s e h asked));
-    holds = held_so w most message table before now r replies s h asked;
-  };
-}
+    → IsServing w most message table before now r → r.step ≡ end_with (Err not_one_question)
+    → IsJudging w most message table before now (judgement_at w r.course (Err FormError))
+ends_refused w most message table before now r s e =
+    let call : IsCall w most message table before now (Err FormError) = record {
+      asked = asked_in r.course;
+      lost = 0;
+      counted = s.counted;
+      few = refl;
+      in_turn = inr (were_heard w most message table before now r s);
+      so = (begun_reads most message s.course s.begins, (sound_end w most message table before now r (Err not_one_question) s e).1);
+      agrees = λ replies h asked. record {
+        says = ap answer_of (sym (end_so w most message table before now r replies (Err not_one_question) s e h asked));
+        holds = held_so w most message table before now r replies s h asked;
+      };
+    } in
+    record { call = call; hands_on = hands_on_at w most message table before now r (Err not_one_question) s e }
 
--- no memory, at any step
-pub ends_without_memory : (w : World) (most : ℕ) (message : List ℕ) (table : Option Table) (before now : Outside) (r : Run)
-    → IsServing w most message table before now r → IsCall w most message table before now (Err NoMemory)
-ends_without_memory w most message table before now r s = record {
-  asked = asked_in r.course;
-  lost = 0;
-  counted = s.counted;
-  few = omega arith;
-  in_turn = inr (were_heard w most message table before now r s);
-  so = tt;
-  agrees = λ replies h asked. record { says = tt; holds = held_so w most message table before now r replies s h asked };
-}
+-- no memory, at any step: nothing that was judged is kept
+pub ends_without_memory : (w : World) (most : ℕ) (message : List ℕ) (table : Option Table) (before now : Outside) (r : Run) (course : Course)
+    → IsServing w most message table before now r → course.judged ≡ [] → IsJudging w most message table before now (judgement_at w course (Err NoMemory))
+ends_without_memory w most message table before now r course s none =
+    let call : IsCall w most message table before now (Err NoMemory) = record {
+      asked = asked_in r.course;
+      lost = 0;
+      counted = s.counted;
+      few = omega arith;
+      in_turn = inr (were_heard w most message table before now r s);
+      so = tt;
+      agrees = λ replies h asked. record { says = tt; holds = held_so w most message table before now r replies s h asked };
+    } in
+    record { call = call; hands_on = none_without_groups (moment w) course none }
 
--- a question found no memory
-pub ends_at_a_question : (w : World) (most : ℕ) (message : List ℕ) (table : Option Table) (before now next : Outside) (r : Run)
+-- a question found no memory, while it was waited for
+pub ends_at_a_question : (w : World) (most : ℕ) (message : List ℕ) (table : Option Table) (before now next : Outside) (r : Run) (course : Course)
     → IsServing w most message table before now r → next.held ≡ now.held → next.asked ≡ risen now.asked → next.faults ≡ now.faults
-    → IsCall w most message table before next (Err NoMemory)
-ends_at_a_question w most message table before now next r s same a f = record {
-  asked = asked_in r.course;
-  lost = 1;
-  counted = counted_lost table before now next (asked_in r.course) s.counted a f;
-  few = omega arith;
-  in_turn = inr (were_heard w most message table before now r s);
-  so = tt;
-  agrees = λ replies h asked. record {
-    says = tt;
-    holds = subst (HoldsTable w replies) (sym same) (held_so w most message table before now r replies s h asked);
-  };
-}
+    → (course.waits ≡ for_nothing → ⊥) → IsJudging w most message table before next (judgement_at w course (Err NoMemory))
+ends_at_a_question w most message table before now next r course s same a f waits =
+    let call : IsCall w most message table before next (Err NoMemory) = record {
+      asked = asked_in r.course;
+      lost = 1;
+      counted = counted_lost table before now next (asked_in r.course) s.counted a f;
+      few = omega arith;
+      in_turn = inr (were_heard w most message table before now r s);
+      so = tt;
+      agrees = λ replies h asked. record {
+        says = tt;
+        holds = subst (HoldsTable w replies) (sym same) (held_so w most message table before now r replies s h asked);
+      };
+    } in
+    record { call = call; hands_on = none_while_waiting (moment w) course waits }
 
 -- a message that can't be read
 pub ends_unread : (w : World) (most : ℕ) (message : List ℕ) (table : Option Table) (before : Outside) → begun most message ≡ Err unreadable
-    → IsCall w most message table before before (Err ParseError)
-ends_unread w most message table before e = record {
-  asked = [];
-  lost = 0;
-  counted = counted_none table before;
-  few = refl;
-  in_turn = inl refl;
-  so = ((begun_refused most message unreadable e).none, refl);
-  agrees = λ replies h asked. record { says = ap answer_of (refused_alone w most replies message unreadable e); holds = h };
-}
+    → IsJudging w most message table before before (record { answer = Err ParseError; groups = None })
+ends_unread w most message table before e =
+    let call : IsCall w most message table before before (Err ParseError) = record {
+      asked = [];
+      lost = 0;
+      counted = counted_none table before;
+      few = refl;
+      in_turn = inl refl;
+      so = ((begun_refused most message unreadable e).none, refl);
+      agrees = λ replies h asked. record { says = ap answer_of (refused_alone w most replies message unreadable e); holds = h };
+    } in
+    record { call = call; hands_on = refl }
 
 -- no memory to begin
 pub ends_unbegun : (w : World) (most : ℕ) (message : List ℕ) (table : Option Table) (before : Outside)
-    → IsCall w most message table before before (Err NoMemory)
-ends_unbegun w most message table before = record {
-  asked = [];
-  lost = 0;
-  counted = counted_none table before;
-  few = omega arith;
-  in_turn = inl refl;
-  so = tt;
-  agrees = λ replies h asked. record { says = tt; holds = h };
-}
+    → IsJudging w most message table before before (record { answer = Err NoMemory; groups = None })
+ends_unbegun w most message table before =
+    let call : IsCall w most message table before before (Err NoMemory) = record {
+      asked = [];
+      lost = 0;
+      counted = counted_none table before;
+      few = omega arith;
+      in_turn = inl refl;
+      so = tt;
+      agrees = λ replies h asked. record { says = tt; holds = h };
+    } in
+    record { call = call; hands_on = refl }
 
 -- what was heard leaves the groups as they are
 groups_after : (w : World) (held : Node → Type 0) (inputs : List Input) (r : Run) → AreHeard w held r inputs

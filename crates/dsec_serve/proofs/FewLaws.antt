@@ -1,19 +1,17 @@
 -- How many groups a message has: no more than its header says records.
 use Rattle.std.proofs.Common.{◌≡◌, ℕ, zero, suc, ◌+◌, ◌≤◌, Bool, true, false, cond, List, [], ◌∷◌, ◌++◌, length, Option, Some, None, Result, Ok, Err, refl, sym, ap, ◌∙◌, subst, arith}
 use Rattle.std.specs.Prelude.{filter, is_some}
-use Rattle.std.specs.List.{list_any}
 use Rattle.std.proofs.Math.Bool.{not}
 use Rattle.std.proofs.lemmas.List.{length-append, length-map}
 use Rattle.dsec_spec.specs.Reading.{many_of}
 use Rattle.dsec_spec.specs.Records.{Record}
 use Rattle.dsec_spec.specs.Messages.{Question, Header, header_of, questions_of, answers_of, authorities_of, record_at}
 use Rattle.dsec_spec.specs.Groups.{Group, firsts, of_one_group, groups_of}
-use Rattle.dsec_spec.specs.Redirection.{is_bare, followed, followers, with_followers, staying_from, has_too_many, moved}
+use Rattle.dsec_spec.specs.Redirection.{followed, followers, with_followers, staying_from, has_too_many, moved}
 use Rattle.dsec_spec.proofs.ReadingLemmas.{from_bind}
-use Rattle.dsec_nodes.specs.Outcomes.{not_built}
 use Rattle.dsec_nodes.specs.Alone.{Refusal, sections_of}
-use Rattle.dsec_course.specs.Course.{to_end, Course}
-use Rattle.dsec_course.specs.Advancing.{beginning, begun_with, begun_by, begun}
+use Rattle.dsec_course.specs.Course.{Course}
+use Rattle.dsec_course.specs.Advancing.{begun_with, begun_by, begun}
 use Rattle.dsec_course.proofs.BeginningLaws.{begun_waits}
 use Rattle.dsec_serve.specs.Calls.{count_of}
 
@@ -87,24 +85,19 @@ begins c = Ok c
 -- no more groups are to be judged than the sections have records
 left_few : (most : ℕ) (message : List ℕ) (s : List Question × List Record × List Record) (c : Course) → begun_by most message (Some s) ≡ Ok c
     → length c.left ≤ length s.1 + length s.2
-left_few most message s c e = by (list_any is_bare (groups_of s.1)) e
+left_few most message s c e = by_moved (moved most (groups_of s.1)) refl e
   where
-    at_end : (d : Course) → begins d ≡ Ok c → length d.left ≡ 0 → length c.left ≤ length s.1 + length s.2
-    at_end d f none = let same : d ≡ c = cc in let l = ap (λ (x : Course). length x.left) same in omega (arith, l, none)
-
-    by_moved : (o : Option (List Group)) → moved most (groups_of s.1) ≡ o → begins (begun_with message s.0 o (groups_of s.2)) ≡ Ok c
+    by_moved : (o : Option (List Group)) → moved most (groups_of s.1) ≡ o → begins (begun_with most message s.0 o (groups_of s.2)) ≡ Ok c
         → length c.left ≤ length s.1 + length s.2
-    by_moved None m f = at_end (begun_with message s.0 None (groups_of s.2)) f refl
+    by_moved None m f =
+        let same : begun_with most message s.0 None (groups_of s.2) ≡ c = cc in
+        let l = ap (λ (x : Course). length x.left) same in
+        omega (arith, l)
     by_moved (Some answers) m f =
-        let same : begun_with message s.0 (Some answers) (groups_of s.2) ≡ c = cc in
+        let same : begun_with most message s.0 (Some answers) (groups_of s.2) ≡ c = cc in
         let l = ap (λ (x : Course). length x.left) same in
         let parts = length-append answers (groups_of s.2) in
         omega (arith, l, parts, moved_few most (groups_of s.1) answers m, groups_few s.1, groups_few s.2)
-
-    by : (b : Bool) → cond {A = Result Course Refusal} b (Ok (beginning message s.0 0 [] (to_end not_built))) (Ok (begun_with message s.0 (moved most (groups_of s.1)) (groups_of s.2))) ≡ Ok c
-        → length c.left ≤ length s.1 + length s.2
-    by true f = at_end (beginning message s.0 0 [] (to_end not_built)) f refl
-    by false f = by_moved (moved most (groups_of s.1)) refl f
 
 -- A message has no more groups than its header says records of both sections
 pub groups_counted : (most : ℕ) (message : List ℕ) (h : Header) → header_of message ≡ Some h → count_of (begun most message) ≤ h.answers + h.authorities

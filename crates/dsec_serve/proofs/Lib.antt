@@ -1,5 +1,3 @@
-pub mod CountLaws
-pub mod HoldingLaws
 pub mod ServingLaws
 pub mod ReadLaws
 pub mod CallLaws
@@ -8,3 +6,4 @@ pub mod TurnLaws
 pub mod FewLaws
 pub mod AskedLaws
 pub mod StartLaws
+pub mod JudgementLaws

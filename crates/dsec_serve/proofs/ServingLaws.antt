@@ -17,8 +17,8 @@ use Rattle.dsec_course.proofs.RunLaws.{run_begins, run_asked, run_got, run_put, 
 use Rattle.dsec_course.proofs.StepLaws.{asked_grows}
 use Rattle.dsec_serve.specs.Outside.{Outside, AreCounted, WasHeld, HoldsMore, IsServed}
 use Rattle.dsec_serve.specs.Serving.{IsServing}
-use Rattle.dsec_serve.proofs.CountLaws.{counted_more, counted_same, counted_none}
-use Rattle.dsec_serve.proofs.HoldingLaws.{more_none, more_puts, more_kept, more_added, given_from}
+use Rattle.dsec_lookup.proofs.CountLaws.{counted_more, counted_same, counted_none}
+use Rattle.dsec_lookup.proofs.HoldingLaws.{more_none, more_puts, more_kept, more_added, given_from}
 
 -- the node that is put next is among the puts
 abbrev IsListed : Run → Type 0

@@ -1,22 +1,24 @@
 -- What the start of judging a message says of the call.
-use Rattle.std.proofs.Common.{◌≡◌, ℕ, List, Option, Result, Ok, Err, refl, sym, ap, ◌∙◌, subst}
+use Rattle.std.proofs.Common.{◌≡◌, ℕ, List, Option, None, Result, Ok, Err, refl, sym, ap, ◌∙◌, subst}
 use Rattle.std.specs.Bool.{OnFalse}
 use Rattle.dsec_spec.specs.Accepts.{Accepts}
 use Rattle.dsec_spec.specs.Outside.{Table}
 use Rattle.dsec_spec.specs.Records.{Record}
-use Rattle.dsec_nodes.specs.World.{World}
+use Rattle.dsec_nodes.specs.World.{World, on_circle}
 use Rattle.dsec_nodes.specs.Alone.{Refusal, unreadable, not_one_question}
 use Rattle.dsec_node.specs.Configs.{Settings}
 use Rattle.dsec_node.specs.Views.{bounds_of, world_of}
 use Rattle.dsec_found.specs.declared.error.Error.{Error}
-use Rattle.dsec_found.specs.declared.error.Error.TheVariants.{FormError, ParseError, NoMemory}
+use Rattle.dsec_found.specs.declared.error.Error.TheVariants.{FormError, ParseError, NoMemory, InplaceError, OctetsConversion, PushError, PushNameError, ReadError, ShortMessage}
 use Rattle.dsec_found.specs.Errors.{wants_memory}
 use Rattle.dsec_course.specs.Course.{Course}
 use Rattle.dsec_course.specs.Advancing.{begun}
 use Rattle.dsec_course.proofs.BeginningLaws.{begun_refused}
-use Rattle.dsec_core.specs.Validating.{Validating, begun_as, most_of, world_by}
+use Rattle.dsec_cut.specs.Cuts.{to_rewrite}
+use Rattle.dsec_core.specs.Validating.{Validating, begun_as, most_of, with_course, world_by}
 use Rattle.dsec_serve.specs.Outside.{Outside}
-use Rattle.dsec_serve.specs.Calls.{Verdict, IsCall}
+use Rattle.dsec_serve.specs.Verdicts.{Verdict}
+use Rattle.dsec_serve.specs.Judgements.{Judgement, judgement_at, IsJudging}
 use Rattle.dsec_serve.proofs.CallLaws.{ends_unread, ends_unbegun}
 
 -- what was started has these parts, and is begun
@@ -44,13 +46,28 @@ started anchors config moment message it e = by (begun config.max_cname_dname me
 
 -- so a call over what was started is one over its parts
 pub started_call : (accepts : Accepts) (anchors : List Record) (config : Settings) (moment : ℕ) (message : List ℕ) (it : Validating) (table : Option Table)
-    (before after : Outside) (answer : Result Verdict Error) → IsStarted anchors config moment message it
-    → IsCall (world_by accepts it) (most_of it) message table before after answer
-    → IsCall (world_of accepts anchors (bounds_of config) moment) config.max_cname_dname message table before after answer
-started_call accepts anchors config moment message it table before after answer s c =
-    subst (λ (x : ℕ). IsCall (world_of accepts anchors (bounds_of config) x) config.max_cname_dname message table before after answer) s.same_moment
-    (subst (λ (x : List Record). IsCall (world_of accepts x (bounds_of config) it.moment) config.max_cname_dname message table before after answer) s.same_anchors
-    (subst (λ (x : Settings). IsCall (world_of accepts it.anchors (bounds_of x) it.moment) x.max_cname_dname message table before after answer) s.same_config c))
+    (before after : Outside) (j : Judgement) → IsStarted anchors config moment message it
+    → IsJudging (world_by accepts it) (most_of it) message table before after j
+    → IsJudging (world_of accepts anchors (bounds_of config) moment) config.max_cname_dname message table before after j
+started_call accepts anchors config moment message it table before after j s c =
+    subst (λ (x : ℕ). IsJudging (world_of accepts anchors (bounds_of config) x) config.max_cname_dname message table before after j) s.same_moment
+    (subst (λ (x : List Record). IsJudging (world_of accepts x (bounds_of config) it.moment) config.max_cname_dname message table before after j) s.same_anchors
+    (subst (λ (x : Settings). IsJudging (world_of accepts it.anchors (bounds_of x) it.moment) x.max_cname_dname message table before after j) s.same_config c))
+
+-- a judgement, by its answer and by the moment and the course of what was judged
+abbrev judged_so : Result Verdict Error → ℕ → Course → Judgement
+judged_so answer t c = record { answer = answer; groups = to_rewrite (on_circle t) c }
+
+-- so a judgement over what was started is one over its parts
+pub started_judged : (accepts : Accepts) (anchors : List Record) (config : Settings) (moment : ℕ) (message : List ℕ) (it last : Validating) (table : Option Table)
+    (before after : Outside) (answer : Result Verdict Error) (j : Judgement) → IsStarted anchors config moment message it → last ≡ with_course it last.course
+    → j ≡ judged_so answer last.moment last.course
+    → IsJudging (world_by accepts it) (most_of it) message table before after (judgement_at (world_by accepts it) last.course answer)
+    → IsJudging (world_of accepts anchors (bounds_of config) moment) config.max_cname_dname message table before after j
+started_judged accepts anchors config moment message it last table before after answer j s same is h =
+    started_call accepts anchors config moment message it table before after j s
+    (subst (IsJudging (world_by accepts it) (most_of it) message table before after)
+    (ap (λ (t : ℕ). judged_so answer t last.course) (sym (ap (λ (v : Validating). v.moment) same)) ∙ sym is) h)
 
 -- with the anchors that these are
 pub started_from : (own anchors : List Record) (config : Settings) (moment : ℕ) (message : List ℕ) (it : Validating) → own ≡ anchors
@@ -64,24 +81,38 @@ pub started_begins : (anchors : List Record) (config : Settings) (moment : ℕ) 
 started_begins anchors config moment message it s =
     subst (λ (x : Settings). begun x.max_cname_dname message ≡ Ok it.course) (sym s.same_config) s.begins
 
+-- a message isn't started for no other reason than that it can't be read
+only_unreadable : (anchors : List Record) (config : Settings) (moment : ℕ) (message : List ℕ) (e : Error) → (ParseError ≡ e → ⊥) → (r : Result Course Refusal)
+    → begun config.max_cname_dname message ≡ r → begun_as anchors config moment r ≡ Err e → ⊥
+only_unreadable anchors config moment message e other (Ok c) f g = absurd cc
+only_unreadable anchors config moment message e other (Err unreadable) f g = other (let same : ParseError ≡ e = cc in same)
+only_unreadable anchors config moment message e other (Err not_one_question) f g =
+    let u = (begun_refused config.max_cname_dname message not_one_question f).refusal in absurd cc
+
 -- a message that wasn't started
 pub unstarted : (w : World) (anchors : List Record) (config : Settings) (moment : ℕ) (message : List ℕ) (table : Option Table) (before : Outside) (e : Error)
     → OnFalse (wants_memory e) (begun_as anchors config moment (begun config.max_cname_dname message) ≡ Err e)
-    → IsCall w config.max_cname_dname message table before before (Err e)
+    → IsJudging w config.max_cname_dname message table before before (record { answer = Err e; groups = None })
 unstarted w anchors config moment message table before NoMemory h = ends_unbegun w config.max_cname_dname message table before
 unstarted w anchors config moment message table before ParseError h =
     by (begun config.max_cname_dname message) refl h
   where
     by : (r : Result Course Refusal) → begun config.max_cname_dname message ≡ r → begun_as anchors config moment r ≡ Err ParseError
-        → IsCall w config.max_cname_dname message table before before (Err ParseError)
+        → IsJudging w config.max_cname_dname message table before before (record { answer = Err ParseError; groups = None })
     by (Ok c) f g = absurd cc
     by (Err unreadable) f g = ends_unread w config.max_cname_dname message table before f
     by (Err not_one_question) f g = absurd cc
 unstarted w anchors config moment message table before FormError h =
-    by (begun config.max_cname_dname message) refl h
-  where
-    by : (r : Result Course Refusal) → begun config.max_cname_dname message ≡ r → begun_as anchors config moment r ≡ Err FormError
-        → IsCall w config.max_cname_dname message table before before (Err FormError)
-    by (Ok c) f g = absurd cc
-    by (Err unreadable) f g = absurd cc
-    by (Err not_one_question) f g = let u = (begun_refused config.max_cname_dname message not_one_question f).refusal in absurd cc
+    absurd (only_unreadable anchors config moment message FormError (λ e. cc) (begun config.max_cname_dname message) refl h)
+unstarted w anchors config moment message table before (InplaceError x) h =
+    absurd (only_unreadable anchors config moment message (InplaceError x) (λ e. cc) (begun config.max_cname_dname message) refl h)
+unstarted w anchors config moment message table before OctetsConversion h =
+    absurd (only_unreadable anchors config moment message OctetsConversion (λ e. cc) (begun config.max_cname_dname message) refl h)
+unstarted w anchors config moment message table before PushError h =
+    absurd (only_unreadable anchors config moment message PushError (λ e. cc) (begun config.max_cname_dname message) refl h)
+unstarted w anchors config moment message table before PushNameError h =
+    absurd (only_unreadable anchors config moment message PushNameError (λ e. cc) (begun config.max_cname_dname message) refl h)
+unstarted w anchors config moment message table before ReadError h =
+    absurd (only_unreadable anchors config moment message ReadError (λ e. cc) (begun config.max_cname_dname message) refl h)
+unstarted w anchors config moment message table before ShortMessage h =
+    absurd (only_unreadable anchors config moment message ShortMessage (λ e. cc) (begun config.max_cname_dname message) refl h)

@@ -1,12 +1,12 @@
 -- One step of a message leads on, or the call ends.
-use Rattle.std.proofs.Common.{◌≡◌, ◌<◌, ℕ, List, Option, IfOk, Result, Ok, Err, sym, ap, subst}
+use Rattle.std.proofs.Common.{◌≡◌, ◌<◌, ℕ, List, Option, None, IfOk, Result, Ok, Err, sym, ap, subst}
 use Rattle.dsec_spec.specs.Accepts.{Accepts}
 use Rattle.dsec_spec.specs.Outside.{Table, risen}
 use Rattle.dsec_nodes.specs.World.{World}
 use Rattle.dsec_nodes.specs.Machine.{Input, begin, node, stored, reply}
 use Rattle.dsec_found.specs.declared.error.Error.{Error}
-use Rattle.dsec_found.specs.declared.error.Error.TheVariants.{FormError, ParseError, NoMemory}
-use Rattle.dsec_course.specs.Course.{Waiting, Course, CourseStep, get_node, put_node, ask_for, end_with, CourseAnswers, Awaits}
+use Rattle.dsec_found.specs.declared.error.Error.TheVariants.{FormError, ParseError, NoMemory, InplaceError, OctetsConversion, PushError, PushNameError, ReadError, ShortMessage}
+use Rattle.dsec_course.specs.Course.{Waiting, for_nothing, Course, CourseStep, get_node, put_node, ask_for, end_with, CourseAnswers, Awaits}
 use Rattle.dsec_course.specs.Advancing.{begun, course_advanced}
 use Rattle.dsec_course.specs.Hearing.{Run, first_run, ran_on}
 use Rattle.dsec_course.specs.Ending.{steps_left}
@@ -16,8 +16,8 @@ use Rattle.dsec_core.specs.declared.step.Step.{Step}
 use Rattle.dsec_core.specs.Validating.{AdvancesTo}
 use Rattle.dsec_serve.specs.Outside.{Outside, IsServed}
 use Rattle.dsec_serve.specs.Serving.{IsServing}
-use Rattle.dsec_serve.specs.Calls.{IsCall}
-use Rattle.dsec_serve.specs.Turns.{IsAt, ComesTo}
+use Rattle.dsec_serve.specs.Judgements.{judgement_at, IsJudging}
+use Rattle.dsec_serve.specs.Turns.{asks, IsAt, ComesTo}
 use Rattle.dsec_serve.proofs.ServingLaws.{serving_begins, serving_goes_on, serving_holds}
 use Rattle.dsec_serve.proofs.CallLaws.{ends_refused, ends_without_memory, ends_at_a_question}
 
@@ -44,9 +44,16 @@ comes_by : {V : Type 0} (w : World) (most : ℕ) (message : List ℕ) (table : O
     → ComesTo w most message table before now course result
 comes_by w most message table before now r course (Ok step) s e = (r, ap (λ (p : Course × CourseStep). p.0) (sym e), ap (λ (p : Course × CourseStep). p.1) (sym e), s)
 comes_by w most message table before now r course (Err FormError) s e =
-    ends_refused w most message table before now r s (ap (λ (p : Course × CourseStep). p.1) (sym e))
+    subst (λ (c : Course). IsJudging w most message table before now (judgement_at w c (Err FormError))) (ap (λ (p : Course × CourseStep). p.0) (sym e))
+    (ends_refused w most message table before now r s (ap (λ (p : Course × CourseStep). p.1) (sym e)))
 comes_by w most message table before now r course (Err ParseError) s e = absurd e
-comes_by w most message table before now r course (Err NoMemory) s e = ends_without_memory w most message table before now r s
+comes_by w most message table before now r course (Err (InplaceError e)) s x = absurd x
+comes_by w most message table before now r course (Err OctetsConversion) s x = absurd x
+comes_by w most message table before now r course (Err PushError) s x = absurd x
+comes_by w most message table before now r course (Err PushNameError) s x = absurd x
+comes_by w most message table before now r course (Err ReadError) s x = absurd x
+comes_by w most message table before now r course (Err ShortMessage) s x = absurd x
+comes_by w most message table before now r course (Err NoMemory) s e = ends_without_memory w most message table before now r course s e.1
 
 -- a step that was answered
 pub turned : {V : Type 0} (w : World) (most : ℕ) (message : List ℕ) (table : Option Table) (before now next : Outside) (old new : Course)
@@ -58,11 +65,26 @@ turned w most message table before now next old new step i result (r, at, its, s
     (serving_goes_on w most message table before now next r i s (subst (λ (x : CourseStep). IsServed w.accepts table now next x i) (sym its) served))
     (subst (λ (c : Course). AdvancesTo (course_advanced w c i) new result) (sym at) e)
 
+-- where it has come to, it waits for what answers its step
+pub at_awaits : (w : World) (most : ℕ) (message : List ℕ) (table : Option Table) (before now : Outside) (course : Course) (step : CourseStep)
+    → IsAt w most message table before now course step → Awaits step course.waits
+at_awaits w most message table before now course step (r, at, its, s) =
+    subst (λ (x : CourseStep). Awaits x course.waits) its (subst (λ (c : Course). Awaits r.step c.waits) at (serving_holds w most message table before now r s).awaits)
+
+-- what is asked is waited for
+asked_waits : (step : CourseStep) (waits : Waiting) → asks step ≡ 1 → Awaits step waits → waits ≡ for_nothing → ⊥
+asked_waits (get_node name) waits e a over = cc
+asked_waits (put_node name n) waits e a over = cc
+asked_waits (end_with r) waits e a over = cc
+asked_waits (ask_for name rtype) waits e a over = (subst (Awaits (ask_for name rtype)) over a None).0
+
 -- a question that found no memory
 pub unanswered : (w : World) (most : ℕ) (message : List ℕ) (table : Option Table) (before now next : Outside) (old : Course) (step : CourseStep)
-    → IsAt w most message table before now old step → next.held ≡ now.held → next.asked ≡ risen now.asked → next.faults ≡ now.faults
-    → IsCall w most message table before next (Err NoMemory)
-unanswered w most message table before now next old step (r, at, its, s) same a f = ends_at_a_question w most message table before now next r s same a f
+    → IsAt w most message table before now old step → asks step ≡ 1 → next.held ≡ now.held → next.asked ≡ risen now.asked → next.faults ≡ now.faults
+    → IsJudging w most message table before next (judgement_at w old (Err NoMemory))
+unanswered w most message table before now next old step (r, at, its, s) one same a f =
+    ends_at_a_question w most message table before now next r old s same a f
+    (asked_waits step old.waits one (at_awaits w most message table before now old step (r, at, its, s)))
 
 -- the beginning
 pub first_turned : {V : Type 0} (w : World) (most : ℕ) (message : List ℕ) (table : Option Table) (before : Outside) (old new : Course)
@@ -70,12 +92,6 @@ pub first_turned : {V : Type 0} (w : World) (most : ℕ) (message : List ℕ) (t
     → ComesTo w most message table before before new result
 first_turned w most message table before old new result e f =
     comes_by w most message table before before (first_run w old) new result (serving_begins w most message table before old e) f
-
--- where it has come to, it waits for what answers its step
-pub at_awaits : (w : World) (most : ℕ) (message : List ℕ) (table : Option Table) (before now : Outside) (course : Course) (step : CourseStep)
-    → IsAt w most message table before now course step → Awaits step course.waits
-at_awaits w most message table before now course step (r, at, its, s) =
-    subst (λ (x : CourseStep). Awaits x course.waits) its (subst (λ (c : Course). Awaits r.step c.waits) at (serving_holds w most message table before now r s).awaits)
 
 -- and each answer brings it nearer to its end
 pub turned_nearer : {V : Type 0} (w : World) (most : ℕ) (message : List ℕ) (table : Option Table) (before now next : Outside) (old new : Course)

@@ -32,24 +32,23 @@ pub record WereHeard (w : World) (most : ℕ) (message : List ℕ) (held : Node 
 abbrev pub IsLost : Result Verdict Error → ℕ → Type 0
 IsLost (Ok v) lost = lost ≡ 0
 IsLost (Err NoMemory) lost = lost ≤ 1
-IsLost (Err FormError) lost = lost ≡ 0
-IsLost (Err ParseError) lost = lost ≡ 0
+IsLost (Err _) lost = lost ≡ 0
 
 -- An outcome is justified, its questions are told, and the message's sections can be read; FormError comes only where they can and there isn't one
--- question; ParseError only where they can't, and then nothing is asked (RFC 4033 5, RFC 1035 4.1)
+-- question; ParseError only where they can't, and then nothing is asked; no other error comes (RFC 4033 5, RFC 1035 4.1)
 abbrev pub IsAnswer : World → ℕ → List ℕ → List Asked → Result Verdict Error → Type 0
 IsAnswer w most message asked (Ok v) = (v.questions ≡ length asked) × IsJustified w most message v.outcome v.outcome.state × IsReadable message
 IsAnswer w most message asked (Err FormError) =
     IsReadable message × ((question : Question) (rest : ℕ) → questions_of message ≡ Some (question ∷ [], rest) → ⊥)
 IsAnswer w most message asked (Err ParseError) = (sections_of message ≡ None) × (asked ≡ [])
 IsAnswer w most message asked (Err NoMemory) = Unit {0}
+IsAnswer w most message asked (Err _) = ⊥
 
 -- the answer is this outcome or refusal; want of memory may come in its place
 abbrev pub Says : Result Outcome Refusal → Result Verdict Error → Type 0
 Says r (Ok v) = r ≡ Ok v.outcome
-Says r (Err FormError) = answer_of r ≡ Err FormError
-Says r (Err ParseError) = answer_of r ≡ Err ParseError
 Says r (Err NoMemory) = Unit {0}
+Says r (Err e) = answer_of r ≡ Err e
 
 -- by a table of which is all that was held and heard the answer is that of the recursion, and all that is held afterwards is of it
 -- (RFC 4033 5, RFC 4035 4.5)
@@ -77,6 +76,14 @@ count_of (Err e) = 0
 -- how many questions a message takes at most: 255 for each of its groups (RFC 1035 2.3.4, RFC 4035 5.2)
 abbrev pub most_questions : ℕ → List ℕ → ℕ
 most_questions most message = 255 * count_of (begun most message)
+
+-- the errors that a call on a message answers (RFC 1035 4.1)
+abbrev pub CanCome : Result Verdict Error → Type 0
+CanCome (Ok v) = Unit {0}
+CanCome (Err FormError) = Unit {0}
+CanCome (Err ParseError) = Unit {0}
+CanCome (Err NoMemory) = Unit {0}
+CanCome (Err _) = ⊥
 
 -- a verdict of this kind, or want of memory
 abbrev pub OkOrNoMemory : (Verdict → Type 0) → Result Verdict Error → Type 0

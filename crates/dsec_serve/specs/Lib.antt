@@ -1,5 +1,6 @@
 pub mod Verdicts
-pub mod Outside
+pub use Rattle.dsec_lookup.specs.Outside
 pub mod Serving
 pub mod Calls
+pub mod Judgements
 pub mod Turns

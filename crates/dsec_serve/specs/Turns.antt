@@ -9,7 +9,7 @@ use Rattle.dsec_core.specs.declared.step.Step.{Step}
 use Rattle.dsec_core.specs.Views.{step_view}
 use Rattle.dsec_serve.specs.Outside.{Outside}
 use Rattle.dsec_serve.specs.Serving.{IsServing}
-use Rattle.dsec_serve.specs.Calls.{IsCall}
+use Rattle.dsec_serve.specs.Judgements.{judgement_at, IsJudging}
 
 -- whether a step is the end
 abbrev pub ends : CourseStep → Bool
@@ -33,10 +33,10 @@ IsAt w most message table before now course step =
 -- it has come to the next step, or the call ends with an error
 abbrev pub ComesTo : {V : Type 0} → World → ℕ → List ℕ → Option Table → Outside → Outside → Course → Result (Step V) Error → Type 0
 ComesTo w most message table before now course (Ok step) = IsAt w most message table before now course (step_view step)
-ComesTo w most message table before now course (Err e) = IsCall w most message table before now (Err e)
+ComesTo w most message table before now course (Err e) = IsJudging w most message table before now (judgement_at w course (Err e))
 
 -- it has come to the end, or the call ends with an error
 abbrev pub EndsSo : {V : Type 0} → World → ℕ → List ℕ → Option Table → Outside → Outside → Course → Result (Step V) Error → Type 0
 EndsSo w most message table before now course (Ok step) =
     (ends (step_view step) ≡ true) × IsAt w most message table before now course (step_view step)
-EndsSo w most message table before now course (Err e) = IsCall w most message table before now (Err e)
+EndsSo w most message table before now course (Err e) = IsJudging w most message table before now (judgement_at w course (Err e))

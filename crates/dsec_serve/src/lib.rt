@@ -2,6 +2,7 @@
 #![tactic(auto)]
 
 mod answering;
+mod judgement;
 mod serving;
 mod turn;
 mod validating;
@@ -9,5 +10,6 @@ mod verdict;
 
 pub use answering::answer_to;
 pub use dsec_found::Error;
-pub use validating::validate_in;
+pub use judgement::Judgement;
+pub use validating::judge_in;
 pub use verdict::Verdict;

@@ -10,12 +10,15 @@ ghost use Rattle.dsec_found.specs.declared.error.Error.TheVariants.{FormError, P
 ghost use Rattle.dsec_node.specs.Views.{bounds_of, world_of};
 ghost use Rattle.dsec_course.specs.Advancing.{begun};
 ghost use Rattle.dsec_course.specs.Course.{asked_in, end_with};
-ghost use Rattle.dsec_core.specs.Validating.{most_of, world_by};
+ghost use Rattle.dsec_core.specs.Validating.{most_of, with_course, world_by};
+ghost use Rattle.dsec_cut.specs.Ended.{AreJudged};
 ghost use Rattle.dsec_core.specs.Views.{step_view};
-ghost use Rattle.dsec_serve.specs.Calls.{AgreesWith, IsCall, OkOrNoMemory, RefusedOrBogus, RefusedOrNoMemory, most_questions};
+ghost use Rattle.dsec_serve.specs.Calls.{AgreesWith, CanCome, OkOrNoMemory, RefusedOrBogus, RefusedOrNoMemory, most_questions};
+ghost use Rattle.dsec_serve.specs.Judgements.{GroupsAgree, IsJudging, judgement_at};
 ghost use Rattle.dsec_serve.specs.Outside.{replies_of, HoldsTable, Outside};
 ghost use Rattle.dsec_serve.specs.Turns.{ends, IsAt};
 
+use crate::judgement::Judgement;
 use crate::serving::serve;
 use crate::verdict::Verdict;
 use dsec_anchors::TrustAnchors;
@@ -31,9 +34,10 @@ use std::alloc::Global;
 use std::marker::Brand;
 use std::sync::ledger::{Blank, Ledger};
 
-/// The verdict on a message at a moment, in seconds since 1970, from these anchors. Nodes are got from the caches and put into them, and the
-/// upstream is asked for what they don't have. Where caches find no memory they are passed over; a question that fails has no reply.
-pub fn validate_in<V: Verifier, C: Caches<V>, M: Memo<V>, U: Upstream>(
+/// The verdict on a message at a moment, in seconds since 1970, from these anchors, and the judged groups by which the message is
+/// rewritten, if it is. Nodes are got from the caches and put into them, and the upstream is asked for what they don't have. Where
+/// caches find no memory they are passed over; a question that fails has no reply.
+pub fn judge_in<V: Verifier, C: Caches<V>, M: Memo<V>, U: Upstream>(
     alloc: Global,
     anchors: &TrustAnchors,
     config: &Config,
@@ -42,21 +46,25 @@ pub fn validate_in<V: Verifier, C: Caches<V>, M: Memo<V>, U: Upstream>(
     message: &Message,
     upstream: &mut U,
     now: u64,
-) -> Result<Verdict<V>, Error>
-    ensures call { IsCall (world_of V.accepts anchors.now (bounds_of config.now) now) config.now.max_cname_dname message.now (U.table upstream.old)
+) -> Judgement<V>
+    ensures judging { IsJudging (world_of V.accepts anchors.now (bounds_of config.now) now) config.now.max_cname_dname message.now (U.table upstream.old)
         (record { held = C.held caches.old; asked = U.asked upstream.old; faults = U.faults upstream.old })
         (record { held = C.held caches.new; asked = U.asked upstream.new; faults = U.faults upstream.new }) result }
-    ensures sound { IfOk result (λ v. IsJustified (world_of V.accepts anchors.now (bounds_of config.now) now) config.now.max_cname_dname message.now v.outcome v.outcome.state) }
+    ensures sound { IfOk result.answer (λ v. IsJustified (world_of V.accepts anchors.now (bounds_of config.now) now) config.now.max_cname_dname message.now v.outcome v.outcome.state) }
     ensures told { IfSome (U.table upstream.old) (λ t. HoldsTable (world_of V.accepts anchors.now (bounds_of config.now) now) (replies_of t) (C.held caches.old)
         → AgreesWith (world_of V.accepts anchors.now (bounds_of config.now) now) config.now.max_cname_dname message.now
-        (record { held = C.held caches.new; asked = U.asked upstream.new; faults = U.faults upstream.new }) result (replies_of t)) }
+        (record { held = C.held caches.new; asked = U.asked upstream.new; faults = U.faults upstream.new }) result.answer (replies_of t)) }
     ensures complete { IfSome (U.table upstream.old) (λ t. HoldsTable (world_of V.accepts anchors.now (bounds_of config.now) now) (replies_of t) (C.held caches.old)
         → IsPlainAnswer (world_of V.accepts anchors.now (bounds_of config.now) now) (replies_of t) message.now
-        → OkOrNoMemory (λ v. v.outcome.state ≡ secure) result) }
-    ensures readable { (read : IsReadable message.now) → length read.questions ≡ 1 → OkOrNoMemory (λ v. ⊤) result }
-    ensures unreadable { sections_of message.now ≡ None → RefusedOrNoMemory ParseError result }
-    ensures not_one { HasNotOneQuestion message.now → RefusedOrBogus FormError result }
-    ensures few { IfOk result (λ v. v.questions ≤ most_questions config.now.max_cname_dname message.now) }
+        → OkOrNoMemory (λ v. v.outcome.state ≡ secure) result.answer) }
+    ensures readable { (read : IsReadable message.now) → length read.questions ≡ 1 → OkOrNoMemory (λ v. ⊤) result.answer }
+    ensures unreadable { sections_of message.now ≡ None → RefusedOrNoMemory ParseError result.answer }
+    ensures not_one { HasNotOneQuestion message.now → RefusedOrBogus FormError result.answer }
+    ensures refusals { CanCome result.answer }
+    ensures few { IfOk result.answer (λ v. v.questions ≤ most_questions config.now.max_cname_dname message.now) }
+    ensures groups_sound { IfSome result.groups (λ both. AreJudged (world_of V.accepts anchors.now (bounds_of config.now) now) config.now.max_cname_dname message.now both) }
+    ensures groups_told { IfSome (U.table upstream.old) (λ t. HoldsTable (world_of V.accepts anchors.now (bounds_of config.now) now) (replies_of t) (C.held caches.old)
+        → GroupsAgree (world_of V.accepts anchors.now (bounds_of config.now) now) config.now.max_cname_dname (replies_of t) message.now result) }
     ensures same_table { U.table upstream.new ≡ U.table upstream.old }
 {
     counted::<V, C, M, U, Brand>(
@@ -83,23 +91,26 @@ fn counted<V: Verifier, C: Caches<V>, M: Memo<V>, U: Upstream, L: Ledger>(
     upstream: &mut U,
     now: u64,
     blank: Blank,
-) -> Result<Verdict<V>, Error>
+) -> Judgement<V>
     requires name { blank.name ≡ L.name }
     requires parts { blank.parts ≡ L.parts }
     requires shared { 0 < L.parts }
-    ensures call { IsCall (world_of V.accepts anchors.now (bounds_of config.now) now) config.now.max_cname_dname message.now (U.table upstream.old)
+    ensures judging { IsJudging (world_of V.accepts anchors.now (bounds_of config.now) now) config.now.max_cname_dname message.now (U.table upstream.old)
         (record { held = C.held caches.old; asked = U.asked upstream.old; faults = U.faults upstream.old })
         (record { held = C.held caches.new; asked = U.asked upstream.new; faults = U.faults upstream.new }) result }
     ensures same_table { U.table upstream.new ≡ U.table upstream.old }
 {
     let Ok(own) = anchors_copy(alloc, anchors) else {
-        return Err(Error::NoMemory);
+        return Judgement::unbegun(Error::NoMemory);
     };
     let _ = most_asked(message);
     let mut steps = Steps::<L>::begin(blank);
     match Validation::start(alloc, own, *config, message, now) {
-        Ok(mut validation) => begin(alloc, &mut validation, caches, memo, upstream, &mut steps),
-        Err(error) => Err(error),
+        Ok(mut validation) => {
+            let answer = begin(alloc, &mut validation, caches, memo, upstream, &mut steps);
+            Judgement::new(answer, validation)
+        }
+        Err(error) => Judgement::unbegun(error),
     }
 }
 
@@ -129,10 +140,11 @@ fn begin<V: Verifier, C: Caches<V>, M: Memo<V>, U: Upstream, L: Ledger>(
     steps: &mut Steps<L>,
 ) -> Result<Verdict<V>, Error>
     requires begun { (message : List ℕ) × (begun (most_of validation.old) message ≡ Ok validation.old.course) × (most_questions (most_of validation.old) message ≤ 33422850) }
-    ensures call { (message : List ℕ) → begun (most_of validation.old) message ≡ Ok validation.old.course
-        → IsCall (world_by V.accepts validation.old) (most_of validation.old) message (U.table upstream.old)
+    ensures judging { (message : List ℕ) → begun (most_of validation.old) message ≡ Ok validation.old.course
+        → IsJudging (world_by V.accepts validation.old) (most_of validation.old) message (U.table upstream.old)
         (record { held = C.held caches.old; asked = U.asked upstream.old; faults = U.faults upstream.old })
-        (record { held = C.held caches.new; asked = U.asked upstream.new; faults = U.faults upstream.new }) result }
+        (record { held = C.held caches.new; asked = U.asked upstream.new; faults = U.faults upstream.new }) (judgement_at (world_by V.accepts validation.old) validation.new.course result) }
+    ensures same { validation.new ≡ with_course validation.old validation.new.course }
     ensures same_table { U.table upstream.new ≡ U.table upstream.old }
 {
     match validation.advance::<L>(alloc, Input::Begin, memo, steps) {
@@ -154,10 +166,11 @@ fn finish<V: Verifier, C: Caches<V>, M: Memo<V>, U: Upstream, L: Ledger>(
     requires unasked { length (asked_in validation.old.course) ≡ 0 }
     requires at { (most : ℕ) × (message : List ℕ) × (before : Outside)
         × IsAt (world_by V.accepts validation.old) most message (U.table upstream.old) before (record { held = C.held caches.old; asked = U.asked upstream.old; faults = U.faults upstream.old }) validation.old.course (step_view step) × (most_questions most message ≤ 33422850) }
-    ensures call { (most : ℕ) (message : List ℕ) (before : Outside)
+    ensures judging { (most : ℕ) (message : List ℕ) (before : Outside)
         → IsAt (world_by V.accepts validation.old) most message (U.table upstream.old) before (record { held = C.held caches.old; asked = U.asked upstream.old; faults = U.faults upstream.old }) validation.old.course (step_view step)
-        → IsCall (world_by V.accepts validation.old) most message (U.table upstream.old) before
-        (record { held = C.held caches.new; asked = U.asked upstream.new; faults = U.faults upstream.new }) result }
+        → IsJudging (world_by V.accepts validation.old) most message (U.table upstream.old) before
+        (record { held = C.held caches.new; asked = U.asked upstream.new; faults = U.faults upstream.new }) (judgement_at (world_by V.accepts validation.old) validation.new.course result) }
+    ensures same { validation.new ≡ with_course validation.old validation.new.course }
     ensures same_table { U.table upstream.new ≡ U.table upstream.old }
 {
     let mut questions = 0u32;

@@ -31,4 +31,4 @@ returns-in-Err-clause-comes g c = λ most message before at.
     unanswered (world_by g.V.Verifier.accepts c.args.validation.now) most message (g.U.Upstream.table c.args.upstream.now) before
     (record { held = g.C.Caches.held c.args.caches.now; asked = g.U.Upstream.asked c.args.upstream.now; faults = g.U.Upstream.faults c.args.upstream.now })
     (record { held = g.C.Caches.held c.answer_to.new.caches; asked = g.U.Upstream.asked c.answer_to.new.upstream; faults = g.U.Upstream.faults c.answer_to.new.upstream })
-    c.args.validation.now.course (step_view c.args.step) at c.in-Err.ensures.lost.0 c.in-Err.ensures.lost.1 c.in-Err.ensures.lost.2
+    c.args.validation.now.course (step_view c.args.step) at c.in-Err.ensures.asked c.in-Err.ensures.lost.0 c.in-Err.ensures.lost.1 c.in-Err.ensures.lost.2

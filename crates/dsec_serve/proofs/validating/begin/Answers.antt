@@ -4,7 +4,7 @@ use Rattle.dsec_nodes.specs.World.{World}
 use Rattle.dsec_core.specs.Validating.{most_of, world_by}
 use Rattle.dsec_core.specs.Views.{step_view}
 use Rattle.dsec_serve.specs.Outside.{Outside}
-use Rattle.dsec_serve.specs.Calls.{IsCall}
+use Rattle.dsec_serve.specs.Judgements.{judgement_at, IsJudging}
 use Rattle.dsec_serve.specs.Turns.{ComesTo, IsAt}
 use Rattle.dsec_serve.proofs.AskedLaws.{first_unasked}
 use Rattle.dsec_serve.proofs.TurnLaws.{carried, first_turned}
@@ -31,21 +31,21 @@ finish-requires-clause-at g c =
       begun.2,
     )
 
-pub returns-in-Ok-clause-call : goal.returns-in-Ok-clause-call
-returns-in-Ok-clause-call g c = λ message begins.
+pub returns-in-Ok-clause-judging : goal.returns-in-Ok-clause-judging
+returns-in-Ok-clause-judging g c = λ message begins.
     let most = most_of c.args.validation.now in
     let before : Outside = record { held = g.C.Caches.held c.args.caches.now; asked = g.U.Upstream.asked c.args.upstream.now; faults = g.U.Upstream.faults c.args.upstream.now } in
     let after : Outside = record { held = g.C.Caches.held c.finish.new.caches; asked = g.U.Upstream.asked c.finish.new.upstream; faults = g.U.Upstream.faults c.finish.new.upstream } in
     carried (λ (w : World) (t : Option Table). IsAt w most message t before before c.advance.new.self.course (step_view c.in-Ok.step))
-    (λ (w : World) (t : Option Table). IsCall w most message t before after c.finish.result)
+    (λ (w : World) (t : Option Table). IsJudging w most message t before after (judgement_at w c.finish.new.validation.course c.finish.result))
     (world_by g.V.Verifier.accepts c.advance.new.self) (world_by g.V.Verifier.accepts c.args.validation.now)
     (g.U.Upstream.table c.args.upstream.now) (g.U.Upstream.table c.args.upstream.now)
-    (ap (world_by g.V.Verifier.accepts) c.advance.ensures.same) refl (c.finish.ensures.call most message before)
+    (ap (world_by g.V.Verifier.accepts) c.advance.ensures.same) refl (c.finish.ensures.judging most message before)
     (first_turned (world_by g.V.Verifier.accepts c.args.validation.now) most message (g.U.Upstream.table c.args.upstream.now) before c.args.validation.now.course
     c.advance.new.self.course (Ok c.in-Ok.step) begins c.in-Ok.ensures.exact)
 
-pub returns-in-Err-clause-call : goal.returns-in-Err-clause-call
-returns-in-Err-clause-call g c = λ message begins.
+pub returns-in-Err-clause-judging : goal.returns-in-Err-clause-judging
+returns-in-Err-clause-judging g c = λ message begins.
     let w = world_by g.V.Verifier.accepts c.args.validation.now in
     let most = most_of c.args.validation.now in
     let before : Outside = record { held = g.C.Caches.held c.args.caches.now; asked = g.U.Upstream.asked c.args.upstream.now; faults = g.U.Upstream.faults c.args.upstream.now } in

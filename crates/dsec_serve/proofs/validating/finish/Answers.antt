@@ -8,8 +8,8 @@ use Rattle.dsec_serve.proofs.validating.finish.Goals as goal
 pub verdict-requires : goal.verdict-requires
 verdict-requires g c = let begun = c.requires.at in (c.in-Ok.ensures.ends begun.0 begun.1 begun.2 begun.3).0
 
-pub returns-in-Ok-clause-call : goal.returns-in-Ok-clause-call
-returns-in-Ok-clause-call g c = λ most message before at.
+pub returns-in-Ok-clause-judging : goal.returns-in-Ok-clause-judging
+returns-in-Ok-clause-judging g c = λ most message before at.
     at_end (world_by g.V.Verifier.accepts c.args.validation.now) most message (g.U.Upstream.table c.args.upstream.now) before
     (record { held = g.C.Caches.held c.serve.new.caches; asked = g.U.Upstream.asked c.serve.new.upstream; faults = g.U.Upstream.faults c.serve.new.upstream })
     c.serve.new.validation.course c.verdict.result.outcome c.verdict.result.questions

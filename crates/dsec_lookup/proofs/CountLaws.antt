@@ -8,7 +8,7 @@ use Rattle.dsec_spec.specs.Outside.{Table, risen}
 use Rattle.dsec_nodes.specs.Machine.{Question as Asked}
 use Rattle.dsec_nodes.specs.InStep.{AskedOf}
 use Rattle.dsec_course.proofs.Lists.{all_both}
-use Rattle.dsec_serve.specs.Outside.{Outside, replies_of, risen_by, failures, AreCounted, faults_after}
+use Rattle.dsec_lookup.specs.Outside.{Outside, replies_of, risen_by, failures, AreCounted, faults_after}
 
 -- one question with its reply
 abbrev pub one : Place → ℕ → Option (List ℕ) → Asked

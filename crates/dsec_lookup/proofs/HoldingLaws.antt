@@ -8,7 +8,7 @@ use Rattle.dsec_nodes.specs.World.{World, Replies}
 use Rattle.dsec_nodes.specs.Nodes.{Node, Kept}
 use Rattle.dsec_node.specs.Caches.{Held, IsHeld, Keeps, Adds}
 use Rattle.dsec_course.specs.Hearing.{IsOfTable}
-use Rattle.dsec_serve.specs.Outside.{WasHeld, HoldsMore, HoldsTable}
+use Rattle.dsec_lookup.specs.Outside.{WasHeld, HoldsMore, HoldsTable}
 
 pub more_none : (held : Option Held) → HoldsMore held held []
 more_none None = refl

@@ -1,0 +1,66 @@
+//! Nodes got from caches and put into them, and questions asked of an upstream (RFC 4035 4.3, 4.5).
+
+ghost use Rattle.std.specs.Prelude.{◌≡◌, IfOk, IfSome, OnErr};
+ghost use Rattle.std.specs.Arc.{arc_value};
+ghost use Rattle.dsec_spec.specs.Names.{place};
+ghost use Rattle.dsec_spec.specs.Outside.{risen};
+ghost use Rattle.dsec_nodes.specs.Nodes.{Kept};
+ghost use Rattle.dsec_node.specs.Caches.{Adds, IsHeld, Keeps};
+ghost use Rattle.dsec_lookup.specs.Outside.{faults_after, replies_of};
+
+use dsec_crypto::Verifier;
+use dsec_name::{Name, NoMemory, Octets};
+use dsec_node::{Caches, Node};
+use dsec_number::Rtype;
+use dsec_outside::{AskError, Upstream};
+use std::alloc::Global;
+use std::sync::Arc;
+
+/// The node that caches hold for a name, if they give one. Where they find no memory they give none.
+pub fn held_node<V: Verifier, C: Caches<V>>(caches: &mut C, name: &Name) -> Option<Arc<Node<V>>>
+    ensures keeps { Keeps (C.held caches.old) (C.held caches.new) }
+    ensures found { IfSome result (λ node. Kept V.accepts (arc_value node) × IsHeld (C.held caches.old) (place name.now) (arc_value node)) }
+{
+    match caches.get(name) {
+        Ok(Some(node)) => {
+            rely_on(&node);
+            Some(node)
+        }
+        Ok(None) => None,
+        Err(NoMemory) => None,
+    }
+}
+
+/// What a node's type says: it is kept (RFC 4035 4.5).
+fn rely_on<V: Verifier>(node: &Node<V>)
+    ensures { Kept V.accepts node.now }
+{
+    let _ = node.standing();
+}
+
+/// Holds a node for a name, where caches find memory.
+pub fn put_node<V: Verifier, C: Caches<V>>(caches: &mut C, name: Name, node: &Arc<Node<V>>)
+    ensures { Adds (C.held caches.old) (C.held caches.new) (place name) (arc_value node.now) }
+{
+    let _ = caches.put(name, node);
+}
+
+/// The upstream's reply to a question, or none where it failed.
+pub fn reply_to<U: Upstream>(
+    alloc: Global,
+    upstream: &mut U,
+    name: &Name,
+    rtype: Rtype,
+) -> Result<Option<Octets>, NoMemory>
+    ensures told { IfOk result (λ reply. IfSome (U.table upstream.old) (λ t. replies_of t (place name.now) rtype ≡ reply)) }
+    ensures faults { IfOk result (λ reply. U.faults upstream.new ≡ faults_after (U.faults upstream.old) reply) }
+    ensures no_fault { OnErr result (U.faults upstream.new ≡ U.faults upstream.old) }
+    ensures counted { U.asked upstream.new ≡ risen (U.asked upstream.old) }
+    ensures same_table { U.table upstream.new ≡ U.table upstream.old }
+{
+    match upstream.ask(alloc, name, rtype) {
+        Ok(reply) => Ok(Some(Octets::new(reply))),
+        Err(AskError::Failed) => Ok(None),
+        Err(AskError::NoMemory) => Err(NoMemory),
+    }
+}
