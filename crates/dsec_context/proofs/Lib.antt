@@ -1,0 +1,5 @@
+pub mod WritingLaws
+pub mod ComingLaws
+pub mod LeavingLaws
+pub mod TableLaws
+pub mod AloneLaws

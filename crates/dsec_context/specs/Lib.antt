@@ -1,0 +1,4 @@
+pub mod Setting
+pub mod Leaving
+pub mod Writing
+pub mod Calls

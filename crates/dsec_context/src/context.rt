@@ -1,0 +1,111 @@
+//! Contexts: what messages are judged by, and the nodes that are kept between them.
+
+ghost use Rattle.std.specs.Prelude.{◌≡◌, ◌≤◌, [], length, ⊤, Some, None, IfOk, IfSome};
+ghost use Rattle.dsec_nodes.specs.Alone.{sections_of};
+ghost use Rattle.dsec_nodes.specs.Outcomes.{secure};
+ghost use Rattle.dsec_nodes.specs.SoundOutcomes.{IsJustified};
+ghost use Rattle.dsec_plain.specs.Coming.{HasNotOneQuestion, IsReadable};
+ghost use Rattle.dsec_plain.specs.PlainAnswers.{IsPlainAnswer};
+ghost use Rattle.dsec_found.specs.declared.error.Error.TheVariants.{ParseError};
+ghost use Rattle.dsec_node.specs.Caches.{held_in};
+ghost use Rattle.dsec_node.specs.Configs.{default_settings};
+ghost use Rattle.dsec_serve.specs.Calls.{RefusedOrNoMemory, most_questions};
+ghost use Rattle.dsec_serve.specs.Outside.{replies_of, HoldsTable};
+ghost use Rattle.dsec_context.specs.Calls.{IsByTable, IsHandling, IsRefusal, IsVerdict, LeavesWith, SaysOf};
+ghost use Rattle.dsec_context.specs.Setting.{world_at};
+
+use crate::validating::validate_in;
+use dsec_anchors::TrustAnchors;
+use dsec_crypto::Verifier;
+use dsec_group::NoMemo;
+use dsec_node::{Config, OwnedCaches};
+use dsec_outside::Upstream;
+use dsec_serve::{Error, Verdict};
+use dsec_wire::Message;
+use std::alloc::Global;
+use std::marker::Model;
+
+/// Trust anchors and settings, by which messages are judged, and the nodes that are kept of what was found out.
+#[derive(Drop)]
+pub struct ValidationContext<V: Verifier> {
+    anchors: TrustAnchors,
+    config: Config,
+    caches: OwnedCaches<V>,
+}
+
+impl<V: Verifier> Model for ValidationContext<V> {
+    ghost use Rattle.dsec_context.specs.Setting.{Setting};
+
+    ghost Value = { Setting };
+
+    ghost view = { λ it. record { anchors = it.anchors; config = it.config; nodes = it.caches } };
+}
+
+impl<V: Verifier> ValidationContext<V> {
+    /// A context with these anchors and the default settings, which keeps no node yet.
+    pub fn new(alloc: Global, anchors: TrustAnchors) -> Self
+        ensures { result ≡ record { anchors = anchors; config = default_settings; nodes = [] } }
+    {
+        Self::with_config(alloc, anchors, Config::new())
+    }
+
+    /// A context with these anchors and settings, which keeps no node yet.
+    pub fn with_config(alloc: Global, anchors: TrustAnchors, config: Config) -> Self
+        ensures { result ≡ record { anchors = anchors; config = config; nodes = [] } }
+    {
+        ValidationContext {
+            anchors,
+            config,
+            caches: OwnedCaches::new(alloc),
+        }
+    }
+
+    /// Forgets all nodes.
+    pub fn forget(&mut self)
+        ensures { self.new ≡ record { anchors = self.old.anchors; config = self.old.config; nodes = [] } }
+    {
+        self.caches.clear();
+    }
+
+    /// The verdict on a message at a moment, in seconds since 1970 (RFC 4033 5, RFC 4035 5). The upstream is asked for what the context
+    /// doesn't keep. With a verdict, and where there isn't one question, the message is rewritten if one of its groups had duplicates, or TTLs
+    /// greater than what its signature may be kept for (RFC 2181 5, RFC 4035 5.3.3); after any other error it is as it came.
+    pub fn validate_msg<U: Upstream>(
+        &mut self,
+        alloc: Global,
+        message: &mut Message,
+        upstream: &mut U,
+        now: u64,
+    ) -> Result<Verdict<V>, Error>
+        ensures handled { IsHandling (world_at V.accepts self.old.anchors self.old.config now) self.old.config.max_cname_dname message.old (U.table upstream.old)
+            (record { held = Some (held_in self.old.nodes); asked = U.asked upstream.old; faults = U.faults upstream.old })
+            (record { held = Some (held_in self.new.nodes); asked = U.asked upstream.new; faults = U.faults upstream.new }) result message.new }
+        ensures sound { IfOk result (λ v. IsJustified (world_at V.accepts self.old.anchors self.old.config now) self.old.config.max_cname_dname message.old v.outcome v.outcome.state) }
+        ensures told { IfSome (U.table upstream.old) (λ t. HoldsTable (world_at V.accepts self.old.anchors self.old.config now) (replies_of t) (Some (held_in self.old.nodes))
+            → IsByTable (world_at V.accepts self.old.anchors self.old.config now) self.old.config.max_cname_dname message.old
+            (record { held = Some (held_in self.new.nodes); asked = U.asked upstream.new; faults = U.faults upstream.new }) result message.new (replies_of t)) }
+        ensures complete { IfSome (U.table upstream.old) (λ t. HoldsTable (world_at V.accepts self.old.anchors self.old.config now) (replies_of t) (Some (held_in self.old.nodes))
+            → IsPlainAnswer (world_at V.accepts self.old.anchors self.old.config now) (replies_of t) message.old
+            → IsVerdict (λ v. v.outcome.state ≡ secure) self.old.config.max_cname_dname message.old result) }
+        ensures readable { (read : IsReadable message.old) → length read.questions ≡ 1 → IsVerdict (λ v. ⊤) self.old.config.max_cname_dname message.old result }
+        ensures unreadable { sections_of message.old ≡ None → RefusedOrNoMemory ParseError result }
+        ensures not_one { HasNotOneQuestion message.old → IsRefusal self.old.config.max_cname_dname message.old result }
+        ensures says { SaysOf self.old.config.max_cname_dname message.old result }
+        ensures leaves { LeavesWith self.old.config.max_cname_dname result message.old message.new }
+        ensures few { IfOk result (λ v. v.questions ≤ most_questions self.old.config.max_cname_dname message.old) }
+        ensures same_table { U.table upstream.new ≡ U.table upstream.old }
+        ensures same_anchors { self.new.anchors ≡ self.old.anchors }
+        ensures same_config { self.new.config ≡ self.old.config }
+    {
+        validate_in(
+            alloc,
+            &self.anchors,
+            &self.config,
+            &mut self.caches,
+            &mut NoMemo,
+            message,
+            upstream,
+            now,
+        )
+    }
+}
