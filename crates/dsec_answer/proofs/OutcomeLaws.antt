@@ -1,11 +1,11 @@
 -- What the outcome of a message is, by the call that judged it.
-use Rattle.std.proofs.Common.{◌≡◌, ℕ, ◌-◌, ◌<◌, ◌≤◌, Bool, true, false, List, [], ◌∷◌, Some, Result, Ok, Err, IfOk, length, drop, refl, sym, ap, ◌∙◌, subst, arith}
+use Rattle.std.proofs.Common.{◌≡◌, ℕ, ◌-◌, ◌<◌, ◌≤◌, Bool, true, false, List, [], ◌∷◌, Some, Result, Ok, Err, IfOk, length, drop, Option, None, inl, inr, refl, sym, ap, ◌∙◌, subst, arith}
 use Rattle.std.specs.Prelude.{nat_lt}
 use Rattle.std.proofs.lemmas.Bool.{le-ltb, lt-ltb, ltb-true, ltb-false, cond-true, cond-false}
 use Rattle.std.proofs.lemmas.List.{length-drop}
 use Rattle.std.proofs.lemmas.Option.{same_Some}
 use Rattle.dsec_spec.specs.Reading.{u16_in, u16_at}
-use Rattle.dsec_spec.specs.Messages.{header_of, rcode_of}
+use Rattle.dsec_spec.specs.Messages.{header_of, rcode_of, additionals_of}
 use Rattle.dsec_spec.specs.Accepts.{Accepts}
 use Rattle.dsec_spec.specs.Names.{Labels}
 use Rattle.dsec_spec.specs.Outside.{Table}
@@ -15,23 +15,27 @@ use Rattle.dsec_nodes.specs.World.{World, Replies}
 use Rattle.dsec_nodes.specs.Nodes.{Node}
 use Rattle.dsec_nodes.specs.Outcomes as outcomes
 use Rattle.dsec_nodes.specs.SoundOutcomes.{IsJustified}
-use Rattle.dsec_nodes.specs.Alone.{Refusal, unreadable, not_one_question, alone}
+use Rattle.dsec_nodes.specs.Alone.{Refusal, alone}
 use Rattle.dsec_plain.specs.PlainAnswers.{IsPlainAnswer}
+use Rattle.dsec_plain.specs.Coming.{IsSecureBy}
 use Rattle.dsec_plain.proofs.Completeness.{complete}
-use Rattle.dsec_node.specs.Caches.{held_in}
+use Rattle.dsec_node.specs.Caches.{Held, held_in}
 use Rattle.dsec_node.specs.Configs.{Settings, default_settings}
+use Rattle.dsec_rewrite.specs.declared.error.RewriteError.TheVariants as rewriting
 use Rattle.dsec_found.specs.declared.error.Error.{Error}
 use Rattle.dsec_found.specs.declared.error.Error.TheVariants as errors
-use Rattle.dsec_found.specs.Errors.{answer_of}
 use Rattle.dsec_serve.specs.Verdicts.{Verdict}
 use Rattle.dsec_serve.specs.Outside.{Outside, replies_of, HoldsTable}
-use Rattle.dsec_serve.specs.Calls.{AgreesWith, IsCall, most_questions}
-use Rattle.dsec_serve.proofs.CallLaws.{call_few, call_sound, call_told}
+use Rattle.dsec_serve.specs.Calls.{most_questions}
+use Rattle.dsec_context.specs.Calls.{IsByTable, SaysOf, outcome_in}
+use Rattle.dsec_context.specs.Leaving.{handed_alone}
+use Rattle.dsec_context.specs.Setting.{world_at}
+use Rattle.dsec_context.specs.Writing.{CannotBeRewritten}
+use Rattle.dsec_context.proofs.AloneLaws.{ComesAlone, an_outcome, a_refusal, cannot_read, too_long, comes_alone}
 use Rattle.dsec_script.specs.declared.items.Item.{Item}
-use Rattle.dsec_answer.specs.declared.outcome.Unjudged.{Unjudged}
-use Rattle.dsec_answer.specs.declared.outcome.Unjudged.TheVariants.{ShortMessage, FormError, ParseError}
-use Rattle.dsec_answer.specs.Setting.{world_at}
-use Rattle.dsec_answer.specs.Told.{Outcome, told_of}
+use Rattle.dsec_answer.specs.declared.outcome.Unjudged.TheVariants.{ShortMessage, FormError, ParseError, PushError}
+use Rattle.dsec_answer.specs.Told.{CanBeTold, Outcome, told_of}
+use Rattle.dsec_answer.specs.Asked.{WereAsked}
 use Rattle.dsec_answer.specs.Outcomes.{told_by, without_questions, world_of_script, outcome_of, IsSecureOutcome, IsOutcome}
 
 -- a number of two octets takes two octets
@@ -54,37 +58,72 @@ has_header message rcode e =
     let left : length (drop 10 message) ≡ length message - 10 = length-drop 10 message in
     omega (arith, two, left)
 
--- a message with a header comes to what the recursion comes to
+-- a message with a header comes to what the recursion answers
 pub with_header : (accepts : Accepts) (anchors : List Record) (table : Table) (seconds : ℕ) (octets : List ℕ) → 12 ≤ length octets
     → outcome_of accepts anchors table seconds octets
-    ≡ told_by (alone (world_of_script accepts anchors seconds) default_settings.max_cname_dname (replies_of table) octets)
+    ≡ told_by (handed_alone (world_of_script accepts anchors seconds) default_settings.max_cname_dname (replies_of table) octets).0
 with_header accepts anchors table seconds octets long =
-    cond-false (nat_lt (length octets) 12) (Err ShortMessage) (told_by (alone (world_of_script accepts anchors seconds) default_settings.max_cname_dname (replies_of table) octets)) (le-ltb (length octets) 12 long)
+    cond-false (nat_lt (length octets) 12) (Some (Err ShortMessage)) (told_by (handed_alone (world_of_script accepts anchors seconds) default_settings.max_cname_dname (replies_of table) octets).0)
+    (le-ltb (length octets) 12 long)
 
-same_outcome : (x y : outcomes.Outcome) (r : Result outcomes.Outcome Unjudged) → r ≡ Ok x → r ≡ Ok y → x ≡ y
-same_outcome x y r e f = cc
+-- an outcome that comes to Secure is so; or the message can't be rewritten
+told_secure : (o : outcomes.Outcome) (message : List ℕ) (outcome : Outcome) → Some (without_questions outcome) ≡ Some (Ok o) → o.state ≡ outcomes.secure
+    → IsSecureOutcome message outcome
+told_secure o message (Ok v) e s = let same : v.outcome ≡ o = cc in ap (λ (x : outcomes.Outcome). x.state) same ∙ s
+told_secure o message (Err why) e s = absurd cc
 
-no_refusal : (x : outcomes.Outcome) (why : Unjudged) (r : Result outcomes.Outcome Unjudged) → r ≡ Ok x → r ≡ Err why → ⊥
-no_refusal x why r e f = cc
+told_unread : (message : List ℕ) (outcome : Outcome) → Some (without_questions outcome) ≡ Some (Err ParseError) → additionals_of message ≡ None
+    → IsSecureOutcome message outcome
+told_unread message (Ok v) e c = absurd cc
+told_unread message (Err ParseError) e c = c
+told_unread message (Err PushError) e c = absurd cc
+told_unread message (Err FormError) e c = absurd cc
+told_unread message (Err ShortMessage) e c = absurd cc
 
--- an outcome that comes to Secure is so
-told_secure : (o : outcomes.Outcome) (outcome : Outcome) → without_questions outcome ≡ Ok o → o.state ≡ outcomes.secure → IsSecureOutcome outcome
-told_secure o (Ok v) e s = ap (λ (x : outcomes.Outcome). x.state) (same_outcome v.outcome o (Ok v.outcome) refl e) ∙ s
-told_secure o (Err why) e s = absurd (no_refusal o why (Err why) e refl)
+told_long : (message : List ℕ) (outcome : Outcome) → Some (without_questions outcome) ≡ Some (Err PushError)
+    → CannotBeRewritten default_settings.max_cname_dname message rewriting.PushError → IsSecureOutcome message outcome
+told_long message (Ok v) e c = absurd cc
+told_long message (Err ParseError) e c = absurd cc
+told_long message (Err PushError) e c = c
+told_long message (Err FormError) e c = absurd cc
+told_long message (Err ShortMessage) e c = absurd cc
 
--- what is so of an outcome makes it the message's; an ordinary reply is then Secure
+-- what is so of an outcome makes it the message's; an ordinary reply is then Secure, if it can be rewritten
 pub is_outcome : (accepts : Accepts) (anchors : List Record) (table : Table) (item : Item) (outcome : Outcome)
-    → without_questions outcome ≡ outcome_of accepts anchors table item.seconds item.octets
+    → outcome_of accepts anchors table item.seconds item.octets ≡ Some (without_questions outcome)
     → IfOk outcome (λ v. IsJustified (world_of_script accepts anchors item.seconds) default_settings.max_cname_dname item.octets v.outcome v.outcome.state)
     → IfOk outcome (λ v. v.questions ≤ most_questions default_settings.max_cname_dname item.octets)
+    → IfOk outcome (λ v. WereAsked (world_of_script accepts anchors item.seconds) default_settings.max_cname_dname item.octets (replies_of table) v.questions)
     → IsOutcome accepts anchors table item outcome
-is_outcome accepts anchors table item outcome e j f = record { exact = e; sound = j; complete = secure_by; few = f }
+is_outcome accepts anchors table item outcome e j f a = record { exact = e; sound = j; complete = secure_by; few = f; asked = a }
   where
-    secure_by : IsPlainAnswer (world_of_script accepts anchors item.seconds) (replies_of table) item.octets → IsSecureOutcome outcome
-    secure_by a =
-        let so = complete (world_of_script accepts anchors item.seconds) default_settings.max_cname_dname (replies_of table) item.octets a (omega arith) in
-        told_secure so.outcome outcome
-        (e ∙ (with_header accepts anchors table item.seconds item.octets (has_header item.octets 0 a.no_error) ∙ ap told_by so.comes_to)) so.is_secure
+    w : World
+    w = world_of_script accepts anchors item.seconds
+
+    most : ℕ
+    most = default_settings.max_cname_dname
+
+    secure_by : IsPlainAnswer w (replies_of table) item.octets → IsSecureOutcome item.octets outcome
+    secure_by a = by (comes_alone w most (replies_of table) item.octets)
+      where
+        so : IsSecureBy w most (replies_of table) item.octets a.group
+        so = complete w most (replies_of table) item.octets a (omega arith)
+
+        told : Some (without_questions outcome) ≡ told_by (handed_alone w most (replies_of table) item.octets).0
+        told = sym e ∙ with_header accepts anchors table item.seconds item.octets (has_header item.octets 0 a.no_error)
+
+        same : (o : outcomes.Outcome) (r : Result outcomes.Outcome Refusal) → r ≡ Ok o → r ≡ Ok so.outcome → o ≡ so.outcome
+        same o r x y = cc
+
+        not_refused : (x : Refusal) (r : Result outcomes.Outcome Refusal) → r ≡ Err x → r ≡ Ok so.outcome → ⊥
+        not_refused x r y z = cc
+
+        by : ComesAlone w most (replies_of table) item.octets → IsSecureOutcome item.octets outcome
+        by (an_outcome o c h) = told_secure o item.octets outcome (told ∙ ap told_by h)
+            (ap (λ (x : outcomes.Outcome). x.state) (same o (alone w most (replies_of table) item.octets) c so.comes_to) ∙ so.is_secure)
+        by (a_refusal x c h) = absurd (not_refused x (alone w most (replies_of table) item.octets) c so.comes_to)
+        by (cannot_read c h) = told_unread item.octets outcome (told ∙ ap told_by h) c
+        by (too_long c h) = told_long item.octets outcome (told ∙ ap told_by h) c
 
 -- what is told of an answer is the outcome
 abbrev pub HasOutcome : Accepts → List Record → Table → Item → Result Verdict Error → Type 0
@@ -95,51 +134,96 @@ pub record IsItemJudged (accepts : Accepts) (anchors : List Record) (table : Tab
   pub outcome : HasOutcome accepts anchors table item answer
   pub holds : HoldsTable (world_of_script accepts anchors item.seconds) (replies_of table) after.held
 
-form_told : (r : Result outcomes.Outcome Refusal) → answer_of r ≡ Err errors.FormError → told_by r ≡ Err FormError
-form_told (Ok o) e = absurd cc
-form_told (Err unreadable) e = absurd cc
-form_told (Err not_one_question) e = refl
+-- what is told of an answer is what is told of it without its questions
+told_same : (answer : Result Verdict Error) (outcome : Outcome) → told_of answer ≡ Some outcome → told_by (outcome_in answer) ≡ Some (without_questions outcome)
+told_same answer outcome e = by answer e
+  where
+    of_some : (x : Outcome) → Some x ≡ Some outcome → Some (without_questions x) ≡ Some (without_questions outcome)
+    of_some x f = ap (λ (y : Outcome). Some (without_questions y)) (same_Some x outcome f)
 
-parse_told : (r : Result outcomes.Outcome Refusal) → answer_of r ≡ Err errors.ParseError → told_by r ≡ Err ParseError
-parse_told (Ok o) e = absurd cc
-parse_told (Err unreadable) e = refl
-parse_told (Err not_one_question) e = absurd cc
+    by : (a : Result Verdict Error) → told_of a ≡ Some outcome → told_by (outcome_in a) ≡ Some (without_questions outcome)
+    by (Ok v) f = of_some (Ok v) f
+    by (Err errors.FormError) f = of_some (Err FormError) f
+    by (Err errors.ParseError) f = of_some (Err ParseError) f
+    by (Err errors.PushError) f = of_some (Err PushError) f
+    by (Err errors.NoMemory) f = absurd cc
+    by (Err (errors.InplaceError x)) f = absurd cc
+    by (Err errors.OctetsConversion) f = absurd cc
+    by (Err errors.PushNameError) f = absurd cc
+    by (Err errors.ReadError) f = absurd cc
+    by (Err errors.ShortMessage) f = absurd cc
 
-pub item_judged : (accepts : Accepts) (anchors : List Record) (config : Settings) (table : Table) (item : Item) (message : List ℕ) (before after : Outside)
+-- what holds of an answer's verdict holds of what is told
+told_verdict : (Holds : Verdict → Type 0) (answer : Result Verdict Error) (outcome : Outcome) → told_of answer ≡ Some outcome
+    → IfOk answer (λ v. Holds v) → IfOk outcome (λ v. Holds v)
+told_verdict Holds (Ok v) outcome e h = subst (λ (x : Outcome). IfOk x (λ v. Holds v)) (same_Some (Ok v) outcome e) h
+told_verdict Holds (Err errors.FormError) outcome e h = subst (λ (x : Outcome). IfOk x (λ v. Holds v)) (same_Some (Err FormError) outcome e) tt
+told_verdict Holds (Err errors.ParseError) outcome e h = subst (λ (x : Outcome). IfOk x (λ v. Holds v)) (same_Some (Err ParseError) outcome e) tt
+told_verdict Holds (Err errors.PushError) outcome e h = subst (λ (x : Outcome). IfOk x (λ v. Holds v)) (same_Some (Err PushError) outcome e) tt
+told_verdict Holds (Err errors.NoMemory) outcome e h = absurd cc
+told_verdict Holds (Err (errors.InplaceError x)) outcome e h = absurd cc
+told_verdict Holds (Err errors.OctetsConversion) outcome e h = absurd cc
+told_verdict Holds (Err errors.PushNameError) outcome e h = absurd cc
+told_verdict Holds (Err errors.ReadError) outcome e h = absurd cc
+told_verdict Holds (Err errors.ShortMessage) outcome e h = absurd cc
+
+-- an answer that says of the message what it is can be told
+pub says_told : (most : ℕ) (message : List ℕ) (answer : Result Verdict Error) → SaysOf most message answer → CanBeTold answer
+says_told most message (Ok v) s = tt
+says_told most message (Err errors.FormError) s = tt
+says_told most message (Err errors.ParseError) s = tt
+says_told most message (Err errors.PushError) s = tt
+says_told most message (Err errors.NoMemory) s = tt
+says_told most message (Err (errors.InplaceError x)) s = absurd s
+says_told most message (Err errors.OctetsConversion) s = absurd s
+says_told most message (Err errors.PushNameError) s = absurd s
+says_told most message (Err errors.ReadError) s = absurd s
+says_told most message (Err errors.ShortMessage) s = absurd s
+
+-- what a call says of a message over nodes of the table
+pub record IsItemHandled (w : World) (most : ℕ) (message : List ℕ) (table : Table) (after : Outside) (answer : Result Verdict Error) (left : List ℕ) : Type 0 where
+  pub by_table : IsByTable w most message after answer left (replies_of table)
+  pub sound : IfOk answer (λ v. IsJustified w most message v.outcome v.outcome.state)
+  pub few : IfOk answer (λ v. v.questions ≤ most_questions most message)
+  pub asked : IfOk answer (λ v. WereAsked w most message (replies_of table) v.questions)
+
+pub item_judged : (accepts : Accepts) (anchors : List Record) (config : Settings) (table : Table) (item : Item) (message left : List ℕ) (held : Option Held) (after : Outside)
     (answer : Result Verdict Error) → config ≡ default_settings → message ≡ item.octets → 12 ≤ length item.octets
-    → HoldsTable (world_of_script accepts anchors item.seconds) (replies_of table) before.held
-    → IsCall (world_at accepts anchors config item.seconds) config.max_cname_dname message (Some table) before after answer
+    → HoldsTable (world_of_script accepts anchors item.seconds) (replies_of table) held
+    → (HoldsTable (world_at accepts anchors config item.seconds) (replies_of table) held
+    → IsItemHandled (world_at accepts anchors config item.seconds) config.max_cname_dname message table after answer left)
     → IsItemJudged accepts anchors table item after answer
-item_judged accepts anchors config table item message before after answer e same long h call =
-    record { outcome = by answer called agrees; holds = agrees.holds }
+item_judged accepts anchors config table item message left held after answer e same long holds handled = record {
+  outcome = λ outcome f. is_outcome accepts anchors table item outcome (told ∙ exact outcome f)
+      (told_verdict (λ v. IsJustified w most item.octets v.outcome v.outcome.state) answer outcome f called.sound)
+      (told_verdict (λ v. v.questions ≤ most_questions most item.octets) answer outcome f called.few)
+      (told_verdict (λ v. WereAsked w most item.octets (replies_of table) v.questions) answer outcome f called.asked);
+  holds = called.by_table.holds;
+}
   where
     most : ℕ
     most = default_settings.max_cname_dname
 
-    called : IsCall (world_of_script accepts anchors item.seconds) most item.octets (Some table) before after answer
+    w : World
+    w = world_of_script accepts anchors item.seconds
+
+    called : IsItemHandled w most item.octets table after answer left
     called =
-        subst (λ (m : List ℕ). IsCall (world_of_script accepts anchors item.seconds) most m (Some table) before after answer) same
-        (subst (λ (x : Settings). IsCall (world_at accepts anchors x item.seconds) x.max_cname_dname message (Some table) before after answer) e call)
+        subst (λ (m : List ℕ). IsItemHandled w most m table after answer left) same
+        (subst (λ (x : Settings). IsItemHandled (world_at accepts anchors x item.seconds) x.max_cname_dname message table after answer left) e
+        (handled (subst (λ (x : Settings). HoldsTable (world_at accepts anchors x item.seconds) (replies_of table) held) (sym e) holds)))
 
-    agrees : AgreesWith (world_of_script accepts anchors item.seconds) most item.octets after answer (replies_of table)
-    agrees = call_told (world_of_script accepts anchors item.seconds) most item.octets (Some table) before after answer called h
-
-    told : outcome_of accepts anchors table item.seconds item.octets ≡ told_by (alone (world_of_script accepts anchors item.seconds) most (replies_of table) item.octets)
+    told : outcome_of accepts anchors table item.seconds item.octets ≡ told_by (handed_alone w most (replies_of table) item.octets).0
     told = with_header accepts anchors table item.seconds item.octets long
 
-    by : (a : Result Verdict Error) → IsCall (world_of_script accepts anchors item.seconds) most item.octets (Some table) before after a
-        → AgreesWith (world_of_script accepts anchors item.seconds) most item.octets after a (replies_of table) → HasOutcome accepts anchors table item a
-    by (Ok v) c g = λ outcome e. subst (IsOutcome accepts anchors table item) (same_Some (Ok v) outcome e)
-        (is_outcome accepts anchors table item (Ok v) (sym (told ∙ ap told_by g.says))
-        (call_sound (world_of_script accepts anchors item.seconds) most item.octets (Some table) before after (Ok v) c)
-        (call_few (world_of_script accepts anchors item.seconds) most item.octets (Some table) before after (Ok v) c))
-    by (Err errors.FormError) c g = λ outcome e. subst (IsOutcome accepts anchors table item) (same_Some (Err FormError) outcome e)
-        (is_outcome accepts anchors table item (Err FormError)
-        (sym (told ∙ form_told (alone (world_of_script accepts anchors item.seconds) most (replies_of table) item.octets) g.says)) tt tt)
-    by (Err errors.ParseError) c g = λ outcome e. subst (IsOutcome accepts anchors table item) (same_Some (Err ParseError) outcome e)
-        (is_outcome accepts anchors table item (Err ParseError)
-        (sym (told ∙ parse_told (alone (world_of_script accepts anchors item.seconds) most (replies_of table) item.octets) g.says)) tt tt)
-    by (Err errors.NoMemory) c g = λ outcome e. absurd cc
+    exact : (outcome : Outcome) → told_of answer ≡ Some outcome → told_by (handed_alone w most (replies_of table) item.octets).0 ≡ Some (without_questions outcome)
+    exact outcome f = elim called.by_table.handed [
+      | inl so ↦ sym (ap told_by so.0) ∙ told_same answer outcome f
+      | inr none ↦ absurd (nothing_told outcome (sym (ap told_by none.0) ∙ told_same answer outcome f))
+    ]
+      where
+        nothing_told : (x : Outcome) → told_by (Err errors.NoMemory) ≡ Some (without_questions x) → ⊥
+        nothing_told x y = cc
 
 -- where no node is kept, all that are kept are of any table
 pub none_held : (w : World) (replies : Replies) (nodes : List (Labels × Node)) → nodes ≡ [] → HoldsTable w replies (Some (held_in nodes))
@@ -152,9 +236,9 @@ none_held w replies nodes e = subst (λ (xs : List (Labels × Node)). HoldsTable
 pub short_outcome : (accepts : Accepts) (anchors : List Record) (table : Table) (item : Item) → length item.octets < 12
     → IsOutcome accepts anchors table item (Err ShortMessage)
 short_outcome accepts anchors table item l = is_outcome accepts anchors table item (Err ShortMessage)
-    (sym (cond-true (nat_lt (length item.octets) 12) (Err ShortMessage)
-    (told_by (alone (world_of_script accepts anchors item.seconds) default_settings.max_cname_dname (replies_of table) item.octets)) (lt-ltb (length item.octets) 12 l)))
-    tt tt
+    (cond-true (nat_lt (length item.octets) 12) (Some (Err ShortMessage))
+    (told_by (handed_alone (world_of_script accepts anchors item.seconds) default_settings.max_cname_dname (replies_of table) item.octets).0) (lt-ltb (length item.octets) 12 l))
+    tt tt tt
 
 -- which is shorter
 pub not_long : (n : ℕ) → (12 ≤ n → ⊥) → n < 12

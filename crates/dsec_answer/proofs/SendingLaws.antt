@@ -1,5 +1,5 @@
 -- Texts of outcomes go out one after the other.
-use Rattle.std.proofs.Common.{◌≡◌, ℕ, suc, ◌+◌, ◌<◌, List, [], ◌∷◌, ◌++◌, length, take, get_or, Option, Ok, Err, Result, Bool, true, false, refl, sym, ap, ◌∙◌, subst, arith}
+use Rattle.std.proofs.Common.{◌≡◌, ℕ, suc, ◌+◌, ◌<◌, List, [], ◌∷◌, ◌++◌, length, take, get_or, Option, Some, Ok, Err, Bool, true, false, refl, sym, ap, ◌∙◌, subst, arith}
 use Rattle.std.specs.Prelude.{nat_lt, ◌≤◌}
 use Rattle.std.specs.Io.KnownBytes.{Appends}
 use Rattle.std.proofs.lemmas.List.{take_more, length_push, length-take-le}
@@ -8,19 +8,24 @@ use Rattle.dsec_spec.specs.Outside.{Table, SentFront}
 use Rattle.dsec_spec.specs.Records.{Record}
 use Rattle.std.proofs.lemmas.Bool.{ltb-true, ltb-false}
 use Rattle.dsec_nodes.specs.World.{World}
-use Rattle.dsec_nodes.specs.Outcomes as outcomes
-use Rattle.dsec_nodes.specs.Alone.{Refusal, alone}
+use Rattle.dsec_nodes.specs.Alone.{unreadable, not_one_question}
 use Rattle.dsec_nodes.proofs.OutcomeLaws.{alone_justified}
 use Rattle.dsec_node.specs.Configs.{default_settings}
+use Rattle.dsec_found.specs.declared.error.Error.{Error}
+use Rattle.dsec_found.specs.declared.error.Error.TheVariants as errors
 use Rattle.dsec_serve.specs.Outside.{replies_of}
-use Rattle.dsec_answer.specs.declared.outcome.Unjudged.TheVariants.{ShortMessage}
+use Rattle.dsec_context.specs.Leaving.{handed_alone}
+use Rattle.dsec_context.proofs.AloneLaws.{ComesAlone, an_outcome, a_refusal, cannot_read, too_long, comes_alone}
+use Rattle.dsec_answer.specs.declared.outcome.Unjudged.{Unjudged}
+use Rattle.dsec_answer.specs.declared.outcome.Unjudged.TheVariants.{ShortMessage, FormError, ParseError, PushError}
 use Rattle.dsec_outside.specs.Sending.{SentBut}
 use Rattle.dsec_outside.proofs.Pieces.{but_front, but_front_more, more_gathered, more_went, none_sent, rest_went}
 use Rattle.dsec_script.specs.declared.items.Item.{Item}
 use Rattle.dsec_answer.specs.Told.{Outcome}
 use Rattle.dsec_answer.specs.Texts.{outcome_text}
-use Rattle.dsec_answer.specs.Outcomes.{told_by, unjudged_by, world_of_script, IsOutcome, IsText, AreOutcomes, texts_from}
+use Rattle.dsec_answer.specs.Outcomes.{told_by, world_of_script, outcome_of, IsOutcome, IsText, AreOutcomes, texts_from}
 use Rattle.dsec_answer.specs.Sending.{SoFar}
+use Rattle.dsec_answer.proofs.AskedLaws.{alone_asked}
 use Rattle.dsec_answer.proofs.AnswerLoop.{texts_append, one_text, no_texts}
 use Rattle.dsec_answer.proofs.OutcomeLaws.{is_outcome, short_outcome, with_header}
 
@@ -50,21 +55,28 @@ some_outcome accepts anchors table item = by (nat_lt (length item.octets) 12) re
     w : World
     w = world_of_script accepts anchors item.seconds
 
-    judged : 12 ≤ length item.octets → (r : Result outcomes.Outcome Refusal) → alone w most (replies_of table) item.octets ≡ r
-        → (o : Outcome) × IsOutcome accepts anchors table item o
-    judged long (Ok o) e = (
-      Ok (record { outcome = o; questions = 0 }),
-      is_outcome accepts anchors table item (Ok (record { outcome = o; questions = 0 })) (sym (with_header accepts anchors table item.seconds item.octets long ∙ ap told_by e))
-          (alone_justified w most (replies_of table) item.octets o e) (omega arith),
-    )
-    judged long (Err x) e = (
-      Err (unjudged_by x),
-      is_outcome accepts anchors table item (Err (unjudged_by x)) (sym (with_header accepts anchors table item.seconds item.octets long ∙ ap told_by e)) tt tt,
-    )
+    told : 12 ≤ length item.octets → outcome_of accepts anchors table item.seconds item.octets ≡ told_by (handed_alone w most (replies_of table) item.octets).0
+    told long = with_header accepts anchors table item.seconds item.octets long
+
+    refused : 12 ≤ length item.octets → (e : Error) (why : Unjudged) → (handed_alone w most (replies_of table) item.octets).0 ≡ Err e
+        → told_by (Err e) ≡ Some (Err why) → (o : Outcome) × IsOutcome accepts anchors table item o
+    refused long e why h t = (Err why, is_outcome accepts anchors table item (Err why) (told long ∙ (ap told_by h ∙ t)) tt tt tt)
+
+    judged : 12 ≤ length item.octets → ComesAlone w most (replies_of table) item.octets → (o : Outcome) × IsOutcome accepts anchors table item o
+    judged long (an_outcome o e h) =
+        let some = alone_asked w most (replies_of table) item.octets o e in (
+          Ok (record { outcome = o; questions = some.number }),
+          is_outcome accepts anchors table item (Ok (record { outcome = o; questions = some.number })) (told long ∙ ap told_by h)
+              (alone_justified w most (replies_of table) item.octets o e) some.few some.asked,
+        )
+    judged long (a_refusal unreadable e h) = refused long errors.ParseError ParseError h refl
+    judged long (a_refusal not_one_question e h) = refused long errors.FormError FormError h refl
+    judged long (cannot_read c h) = refused long errors.ParseError ParseError h refl
+    judged long (too_long c h) = refused long errors.PushError PushError h refl
 
     by : (b : Bool) → nat_lt (length item.octets) 12 ≡ b → (o : Outcome) × IsOutcome accepts anchors table item o
     by true e = (Err ShortMessage, short_outcome accepts anchors table item (ltb-true (length item.octets) 12 e))
-    by false e = judged (ltb-false (length item.octets) 12 e) (alone w most (replies_of table) item.octets) refl
+    by false e = judged (ltb-false (length item.octets) 12 e) (comes_alone w most (replies_of table) item.octets)
 
 -- and so have all of these
 pub some_outcomes : (accepts : Accepts) (anchors : List Record) (table : Table) (items : List Item) → (os : List Outcome) × AreOutcomes accepts anchors table items os

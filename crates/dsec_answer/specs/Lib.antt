@@ -1,6 +1,6 @@
-pub mod Setting
 pub mod Told
 pub mod Texts
+pub mod Asked
 pub mod Outcomes
 pub mod Sending
 pub mod Words

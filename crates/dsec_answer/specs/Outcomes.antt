@@ -1,33 +1,36 @@
 -- What comes of the messages of a script, and what is written of them.
-use Rattle.std.specs.Prelude.{◌≡◌, ◌≤◌, ℕ, ◌+◌, nat_lt, List, [], ◌∷◌, ◌++◌, length, Result, Ok, Err, IfOk, if◌then◌else◌}
+use Rattle.std.specs.Prelude.{◌≡◌, ◌≤◌, ℕ, ◌+◌, nat_lt, List, [], ◌∷◌, ◌++◌, length, Option, Some, None, Result, Ok, Err, IfOk, if◌then◌else◌}
 use Rattle.dsec_spec.specs.Records.{Record}
 use Rattle.dsec_spec.specs.Accepts.{Accepts}
 use Rattle.dsec_spec.specs.Outside.{Table}
 use Rattle.dsec_nodes.specs.World.{World}
 use Rattle.dsec_nodes.specs.Outcomes as outcomes
-use Rattle.dsec_nodes.specs.Alone.{Refusal, unreadable, not_one_question, alone}
 use Rattle.dsec_nodes.specs.SoundOutcomes.{IsJustified}
 use Rattle.dsec_plain.specs.PlainAnswers.{IsPlainAnswer}
 use Rattle.dsec_node.specs.Configs.{default_settings}
+use Rattle.dsec_rewrite.specs.declared.error.RewriteError.TheVariants as rewriting
+use Rattle.dsec_found.specs.declared.error.Error.{Error}
+use Rattle.dsec_found.specs.declared.error.Error.TheVariants as errors
 use Rattle.dsec_serve.specs.Outside.{replies_of}
 use Rattle.dsec_serve.specs.Calls.{most_questions}
+use Rattle.dsec_context.specs.Setting.{world_at}
+use Rattle.dsec_context.specs.Leaving.{handed_alone}
+use Rattle.dsec_context.specs.Writing.{CannotBeRewritten}
 use Rattle.dsec_answer.specs.declared.outcome.Unjudged.{Unjudged}
-use Rattle.dsec_answer.specs.declared.outcome.Unjudged.TheVariants.{ShortMessage, FormError, ParseError}
-use Rattle.dsec_answer.specs.Setting.{world_at}
+use Rattle.dsec_answer.specs.declared.outcome.Unjudged.TheVariants.{ShortMessage, FormError, ParseError, PushError}
+use Rattle.dsec_answer.specs.Asked.{WereAsked}
 use Rattle.dsec_answer.specs.Told.{Outcome}
 use Rattle.dsec_answer.specs.Texts.{outcome_text}
 use Rattle.dsec_script.specs.declared.items.Item.{Item}
 use Rattle.dsec_script.specs.declared.script.Script.{Script}
 
--- why a message has no verdict
-abbrev pub unjudged_by : Refusal → Unjudged
-unjudged_by unreadable = ParseError
-unjudged_by not_one_question = FormError
-
--- what the recursion comes to, as it is told
-abbrev pub told_by : Result outcomes.Outcome Refusal → Result outcomes.Outcome Unjudged
-told_by (Ok o) = Ok o
-told_by (Err e) = Err (unjudged_by e)
+-- an answer, as it is told; of want of memory nothing is
+abbrev pub told_by : Result outcomes.Outcome Error → Option (Result outcomes.Outcome Unjudged)
+told_by (Ok o) = Some (Ok o)
+told_by (Err errors.FormError) = Some (Err FormError)
+told_by (Err errors.ParseError) = Some (Err ParseError)
+told_by (Err errors.PushError) = Some (Err PushError)
+told_by (Err _) = None
 
 -- an outcome without the number of its questions
 abbrev pub without_questions : Outcome → Result outcomes.Outcome Unjudged
@@ -39,25 +42,29 @@ abbrev pub world_of_script : Accepts → List Record → ℕ → World
 world_of_script accepts anchors seconds = world_at accepts anchors default_settings seconds
 
 -- the outcome of a message at a moment, in seconds since 1970, but for its questions: one below 12 octets has no header (RFC 1035 4.1.1), any
--- other one is what the recursion comes to by the anchors and by the table's replies (RFC 4033 5)
-abbrev pub outcome_of : Accepts → List Record → Table → ℕ → List ℕ → Result outcomes.Outcome Unjudged
+-- other one is what the recursion answers by the anchors and by the table's replies, the message being rewritten where that is due (RFC 4033 5,
+-- RFC 4035 5.3.3)
+abbrev pub outcome_of : Accepts → List Record → Table → ℕ → List ℕ → Option (Result outcomes.Outcome Unjudged)
 outcome_of accepts anchors table seconds message =
-    if nat_lt (length message) 12 then Err ShortMessage
-    else told_by (alone (world_of_script accepts anchors seconds) default_settings.max_cname_dname (replies_of table) message)
+    if nat_lt (length message) 12 then Some (Err ShortMessage)
+    else told_by (handed_alone (world_of_script accepts anchors seconds) default_settings.max_cname_dname (replies_of table) message).0
 
--- an outcome is the verdict Secure
-abbrev pub IsSecureOutcome : Outcome → Type 0
-IsSecureOutcome (Ok v) = v.outcome.state ≡ outcomes.secure
-IsSecureOutcome (Err why) = ⊥
+-- an outcome is the verdict Secure; or the message can't be rewritten, and so it is said
+abbrev pub IsSecureOutcome : List ℕ → Outcome → Type 0
+IsSecureOutcome message (Ok v) = v.outcome.state ≡ outcomes.secure
+IsSecureOutcome message (Err ParseError) = CannotBeRewritten default_settings.max_cname_dname message rewriting.ParseError
+IsSecureOutcome message (Err PushError) = CannotBeRewritten default_settings.max_cname_dname message rewriting.PushError
+IsSecureOutcome message (Err _) = ⊥
 
--- What the outcome of a message is: exactly what the recursion comes to, its state, its cause and why; it is justified; it is Secure where the
--- message is an ordinary reply from the zone at the anchor; and it took no more questions than a message of its groups may, which nodes that are
--- kept can lessen (RFC 4033 5, RFC 4035 4.5, 5)
+-- What the outcome of a message is: exactly what the recursion answers, its state, its cause and why; it is justified; it is Secure where the
+-- message is an ordinary reply from the zone at the anchor, if it can be rewritten; it took no more questions than a message of its groups may, and
+-- just those that judging it a step at a time takes over nodes of the table, which lessen them (RFC 4033 5, RFC 4035 4.3, 4.5, 5)
 pub record IsOutcome (accepts : Accepts) (anchors : List Record) (table : Table) (item : Item) (outcome : Outcome) : Type 0 where
-  pub exact : without_questions outcome ≡ outcome_of accepts anchors table item.seconds item.octets
+  pub exact : outcome_of accepts anchors table item.seconds item.octets ≡ Some (without_questions outcome)
   pub sound : IfOk outcome (λ v. IsJustified (world_of_script accepts anchors item.seconds) default_settings.max_cname_dname item.octets v.outcome v.outcome.state)
-  pub complete : IsPlainAnswer (world_of_script accepts anchors item.seconds) (replies_of table) item.octets → IsSecureOutcome outcome
+  pub complete : IsPlainAnswer (world_of_script accepts anchors item.seconds) (replies_of table) item.octets → IsSecureOutcome item.octets outcome
   pub few : IfOk outcome (λ v. v.questions ≤ most_questions default_settings.max_cname_dname item.octets)
+  pub asked : IfOk outcome (λ v. WereAsked (world_of_script accepts anchors item.seconds) default_settings.max_cname_dname item.octets (replies_of table) v.questions)
 
 -- one outcome for each message, in order
 abbrev pub AreOutcomes : Accepts → List Record → Table → List Item → List Outcome → Type 0

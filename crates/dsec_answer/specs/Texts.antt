@@ -8,7 +8,7 @@ use Rattle.dsec_cause.specs.declared.cause.Cause.{Cause}
 use Rattle.dsec_nodes.specs.Judging.{Finding, is_shown, has_no_set, is_insecure, is_bogus, is_indeterminate, Judged}
 use Rattle.dsec_nodes.specs.Outcomes.{State, secure, insecure, bogus, indeterminate, Used, Why, by_groups, by_cause, by_links, by_nothing}
 use Rattle.dsec_answer.specs.declared.outcome.Unjudged.{Unjudged}
-use Rattle.dsec_answer.specs.declared.outcome.Unjudged.TheVariants.{ShortMessage, FormError, ParseError}
+use Rattle.dsec_answer.specs.declared.outcome.Unjudged.TheVariants.{ShortMessage, FormError, ParseError, PushError}
 use Rattle.dsec_answer.specs.Told.{Outcome}
 
 -- the words of the security statuses (RFC 4033 5)
@@ -36,6 +36,7 @@ abbrev pub error_text : Unjudged → List ℕ
 error_text ShortMessage = codes "ShortMessage"
 error_text FormError = codes "FormError"
 error_text ParseError = codes "ParseError"
+error_text PushError = codes "PushError"
 
 -- the line of a message without a verdict
 unfoldable pub error_line : ℕ → Unjudged → List ℕ

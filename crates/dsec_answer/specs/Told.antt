@@ -4,7 +4,7 @@ use Rattle.dsec_found.specs.declared.error.Error.{Error}
 use Rattle.dsec_found.specs.declared.error.Error.TheVariants as errors
 use Rattle.dsec_serve.specs.Verdicts.{Verdict}
 use Rattle.dsec_answer.specs.declared.outcome.Unjudged.{Unjudged}
-use Rattle.dsec_answer.specs.declared.outcome.Unjudged.TheVariants.{FormError, ParseError}
+use Rattle.dsec_answer.specs.declared.outcome.Unjudged.TheVariants.{FormError, ParseError, PushError}
 
 -- a verdict, or why there is none
 abbrev pub Outcome : Type 0
@@ -20,4 +20,14 @@ abbrev pub told_of : Result Verdict Error → Option Outcome
 told_of (Ok v) = Some (Ok v)
 told_of (Err errors.FormError) = Some (Err FormError)
 told_of (Err errors.ParseError) = Some (Err ParseError)
-told_of (Err errors.NoMemory) = None
+told_of (Err errors.PushError) = Some (Err PushError)
+told_of (Err _) = None
+
+-- the answers that are told, and want of memory
+abbrev pub CanBeTold : Result Verdict Error → Type 0
+CanBeTold (Ok v) = Unit {0}
+CanBeTold (Err errors.FormError) = Unit {0}
+CanBeTold (Err errors.ParseError) = Unit {0}
+CanBeTold (Err errors.PushError) = Unit {0}
+CanBeTold (Err errors.NoMemory) = Unit {0}
+CanBeTold (Err _) = ⊥

@@ -38,6 +38,8 @@ pub fn run<S: Source, K: Sink>(alloc: Global, words: &[String], source: &mut S, 
     ensures sign { (said : SignWords) → sign_in (map (λ w. string_bytes w) words.now) ≡ Some said
         → IsSignRun said result (S.left source.old) (S.left source.new) (K.written sink.old) (K.written sink.new) }
     ensures usage { IsNoCommand (map (λ w. string_bytes w) words.now) → IsUsageRun result (K.written sink.old) (K.written sink.new) }
+    ensures untouched { IsNoCommand (map (λ w. string_bytes w) words.now)
+        → (S.left source.new ≡ S.left source.old) × (S.ended source.new ≡ S.ended source.old) × (S.faults source.new ≡ S.faults source.old) }
     ensures words { result ≡ 2 → IsNoCommand (map (λ w. string_bytes w) words.now) }
     ensures read { result ≡ 4 → Rose (S.faults source.old) (S.faults source.new) }
     ensures write { result ≡ 5 → Rose (K.faults sink.old) (K.faults sink.new) }
@@ -63,6 +65,8 @@ pub fn run_by<V: Verifier, S: Source, K: Sink>(
     ensures sign { (said : SignWords) → sign_in (map (λ w. string_bytes w) words.now) ≡ Some said
         → IsSignRun said result (S.left source.old) (S.left source.new) (K.written sink.old) (K.written sink.new) }
     ensures usage { IsNoCommand (map (λ w. string_bytes w) words.now) → IsUsageRun result (K.written sink.old) (K.written sink.new) }
+    ensures untouched { IsNoCommand (map (λ w. string_bytes w) words.now)
+        → (S.left source.new ≡ S.left source.old) × (S.ended source.new ≡ S.ended source.old) × (S.faults source.new ≡ S.faults source.old) }
     ensures words { result ≡ 2 → IsNoCommand (map (λ w. string_bytes w) words.now) }
     ensures read { result ≡ 4 → Rose (S.faults source.old) (S.faults source.new) }
     ensures write { result ≡ 5 → Rose (K.faults sink.old) (K.faults sink.new) }

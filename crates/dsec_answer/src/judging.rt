@@ -12,9 +12,9 @@ ghost use Rattle.dsec_answer.specs.Outcomes.{IsOutcome, IsText, world_of_script}
 ghost use Rattle.dsec_answer.specs.Texts.{outcome_text};
 ghost use Rattle.dsec_answer.specs.Told as outcomes;
 
-use crate::context::ValidationContext;
 use crate::outcome::{Outcome, Unjudged};
 use crate::texts::push_text;
+use dsec_context::ValidationContext;
 use dsec_crypto::Verifier;
 use dsec_name::NoMemory;
 use dsec_outside::{Halt, Sink, TableUpstream, send, send_block};
@@ -23,6 +23,7 @@ use dsec_wire::Message;
 use std::alloc::Global;
 
 /// What comes of a message at its moment, over nodes of the table at this moment.
+#[tactic(auto, using(crate::proofs::OutcomeLaws::says_told))]
 fn judge_one<V: Verifier>(
     alloc: Global,
     context: &mut ValidationContext<V>,

@@ -2,7 +2,6 @@
 #![tactic(auto)]
 
 mod command;
-mod context;
 mod judging;
 mod outcome;
 mod script;
@@ -11,8 +10,7 @@ mod used_texts;
 mod validating;
 
 pub use command::{run, run_by};
-pub use context::ValidationContext;
-pub use dsec_serve::{Error, Verdict, validate_in};
+pub use dsec_context::{Error, ValidationContext, Verdict, validate_in};
 pub use outcome::{Outcome, Unjudged};
 pub use texts::text;
 pub use validating::validate;

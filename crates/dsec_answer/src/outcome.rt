@@ -2,10 +2,11 @@
 
 ghost use Rattle.std.specs.Prelude.{◌≡◌, Some, Ok, Err, IfOk};
 ghost use Rattle.dsec_answer.specs.Told as outcomes;
+ghost use Rattle.dsec_answer.specs.Told.{CanBeTold};
 
+use dsec_context::{Error, Verdict};
 use dsec_crypto::Verifier;
 use dsec_name::NoMemory;
-use dsec_serve::{Error, Verdict};
 use std::marker::Model;
 
 /// Why a message has no verdict.
@@ -15,8 +16,11 @@ pub enum Unjudged {
     ShortMessage,
     /// There isn't one question (RFC 1035 4.1.2).
     FormError,
-    /// A question, or a record of the answer or authority section, can't be read (RFC 1035 4.1).
+    /// A question, or a record of the answer or authority section, can't be read; or one of the additional section, where the message was to
+    /// be rewritten (RFC 1035 4.1).
     ParseError,
+    /// The message was to be rewritten, and would pass 65535 octets (RFC 1035 4.2.2).
+    PushError,
 }
 
 /// What came of a message: a verdict, or why there is none.
@@ -52,13 +56,16 @@ impl<V: Verifier> Outcome<V> {
 
     /// What is told of an answer.
     pub(crate) fn told(answer: Result<Verdict<V>, Error>) -> Result<Outcome<V>, NoMemory>
+        requires { CanBeTold answer }
         ensures { IfOk result (λ outcome. outcomes.told_of answer ≡ Some outcome) }
     {
         match answer {
             Ok(verdict) => Ok(Outcome::judged(verdict)),
             Err(Error::FormError) => Ok(Outcome::refused(Unjudged::FormError)),
             Err(Error::ParseError) => Ok(Outcome::refused(Unjudged::ParseError)),
+            Err(Error::PushError) => Ok(Outcome::refused(Unjudged::PushError)),
             Err(Error::NoMemory) => Err(NoMemory),
+            Err(_) => unreachable!(),
         }
     }
 

@@ -12,9 +12,9 @@ ghost use Rattle.dsec_script.specs.Place.{wants_memory};
 ghost use Rattle.dsec_script.specs.Script.{script_of};
 ghost use Rattle.dsec_spec.specs.Reading.{Gives};
 
-use crate::context::ValidationContext;
 use crate::judging::judge_all;
 use dsec_anchors::TrustAnchors;
+use dsec_context::ValidationContext;
 use dsec_crypto::Verifier;
 use dsec_name::NoMemory;
 use dsec_outside::{Halt, Sink, TableUpstream, send};

@@ -10,13 +10,13 @@ ghost use Rattle.dsec_answer.specs.Texts.{cause_text, error_line, error_text, gr
 use crate::outcome::{Outcome, Unjudged};
 use crate::used_texts::push_used_groups;
 use dsec_cause::Cause;
+use dsec_context::Verdict;
 use dsec_crypto::Verifier;
 use dsec_found::JudgedGroup;
 use dsec_group::ValidationState;
 use dsec_link::{Link, push_link};
 use dsec_name::NoMemory;
 use dsec_outcome::Why;
-use dsec_serve::Verdict;
 use dsec_word::push_number;
 use std::alloc::Global;
 
@@ -236,6 +236,7 @@ fn error_name(why: Unjudged) -> &'static str
     match why {
         Unjudged::FormError => "FormError",
         Unjudged::ParseError => "ParseError",
+        Unjudged::PushError => "PushError",
         Unjudged::ShortMessage => "ShortMessage",
     }
 }

@@ -3,8 +3,8 @@
 use crate::lines::KEY;
 use crate::vectors::{DENIED, DENIED_LATER, FOUR, GOOD, KEYS, ONE_BAD};
 use dsec_anchors::TrustAnchors;
-use dsec_answer::ValidationContext;
 use dsec_cause::Cause;
+use dsec_context::ValidationContext;
 use dsec_crypto::{StandIn, Verifier};
 use dsec_found::JudgedGroup;
 use dsec_group::ValidationState;
@@ -20,7 +20,7 @@ use std::alloc::Global;
 use std::process::Abort;
 
 /// The keys of `example.` for who asks for them.
-fn replies(alloc: Global) -> Option<Replies> {
+pub(crate) fn replies(alloc: Global) -> Option<Replies> {
     let Ok(reply) = hex::decode(alloc, KEYS) else {
         return None;
     };

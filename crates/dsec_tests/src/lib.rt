@@ -2,7 +2,11 @@
 #![tactic(auto)]
 
 #[cfg(test)]
+mod errors;
+#[cfg(test)]
 mod faults;
+#[cfg(test)]
+mod handed;
 #[cfg(test)]
 mod judged;
 #[cfg(test)]
