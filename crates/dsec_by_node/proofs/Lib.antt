@@ -1,0 +1,3 @@
+pub mod DsLaws
+pub mod GroundLaws
+pub mod TellingLaws

@@ -1,0 +1,131 @@
+-- What a call promises where a group is judged at once, or its walk ends.
+use Rattle.std.proofs.Common.{◌≡◌, ℕ, ◌+◌, ◌≤◌, [], length, Option, Some, None, IfSome, refl, sym, ap, ◌∙◌, subst, arith}
+use Rattle.dsec_spec.specs.Names.{Place}
+use Rattle.dsec_spec.specs.Outside.{Table}
+use Rattle.dsec_spec.specs.Groups.{Group}
+use Rattle.dsec_nodes.specs.World.{World, Replies, moment}
+use Rattle.dsec_nodes.specs.Nodes.{Node}
+use Rattle.dsec_nodes.specs.Walk.{node_of}
+use Rattle.dsec_nodes.specs.Machine.{started}
+use Rattle.dsec_nodes.specs.InStep.{AskedOf, GotOf, StepIs}
+use Rattle.dsec_nodes.specs.Judging.{Judged, by_node, target_of, judged_of}
+use Rattle.dsec_course.specs.Course.{Way, at_once, by_walk, way_of}
+use Rattle.dsec_course.specs.Hearing.{IsOfTable}
+use Rattle.dsec_course.proofs.AgreeingLaws.{target_below}
+use Rattle.dsec_course.proofs.GroupLaws.{NeedsWalk, WayIs, way_is, by_its_node}
+use Rattle.dsec_lookup.specs.Outside.{Outside, WasHeld, HoldsTable, replies_of}
+use Rattle.dsec_lookup.proofs.CountLaws.{counted_none}
+use Rattle.dsec_lookup.proofs.HoldingLaws.{held_of_table, holds_after}
+use Rattle.dsec_by_node.specs.Answers.{Answer, answer_by}
+use Rattle.dsec_single.specs.Trips.{Trip, first_trip, IsTrip}
+use Rattle.dsec_single.specs.Progress.{IsStuck, IsEnded}
+use Rattle.dsec_single.specs.Calls.{Tells, TellsAt, WasJudged, IsWanting, zone_on, zone_for, most_by, AgreesOn, IsSingleCall}
+use Rattle.dsec_single.proofs.EndLaws.{needs_walk}
+use Rattle.dsec_single.proofs.TripLaws.{HoldsTrip, got_of}
+use Rattle.dsec_single.proofs.ServeLaws.{trip_holds, trip_first}
+
+module _ (w : World) (group : Group) (table : Option Table) (before after : Outside) where
+  -- what is told where a walk ends is what the recursion tells by each table of which it is
+  told_by : (top : Place) (lost : ℕ) (t : Trip) (answer : Option Answer) (replies : Replies) → NeedsWalk w group top
+      → IsTrip w table before after top (target_of group (Some top)) lost t → TellsAt w group t.step answer → HoldsTable w replies before.held
+      → AskedOf replies t.walk.asked → Tells (answer_by group (moment w) (judged_of w replies group).finding) answer
+  told_by top lost t None replies needs s tells h asked = tt
+  told_by top lost t (Some a) replies needs s (n, e, f) h asked =
+      let target : Place = target_of group (Some top) in
+      let held : Node → Type 0 = WasHeld w.accepts before.held in
+      let holds : HoldsTrip w held top target t = trip_holds w table before after top target lost t s in
+      let of : (m : Node) → held m → IsOfTable w replies m = held_of_table w replies before.held h in
+      let got : GotOf w replies t.walk.top t.walk.got = got_of w replies held t.puts t.walk of (holds.of_table replies of asked) holds.given in
+      let is : node_of w replies t.walk.top t.walk.target ≡ n = subst (StepIs w replies t.walk) e (holds.goes.says replies asked got) in
+      let there : node_of w replies top target ≡ n = subst (λ (p : Place). node_of w replies p target ≡ n) holds.same_top
+      (subst (λ (p : Place). node_of w replies t.walk.top p ≡ n) holds.same_target is) in
+      let same : judged_of w replies group ≡ by_node w group n = by_its_node w replies group (started top target) n
+      (record { has_records = needs.has_records; from_island = needs.from_island; to_signer = refl }) there in
+      f ∙ ap (λ (j : Judged). answer_by group (moment w) j.finding) (sym same)
+
+  -- a walk that has come so far
+  pub walked_call : (top : Place) (lost : ℕ) (t : Trip) (answer : Option Answer) → way_of w group ≡ by_walk top
+      → IsTrip w table before after top (target_of group (Some top)) lost t → IsWanting answer lost → TellsAt w group t.step answer
+      → IsSingleCall w group table before after answer
+  walked_call top lost t answer way s wanting tells = record {
+    asked = t.walk.asked;
+    lost = lost;
+    counted = s.counted;
+    wanting = wanting;
+    few = subst (λ (x : Way). length t.walk.asked + lost ≤ most_by group x) (sym way) s.few;
+    judged = subst (WasJudged w group (WasHeld w.accepts before.held) t.walk.asked answer) (sym way) (record {
+      inputs = s.inputs;
+      given = s.given;
+      are = ap (λ (x : Trip). x.walk.asked) (sym s.comes_to);
+      tells = subst (λ (x : Trip). TellsAt w group x.step answer) (sym s.comes_to) tells;
+    });
+    agrees = λ replies h asked.
+        let target : Place = target_of group (Some top) in
+        let of : (m : Node) → WasHeld w.accepts before.held m → IsOfTable w replies m = held_of_table w replies before.held h in
+        record {
+          tells = told_by top lost t answer replies (needs_walk w group top way) s tells h asked;
+          holds = holds_after w replies before.held after.held t.puts s.holds_more h
+              ((trip_holds w table before after top target lost t s).of_table replies of asked);
+        };
+  }
+
+  -- a walk that has come to its end
+  pub ended_call : (top : Place) (n : Node) (a : Answer) → way_of w group ≡ by_walk top
+      → IsEnded w table before after top (target_of group (Some top)) n → a ≡ answer_by group (moment w) (by_node w group n).finding
+      → IsSingleCall w group table before after (Some a)
+  ended_call top n a way (t, e, s) f = walked_call top 0 t (Some a) way s refl (n, e, f)
+
+  -- or to its end, and there is no memory for what is told
+  pub ended_without : (top : Place) (n : Node) → way_of w group ≡ by_walk top
+      → IsEnded w table before after top (target_of group (Some top)) n → IsSingleCall w group table before after None
+  ended_without top n way (t, e, s) = walked_call top 0 t None way s (omega arith) tt
+
+  -- or no further
+  pub stuck_call : (top : Place) → way_of w group ≡ by_walk top → IsStuck w table before after top (target_of group (Some top))
+      → IsSingleCall w group table before after None
+  stuck_call top way (t, lost, one, s) = walked_call top lost t None way s one tt
+
+  -- by a table that is told
+  pub told_call : (answer : Option Answer) → IsSingleCall w group table before after answer
+      → IfSome table (λ t. HoldsTable w (replies_of t) before.held → AgreesOn w group after answer (replies_of t))
+  told_call answer c = by table c.counted.told
+    where
+      by : (o : Option Table) → IfSome o (λ t. AskedOf (replies_of t) c.asked)
+          → IfSome o (λ t. HoldsTable w (replies_of t) before.held → AgreesOn w group after answer (replies_of t))
+      by None told = tt
+      by (Some t) told = λ h. c.agrees (replies_of t) h told
+
+module _ (w : World) (group : Group) (table : Option Table) (before : Outside) where
+  -- a group that is judged at once
+  pub once_call : (j : Judged) (answer : Option Answer) → way_of w group ≡ at_once j → IsWanting answer 0
+      → Tells (answer_by group (moment w) j.finding) answer → IsSingleCall w group table before before answer
+  once_call j answer way wanting tells =
+      let once = subst (WayIs w group) way (way_is w group) in
+      record {
+        asked = [];
+        lost = 0;
+        counted = counted_none table before;
+        wanting = wanting;
+        few = omega arith;
+        judged = subst (WasJudged w group (WasHeld w.accepts before.held) [] answer) (sym way) (refl, tells);
+        agrees = λ replies h asked. record {
+          tells = subst (λ (x : Judged). Tells (answer_by group (moment w) x.finding) answer) (sym (once.same replies)) tells;
+          holds = h;
+        };
+      }
+
+  -- there is no memory to begin with
+  pub unbegun_call : IsSingleCall w group table before before None
+  unbegun_call = by (way_of w group) refl
+    where
+      by : (x : Way) → way_of w group ≡ x → IsSingleCall w group table before before None
+      by (at_once j) e = once_call j None e (omega arith) tt
+      by (by_walk top) e =
+          let needs = needs_walk w group top e in
+          let f = target_below w group top needs.from_island in
+          walked_call w group table before before top 0 (first_trip w top (target_of group (Some top))) None e
+          (trip_first w table before top (target_of group (Some top)) f.below f.shorter) (omega arith) tt
+
+  -- the zone that is to have signed a group
+  pub zone_is : (x : Way) → way_of w group ≡ x → zone_for w group ≡ zone_on group x
+  zone_is x e = ap (zone_on group) e

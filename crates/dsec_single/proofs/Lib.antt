@@ -1,0 +1,10 @@
+pub mod NameLaws
+pub mod TripLaws
+pub mod ServeLaws
+pub mod StepLaws
+pub mod TurnLaws
+pub mod WayLaws
+pub mod EndLaws
+pub mod CallLaws
+pub mod SoundLaws
+pub mod ClosingLaws

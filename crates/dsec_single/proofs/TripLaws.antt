@@ -1,0 +1,197 @@
+-- A walk over nodes that were held and an upstream goes on soundly and in step, whatever it is given of what was held, kept, and of what it has put.
+use Rattle.std.proofs.Common.{◌≡◌, ◌⊎◌, ◌≤◌, List, [], ◌∷◌, ◌++◌, length, take, refl, sym, ap, ◌∙◌, subst, inl, inr}
+use Rattle.std.specs.Prelude.{Contains}
+use Rattle.std.specs.List.{AllByRecursion}
+use Rattle.std.proofs.lemmas.Option.{same_Some}
+use Rattle.dsec_spec.specs.Names.{Place, place}
+use Rattle.dsec_spec.specs.Records.{Record}
+use Rattle.dsec_spec.proofs.Members.{in_more, not_in_none, in_either}
+use Rattle.dsec_nodes.specs.World.{World, Replies}
+use Rattle.dsec_nodes.specs.Nodes.{Node, Kept}
+use Rattle.dsec_nodes.specs.Walk.{node_of}
+use Rattle.dsec_nodes.specs.Taking.{RestsAt}
+use Rattle.dsec_nodes.specs.Machine.{Question as Asked, Walking, Step, node_get, node_put, ask, done, Input, begin, node, stored, reply, started, name_at, asked_type, advanced, Answers}
+use Rattle.dsec_nodes.specs.InStep.{AskedOf, GotOf, InStep, StepIs, Goes}
+use Rattle.dsec_nodes.specs.SoundSteps.{InputKept, StepKept, Sound}
+use Rattle.dsec_nodes.proofs.CountLaws.{started_counted}
+use Rattle.dsec_nodes.proofs.MachineLaws.{advanced_goes, started_in_step}
+use Rattle.dsec_nodes.proofs.SoundWalk.{advanced_sound, started_sound}
+use Rattle.dsec_course.specs.Hearing.{GivenFrom, IsOfTable}
+use Rattle.dsec_course.proofs.Lists.{all_front, all_both, all_map}
+use Rattle.dsec_course.proofs.TraceLaws.{Trace, in_longer, input_kept}
+use Rattle.dsec_course.proofs.WalkPuts.{PutUnder, put_under}
+use Rattle.dsec_course.proofs.WalkSteps.{WalkAwaits, HasReached, asked_after, GotMore, Advances, advances}
+use Rattle.dsec_walk.specs.UnderWay.{IsUnderWay}
+use Rattle.dsec_walk.proofs.UnderWayLaws.{advanced_under_way}
+use Rattle.dsec_single.specs.Trips.{Trip, put_in, trip_at, first_trip, trip_on, AreGiven, after_given}
+use Rattle.dsec_single.proofs.NameLaws.{IsNamed, EndsAtTarget, Names, advanced_names}
+
+-- What holds of a walk on its way. It is from an island to a name, sound and in step, and waits for what answers its step; its nodes were held before or
+-- put, and their anchors are the island's; and by each table of which the held nodes and its replies are, so are the nodes that it has put
+pub record HoldsTrip (w : World) (held : Node → Type 0) (top target : Place) (t : Trip) : Type 0 where
+  pub same_top : t.walk.top ≡ top
+  pub same_target : t.walk.target ≡ target
+  pub under_way : IsUnderWay w t.walk
+  pub step_kept : StepKept w t.walk.top t.step
+  pub goes : Goes w (t.walk, t.step)
+  pub awaits : WalkAwaits t.step t.walk
+  pub reached : HasReached t.step t.walk.reached
+  pub named : IsNamed t.walk t.walk.reached
+  pub at_end : EndsAtTarget t.walk t.step
+  pub given : Trace w held t.puts t.walk
+  pub kept : (n : Node) → Contains t.puts n → Kept w.accepts n
+  pub of_table : (replies : Replies) → ((n : Node) → held n → IsOfTable w replies n) → AskedOf replies t.walk.asked
+      → (n : Node) → Contains t.puts n → IsOfTable w replies n
+
+-- what is in a list of one is that one
+only : (x y : Node) → Contains (x ∷ []) y → x ≡ y
+only x y h = elim (in_more x y [] h) [
+  | inl same ↦ same
+  | inr none ↦ absurd (not_in_none y none)
+]
+
+-- a node has one anchor, and so one island
+same_island : (anchors : List Record) (a b : Place) (n : Node) → RestsAt anchors a n → RestsAt anchors b n → a ≡ b
+same_island anchors a b n r s =
+    sym r.at ∙ (ap (λ (x : Record). place x.owner) (same_Some r.anchor s.anchor (sym r.its ∙ s.its)) ∙ s.at)
+
+-- where a node was given from, with one more that was given
+trace_more : (w : World) (held : Node → Type 0) (puts : List Node) (s t : Walking) (i : Input) (got : List Node) → t.top ≡ s.top → t.got ≡ got
+    → GotMore w s i got → GivenFrom held puts i → Trace w held puts s → Trace w held puts t
+trace_more w held puts s t i got top is more from h =
+    subst (AllByRecursion (At t.top)) (sym is) (subst (λ (p : Place). AllByRecursion (At p) got) (sym top) all)
+  where
+    At : Place → Node → Type 0
+    At p n = (held n ⊎ Contains puts n) × RestsAt w.anchors p n
+
+    all : AllByRecursion (At s.top) got
+    all = elim more [
+      | inl same ↦ subst (AllByRecursion (At s.top)) (sym same) h
+      | inr new ↦ subst (AllByRecursion (At s.top)) (sym new.2)
+          (all_both (At s.top) s.got (new.0 ∷ []) h ((subst (GivenFrom held puts) new.1 from, new.3), tt))
+    ]
+
+-- where the held nodes and the puts are of a table, so are those that were given
+pub got_of : (w : World) (replies : Replies) (held : Node → Type 0) (puts : List Node) (s : Walking) → ((n : Node) → held n → IsOfTable w replies n)
+    → ((n : Node) → Contains puts n → IsOfTable w replies n) → Trace w held puts s → GotOf w replies s.top s.got
+got_of w replies held puts s h p t =
+    all_map (λ (n : Node). (held n ⊎ Contains puts n) × RestsAt w.anchors s.top n) (λ (n : Node). node_of w replies s.top n.name ≡ n) s.got
+    (λ n f. elim f.0 [ inl x ↦ h n x s.top f.1 | inr x ↦ p n x s.top f.1 ]) t
+
+-- a node that a step puts is kept
+put_kept : (w : World) (top : Place) (x : Step) → PutUnder w top x → (n : Node) → Contains (put_in x) n → Kept w.accepts n
+put_kept w top (node_put name m) h n there = subst (Kept w.accepts) (only m n there) h.0.0.0
+put_kept w top (node_get name) h n there = absurd (not_in_none n there)
+put_kept w top (ask name rtype) h n there = absurd (not_in_none n there)
+put_kept w top (done m) h n there = absurd (not_in_none n there)
+
+-- and of the table, where what was given is
+put_of_table : (w : World) (replies : Replies) (s : Walking) (x : Step) → PutUnder w s.top x → StepIs w replies s x → (n : Node) → Contains (put_in x) n
+    → IsOfTable w replies n
+put_of_table w replies s (node_put name m) h is n there =
+    subst (IsOfTable w replies) (only m n there) (λ top r.
+    let same : top ≡ s.top = same_island w.anchors top s.top m r (h.0.1 h.1) in
+    ap (λ (p : Place). node_of w replies p m.name) same ∙ (ap (λ (p : Place). node_of w replies s.top p) h.0.0.1 ∙ is))
+put_of_table w replies s (node_get name) h is n there = absurd (not_in_none n there)
+put_of_table w replies s (ask name rtype) h is n there = absurd (not_in_none n there)
+put_of_table w replies s (done m) h is n there = absurd (not_in_none n there)
+
+-- what was asked before an input is of a table where what is asked after it is
+asked_before : (replies : Replies) (s : Walking) (i : Input) → AskedOf replies (asked_after s i) → AskedOf replies s.asked
+asked_before replies s begin h = h
+asked_before replies s (node o) h = h
+asked_before replies s stored h = h
+asked_before replies s (reply octets) h =
+    all_front (λ (q : Asked). replies q.name q.rtype ≡ q.reply) s.asked (record { name = name_at s; rtype = asked_type s.phase s.reached; reply = octets } ∷ []) h
+
+-- a walk that is sound, in step, and of what it was given, goes on so
+go_on : (w : World) (held : Node → Type 0) (top target : Place) (puts : List Node) (s : Walking) (input : Input) → ((n : Node) → held n → Kept w.accepts n)
+    → s.top ≡ top → s.target ≡ target → IsUnderWay w s → InStep w s → IsNamed s s.reached → Trace w held puts s
+    → ((n : Node) → Contains puts n → Kept w.accepts n)
+    → ((replies : Replies) → ((n : Node) → held n → IsOfTable w replies n) → AskedOf replies s.asked → (n : Node) → Contains puts n → IsOfTable w replies n)
+    → Answers s.phase input → GivenFrom held puts input → HoldsTrip w held top target (trip_at puts (advanced w s input))
+go_on w held top target puts s input kept same_top same_target under_way steps named given puts_kept of_table a from = record {
+  same_top = l.leaves.same_top ∙ same_top;
+  same_target = l.leaves.same_target ∙ same_target;
+  under_way = advanced_under_way w s input under_way a input_is;
+  step_kept = going.1;
+  goes = goes;
+  awaits = l.leaves.awaits under_way.is_counted.waits;
+  reached = l.leaves.reached;
+  named = names.named;
+  at_end = names.at_end;
+  given = all_map (λ (n : Node). (held n ⊎ Contains puts n) × RestsAt w.anchors p.0.top n)
+      (λ (n : Node). (held n ⊎ Contains (puts ++ put_in p.1) n) × RestsAt w.anchors p.0.top n) p.0.got (λ n y. (longer n y.0, y.1)) traced;
+  kept = λ n there. elim (in_either n puts (put_in p.1) there) [
+    | inl old ↦ puts_kept n old
+    | inr new ↦ put_kept w s.top p.1 under n new
+  ];
+  of_table = λ replies h asked n there.
+      let before : AskedOf replies s.asked = asked_before replies s input (subst (AskedOf replies) (l.leaves.asked_is under_way.is_counted.waits) asked) in
+      let old : (m : Node) → Contains puts m → IsOfTable w replies m = of_table replies h before in
+      elim (in_either n puts (put_in p.1) there) [
+        | inl x ↦ old n x
+        | inr x ↦ put_of_table w replies p.0 p.1 (subst (λ (q : Place). PutUnder w q p.1) (sym l.leaves.same_top) under)
+            (goes.says replies asked (got_of w replies held puts p.0 h old traced)) n x
+      ];
+}
+  where
+    p : Walking × Step
+    p = advanced w s input
+
+    l : Advances w s input
+    l = advances w s input a
+
+    input_is : InputKept w input
+    input_is = input_kept w held puts input kept puts_kept from
+
+    going : Sound w p
+    going = advanced_sound w s input under_way.is_sound a input_is
+
+    goes : Goes w p
+    goes = advanced_goes w s input steps a
+
+    names : Names p
+    names = advanced_names w s input under_way.is_sound named a
+
+    under : PutUnder w s.top p.1
+    under = put_under w s input under_way.is_sound a
+
+    traced : Trace w held puts p.0
+    traced = trace_more w held puts s p.0 input l.got l.leaves.same_top l.leaves.got_is l.more from given
+
+    longer : (n : Node) → held n ⊎ Contains puts n → held n ⊎ Contains (puts ++ put_in p.1) n
+    longer n x = elim x [ inl y ↦ inl y | inr y ↦ inr (in_longer puts (put_in p.1) n y) ]
+
+-- A walk on its way goes on
+pub trip_goes_on : (w : World) (held : Node → Type 0) (top target : Place) (t : Trip) (input : Input) → ((n : Node) → held n → Kept w.accepts n)
+    → HoldsTrip w held top target t → Answers t.walk.phase input → GivenFrom held t.puts input → HoldsTrip w held top target (trip_on w t input)
+trip_goes_on w held top target t input kept h a from =
+    go_on w held top target t.puts t.walk input kept h.same_top h.same_target h.under_way h.goes.in_step h.named h.given h.kept h.of_table a from
+
+-- and it begins
+pub trip_begins : (w : World) (held : Node → Type 0) (top target : Place) → ((n : Node) → held n → Kept w.accepts n) → top ≡ take (length top) target
+    → length top ≤ length target → HoldsTrip w held top target (first_trip w top target)
+trip_begins w held top target kept below le =
+    go_on w held top target [] (started top target) begin kept refl refl under_way
+    (started_in_step w top target below le) tt tt (λ n there. absurd (not_in_none n there)) (λ replies h asked n there. absurd (not_in_none n there)) tt tt
+  where
+    under_way : IsUnderWay w (started top target)
+    under_way = record { is_sound = started_sound w top target below le; is_counted = started_counted top target; in_zone = tt }
+
+-- after all inputs it is so
+pub given_holds : (w : World) (held : Node → Type 0) (top target : Place) (inputs : List Input) (t : Trip) → ((n : Node) → held n → Kept w.accepts n)
+    → HoldsTrip w held top target t → AreGiven w held t inputs → HoldsTrip w held top target (after_given w t inputs)
+given_holds w held top target [] t kept h a = h
+given_holds w held top target (i ∷ inputs) t kept h a =
+    given_holds w held top target inputs (trip_on w t i) kept (trip_goes_on w held top target t i kept h a.0 a.1) a.2
+
+-- one input more
+pub given_more : (w : World) (held : Node → Type 0) (inputs : List Input) (t : Trip) (i : Input) → AreGiven w held t inputs
+    → Answers (after_given w t inputs).walk.phase i → GivenFrom held (after_given w t inputs).puts i → AreGiven w held t (inputs ++ i ∷ [])
+given_more w held [] t i h a from = (a, from, tt)
+given_more w held (x ∷ inputs) t i h a from = (h.0, h.1, given_more w held inputs (trip_on w t x) i h.2 a from)
+
+pub after_more : (w : World) (inputs : List Input) (t : Trip) (i : Input) → after_given w t (inputs ++ i ∷ []) ≡ trip_on w (after_given w t inputs) i
+after_more w [] t i = refl
+after_more w (x ∷ inputs) t i = after_more w inputs (trip_on w t x) i

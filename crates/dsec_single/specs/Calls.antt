@@ -1,0 +1,92 @@
+-- What a call promises that validates a single group over caches and an upstream (RFC 4033 5, RFC 4035 4.3, 4.5, 5).
+use Rattle.std.specs.Prelude.{◌≡◌, ◌≤◌, ◌+◌, ℕ, List, [], length, Option, Some, None, Result, Ok, Err}
+use Rattle.dsec_spec.specs.Names.{Place}
+use Rattle.dsec_spec.specs.Outside.{Table}
+use Rattle.dsec_spec.specs.Groups.{Group}
+use Rattle.dsec_group.specs.declared.state.ValidationState.TheVariants.{Insecure, Indeterminate}
+use Rattle.dsec_nodes.specs.World.{World, Replies, moment}
+use Rattle.dsec_nodes.specs.Causes.{RrsigWithoutRrset, NoTrustAnchor}
+use Rattle.dsec_nodes.specs.Nodes.{Node}
+use Rattle.dsec_nodes.specs.Machine.{Question as Asked, Step, Input, done}
+use Rattle.dsec_nodes.specs.InStep.{AskedOf}
+use Rattle.dsec_nodes.specs.Judging.{by_node, target_of, judged_of}
+use Rattle.dsec_course.specs.Course.{Way, at_once, by_walk, way_of}
+use Rattle.dsec_course.specs.Justified.{most_on}
+use Rattle.dsec_lookup.specs.Outside.{Outside, AreCounted, WasHeld, HoldsTable}
+use Rattle.dsec_by_node.specs.Answers.{Answer, answer_by, Told}
+use Rattle.dsec_single.specs.Trips.{first_trip, AreGiven, after_given}
+
+-- the zone that is to have signed a group, by how it is judged; the root for one of signatures alone (RFC 4035 5.3.1)
+abbrev pub zone_on : Group → Way → Place
+zone_on group (at_once j) = j.signer
+zone_on group (by_walk top) = target_of group (Some top)
+
+abbrev pub zone_for : World → Group → Place
+zone_for w group = zone_on group (way_of w group)
+
+-- how many questions are asked for a group at most: one at its island, and two at each name below it down to its zone; none where it is judged
+-- at once (RFC 4035 5.2)
+abbrev pub most_by : Group → Way → ℕ
+most_by group (at_once j) = 0
+most_by group (by_walk top) = most_on (top, target_of group (Some top))
+
+abbrev pub most_asked_for : World → Group → ℕ
+most_asked_for w group = most_by group (way_of w group)
+
+-- what is told of a group of signatures alone, and of one at or above which no anchor stands (RFC 4033 5, RFC 4035 5.3)
+abbrev pub of_signatures_alone : Told
+of_signatures_alone = record { answer = record { state = Insecure; closest_encloser = None; cause = Some RrsigWithoutRrset; adjusted = None }; shown = None }
+
+abbrev pub of_no_island : Told
+of_no_island = record { answer = record { state = Indeterminate; closest_encloser = None; cause = Some NoTrustAnchor; adjusted = None }; shown = None }
+
+-- what a call answers, if it finds memory
+abbrev pub answered : {A E : Type 0} → Result A E → (A → Answer) → Option Answer
+answered (Ok a) answer = Some (answer a)
+answered (Err e) answer = None
+
+-- the answer is this one; want of memory may come in its place
+abbrev pub Tells : Answer → Option Answer → Type 0
+Tells expected (Some answer) = answer ≡ expected
+Tells expected None = Unit {0}
+
+-- the answer is that of the node with which a walk ends; want of memory may come at any step
+abbrev pub TellsAt : World → Group → Step → Option Answer → Type 0
+TellsAt w group step (Some answer) = (n : Node) × (step ≡ done n) × (answer ≡ answer_by group (moment w) (by_node w group n).finding)
+TellsAt w group step None = Unit {0}
+
+-- The questions are those of a walk from the island to the group's zone, with their replies, and the answer is that of its end: it was given
+-- inputs, whose nodes were held when the call began or were put on the way (RFC 4035 4.3, 5)
+pub record WasWalked (w : World) (group : Group) (held : Node → Type 0) (top : Place) (asked : List Asked) (answer : Option Answer) : Type 0 where
+  pub inputs : List Input
+  pub given : AreGiven w held (first_trip w top (target_of group (Some top))) inputs
+  pub are : asked ≡ (after_given w (first_trip w top (target_of group (Some top))) inputs).walk.asked
+  pub tells : TellsAt w group (after_given w (first_trip w top (target_of group (Some top))) inputs).step answer
+
+-- the group was judged in its way: at once, and nothing was asked, or by a walk (RFC 4035 4.3)
+abbrev pub WasJudged : World → Group → (Node → Type 0) → List Asked → Option Answer → Way → Type 0
+WasJudged w group held asked answer (at_once j) = (asked ≡ []) × Tells (answer_by group (moment w) j.finding) answer
+WasJudged w group held asked answer (by_walk top) = WasWalked w group held top asked answer
+
+-- at most one question finds no memory, and then neither does the call
+abbrev pub IsWanting : Option Answer → ℕ → Type 0
+IsWanting (Some answer) lost = lost ≡ 0
+IsWanting None lost = lost ≤ 1
+
+-- by a table of which is all that was held and heard the answer is that of the recursion, and all that is held afterwards is of it
+-- (RFC 4033 5, RFC 4035 4.5)
+pub record AgreesOn (w : World) (group : Group) (after : Outside) (answer : Option Answer) (replies : Replies) : Type 0 where
+  pub tells : Tells (answer_by group (moment w) (judged_of w replies group).finding) answer
+  pub holds : HoldsTable w replies after.held
+
+-- What a call promises: there is a list of its questions with their replies. They are counted, they are few, the group was judged by them, and
+-- where all that was held and heard is of one table the answer is that of the table. An upstream that tells nothing has many tables: by each of
+-- them that has these replies, the answer is that of the table (RFC 4033 5, RFC 4035 4.3, 4.5, 5)
+pub record IsSingleCall (w : World) (group : Group) (table : Option Table) (before after : Outside) (answer : Option Answer) : Type 0 where
+  pub asked : List Asked
+  pub lost : ℕ
+  pub counted : AreCounted table before after asked lost
+  pub wanting : IsWanting answer lost
+  pub few : length asked + lost ≤ most_asked_for w group
+  pub judged : WasJudged w group (WasHeld w.accepts before.held) asked answer (way_of w group)
+  pub agrees : (replies : Replies) → HoldsTable w replies before.held → AskedOf replies asked → AgreesOn w group after answer replies

@@ -1,0 +1,5 @@
+pub mod Trips
+pub mod Progress
+pub mod Calls
+pub mod Sound
+pub mod Turns
