@@ -1,11 +1,11 @@
 """The story of a message: from the links that a verdict Secure has, or else from the script's anchors, replies and message."""
 
-from data import DNSKEY, DS, RRSIG, data_text, rrsig_from
+from data import CNAME, DNAME, DNSKEY, DS, RRSIG, data_text, rrsig_from
 from runs import Refused
 from signatures import Tests, look_at, sets_in, signer_of
 from story import ANCHOR, FAILED, GOOD, KEYS, OPEN, OUTCOME, SETS, UNSIGNED, Story, data_lines, found_lines, held_lines, set_title, signed_lines
 from walks import walk
-from wire import Unreadable, is_below, lowered, message_from
+from wire import Unreadable, is_below, lowered, message_from, name_from
 from words import name_from_text, name_text
 
 STATES = {"Secure": GOOD, "Insecure": UNSIGNED, "Bogus": FAILED, "Indeterminate": OPEN, "error": FAILED}
@@ -84,7 +84,10 @@ def story_of_script(outcome, script, tests, octets):
         story.box(None, OUTCOME, outcome.state, [str(why)], STATES[outcome.state])
         return story
     places, walks = [], {}
-    for one in sets_in(message.answer + message.authority):
+    sets = sets_in(message.answer + message.authority)
+    for one in sets:
+        if follows(one, sets):
+            continue
         island = island_of(script, one.owner, one.rtype)
         if island is None or not one.records:
             places.append(lonely_box(story, one))
@@ -96,6 +99,19 @@ def story_of_script(outcome, script, tests, octets):
         places.append(group_box(story, one, walks[word], target, tests))
     outcome_box(story, outcome, asked_text(message), places)
     return story
+
+
+def follows(one, sets):
+    """Whether a CNAME record without a signature is what a DNAME record among the sets makes of its owner (RFC 6672 3.1)."""
+    if one.rtype != CNAME or one.signatures or len(one.records) != 1:
+        return False
+    target = lowered(name_from(one.records[0], 0)[0])
+    for other in sets:
+        front = lowered(one.owner)[:len(one.owner) - len(other.owner)]
+        if other.rtype == DNAME and other.rclass == one.rclass and front and is_below(one.owner, other.owner):
+            if any(front + lowered(name_from(data, 0)[0]) == target for data in other.records):
+                return True
+    return False
 
 
 def asked_text(message):

@@ -126,9 +126,10 @@ def svg(story):
         parts.append('<rect x="%.1f" y="%.1f" width="%.1f" height="%.1f" rx="9" fill="#fbfbfd" stroke="#b0b6c2"/>' % (
             frame.x, frame.y, frame.width, frame.height))
         parts.append('<g font-size="13">' + svg_text(frame.x + ZONE, frame.y + 24, "zone " + frame.word, "#37474f", True) + "</g>")
+    # arrows lie beneath boxes, so that none strikes a text through
+    parts += [svg_arrow(placed[arrow.start], placed[arrow.end], arrow.state) for arrow in story.arrows]
     for one in placed:
         parts += svg_box(one)
-    parts += [svg_arrow(placed[arrow.start], placed[arrow.end], arrow.state) for arrow in story.arrows]
     return "\n".join(parts + ["</svg>"]) + "\n"
 
 
