@@ -1,6 +1,6 @@
 """Checks that the documents say what the repository has: the drawing of crates in ARCHITECTURE.md is that of crates.txt,
-THEOREMS.md names each bug of must-fail/ in bold, each of planted/ plainly, and no other, USING.md has each cause's text, and
-examples/README.md each example.
+THEOREMS.md names each bug of must-fail/ in bold, each of planted/ plainly, and no other, a file that DEFINITIONS.md names for definitions
+has them, USING.md has each cause's text, and examples/README.md each example.
 
 usage: docs/check.py
 """
@@ -92,6 +92,28 @@ def named():
         yield "THEOREMS.md doesn't name %s of %s" % (name, ", ".join(tried.get(name, planted.get(name, []))))
 
 
+def defined():
+    """The files that a row names last, below the folder or the file of its heading, have the names that it begins with."""
+    for section in re.split(r"(?m)^## ", read("docs", "DEFINITIONS.md"))[1:]:
+        heading = re.findall(r"`([^`]+)`", section.splitlines()[0])
+        folder = next((word for word in heading if word.endswith("/")), "dsec_spec/specs/")
+        for row in section.splitlines():
+            cells = [cell.strip() for cell in row.strip("|").split(" | ")]
+            files = [word for cell in cells for word in re.findall(r"`([\w/]+\.antt)`", cell)] or [word for word in heading if word.endswith(".antt")]
+            if not row.startswith("| `") or not files:
+                continue
+            text = ""
+            for file in files:
+                folder = file.rpartition("/")[0] + "/" if "/" in file else folder
+                path = os.path.join(TOP, "crates", folder, file.rpartition("/")[2])
+                text += read(path) if os.path.exists(path) else ""
+                if not text:
+                    yield "DEFINITIONS.md names %s, which isn't there" % file
+            for word in re.findall(r"`([\w-]+)`", cells[0]):
+                if not re.search(r"(?<![\w-])%s(?![\w-])" % word, text):
+                    yield "DEFINITIONS.md has %s in %s, where it isn't" % (word, ", ".join(files))
+
+
 def explained():
     using, shown = read("docs", "USING.md"), read("examples", "README.md")
     texts = re.findall(r'=>\s*"([^"]+)"', read("crates", "dsec_cause", "src", "cause.rt"))
@@ -104,7 +126,7 @@ def explained():
             yield "examples/README.md doesn't name %s" % file
 
 
-faults = list(drawn()) + list(named()) + list(explained())
+faults = list(drawn()) + list(named()) + list(defined()) + list(explained())
 for fault in faults:
     print(fault)
 print("docs: %d faults" % len(faults))
