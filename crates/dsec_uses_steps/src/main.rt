@@ -1,0 +1,78 @@
+//! Judges messages a step at a time, in one loop over events: while one message waits for a reply, others go on. An event is a line of the
+//! standard input.
+#![tactic(auto)]
+
+mod event;
+
+ghost use Rattle.std.specs.Prelude.{◌≡◌, ◌<◌};
+
+use anyhow::{Error, Result};
+use dsec_anchors::TrustAnchors;
+use dsec_core::{Input, Step, Validation};
+use dsec_crypto::StandIn;
+use dsec_group::{NoMemo, Steps};
+use dsec_node::{Caches, Config, OwnedCaches};
+use event::{Event, read_event};
+use std::marker::Brand;
+use std::sync::ledger::{Blank, Ledger};
+
+/// The key of the zone that is trusted.
+const ANCHOR: &str = "example. 3600 IN DNSKEY 257 3 13 AQI=";
+
+/// The moment at which messages are judged, in seconds since 1970.
+const NOW: u64 = 500;
+
+/// Goes on with a message until it asks a question or is judged. Nodes of zones are at hand here; where they are kept elsewhere, to get and to
+/// put one are events too.
+fn go_on<L: Ledger>(
+    rt: &HostRuntime,
+    index: usize,
+    validation: &mut Validation<StandIn>,
+    caches: &mut OwnedCaches<StandIn>,
+    steps: &mut Steps<L>,
+    input: Input<StandIn>,
+) -> Result<()> {
+    let mut input = input;
+    while validation.awaits(&input) {
+        match validation.advance(rt.alloc(), input, &mut NoMemo, steps)? {
+            Step::NodeGet(name) => input = Input::Node(caches.get(&name).map_err(Error::msg)?),
+            Step::NodePut(name, node) => {
+                caches.put(name, &node).map_err(Error::msg)?;
+                input = Input::Stored;
+            }
+            Step::Ask(name, rtype) => return Ok(println!(rt; "{index} asks {name} {rtype}")?),
+            Step::Done(outcome) => return Ok(println!(rt; "{index} is {:?}", outcome.state())?),
+        }
+    }
+    Ok(())
+}
+
+/// The loop. Checks of signatures are counted on the ledger that the blank opens.
+fn run<L: Ledger>(rt: &HostRuntime, blank: Blank) -> Result<()>
+    requires name { blank.name ≡ L.name }
+    requires parts { blank.parts ≡ L.parts }
+    requires shared { 0 < L.parts }
+{
+    let alloc = rt.alloc();
+    let mut caches = OwnedCaches::new(alloc);
+    let mut steps = Steps::<L>::begin(blank);
+    let mut under_way = Vec::new(alloc);
+    for line in rt.lines(alloc) {
+        let (index, input) = match read_event(alloc, line?.as_str())? {
+            Event::Message(message) => {
+                let anchors = TrustAnchors::from_u8(alloc, ANCHOR.as_bytes())?;
+                under_way.push(Validation::start(alloc, anchors, Config::new(), &message, NOW)?)?;
+                (under_way.len() - 1, Input::Begin)
+            }
+            Event::Reply(index, reply) => (index, Input::Reply(reply)),
+        };
+        if let Some(validation) = under_way.get_mut(index) {
+            go_on(rt, index, validation, &mut caches, &mut steps, input)?;
+        }
+    }
+    Ok(())
+}
+
+fn main(rt: HostRuntime) -> Result<()> {
+    run::<Brand>(&rt, Blank::new(1))
+}
