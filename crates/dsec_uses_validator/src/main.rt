@@ -1,0 +1,70 @@
+//! Judges DNS replies, each a line of the standard input in hex, and says which are Secure: by an anchor, a verifier and an upstream of its own.
+#![tactic(auto)]
+
+mod resolver;
+mod verifier;
+
+ghost use Rattle.std.specs.Prelude.{IsTrue};
+ghost use Rattle.dsec_context.specs.Setting.{world_at};
+ghost use Rattle.dsec_nodes.specs.Outcomes.{Outcome};
+ghost use Rattle.dsec_nodes.specs.SoundOutcomes.{IsSound};
+ghost use Rattle.dsec_uses_validator.specs.Accepted.{by_one_algorithm};
+
+use anyhow::{Context, Error, Result};
+use dsec_anchors::TrustAnchors;
+use dsec_context::ValidationContext;
+use dsec_group::ValidationState;
+use dsec_outside::Upstream;
+use dsec_wire::Message;
+use dsec_word::read_hex;
+use resolver::{Resolver, next_line};
+use std::alloc::Global;
+use verifier::OneAlgorithm;
+
+/// The key of the zone that is trusted.
+const ANCHOR: &str = "example. 3600 IN DNSKEY 257 3 13 AQI=";
+
+/// The moment at which replies are judged, in seconds since 1970.
+const NOW: u64 = 500;
+
+/// Whether a reply is Secure: it answers by sets that signatures lead to from the context's anchors, or denies so (RFC 4033 5).
+fn is_secure<U: Upstream>(
+    alloc: Global,
+    context: &mut ValidationContext<OneAlgorithm>,
+    reply: &mut Message,
+    upstream: &mut U,
+    now: u64,
+) -> bool
+    ensures { IsTrue result → (o : Outcome) × IsSound (world_at by_one_algorithm context.old.anchors context.old.config now) context.old.config.max_cname_dname reply.old o }
+{
+    match context.validate_msg(alloc, reply, upstream, now) {
+        Ok(verdict) => matches!(verdict.outcome().state(), ValidationState::Secure),
+        Err(_) => false,
+    }
+}
+
+fn main(rt: HostRuntime) -> Result<()> {
+    let alloc = rt.alloc();
+    let anchors = TrustAnchors::from_u8(alloc, ANCHOR.as_bytes())?;
+    let mut context = ValidationContext::new(alloc, anchors);
+    let mut upstream = Resolver {
+        rt: &rt,
+        asked: 0,
+        faults: 0,
+    };
+    for _ in 0..u64::MAX {
+        let line = next_line(&rt, alloc)?;
+        if line.is_empty() {
+            break;
+        }
+        let octets = read_hex(alloc, line.trim_end().as_bytes())
+            .ok()
+            .context("no hex")?;
+        let mut reply = Message::from_octets(octets.into_vec()).map_err(Error::msg)?;
+        match is_secure(alloc, &mut context, &mut reply, &mut upstream, NOW) {
+            true => println!(rt; "secure")?,
+            false => println!(rt; "not secure")?,
+        }
+    }
+    Ok(())
+}
