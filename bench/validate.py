@@ -26,7 +26,7 @@ def record(owner, rtype, data):
 
 def signature(rtype, labels, records, tag=TAG, good=True, zone=ZONE, key=KEY):
     """The data of a signature over a set in canonical form."""
-    head = (number(rtype, 2) + bytes([13, labels]) + number(3600, 4) + number(1000, 4) + number(0, 4)
+    head = (number(rtype, 2) + bytes([13, labels]) + number(3600, 4) + number(10000, 4) + number(0, 4)
             + number(tag, 2) + zone)
     return head + (hashlib.sha256(key + head + b"".join(records)).digest() if good else bytes(32))
 
