@@ -1,8 +1,11 @@
 -- From an island's anchor down to a name (RFC 4033 3.1, RFC 4035 5.2).
-use Rattle.std.specs.Prelude.{ℕ, zero, suc, ◌+◌, ◌-◌, ◌==◌, min, List, [], ◌∷◌, length, take, find, Bool, true, false, Option, Some, None, if◌then◌else◌}
+use Rattle.std.specs.Prelude.{ℕ, zero, suc, ◌+◌, ◌-◌, ◌==◌, ◌&&◌, min, List, [], ◌∷◌, length, take, find, Bool, true, false, Option, Some, None, if◌then◌else◌}
+use Rattle.std.proofs.Math.Bool.{not}
 use Rattle.dsec_spec.specs.Names.{Place}
-use Rattle.dsec_spec.specs.Numbers.{DS, DNSKEY}
-use Rattle.dsec_spec.specs.Records.{Record}
+use Rattle.dsec_spec.specs.Numbers.{DS, DNSKEY, NSEC3, DNAME}
+use Rattle.dsec_spec.specs.Records.{Record, RecordSet}
+use Rattle.dsec_spec.specs.RecordViews.{Nsec3, nsec3_of}
+use Rattle.dsec_spec.specs.TypeBitmaps.{has_type}
 use Rattle.dsec_spec.specs.Groups.{Group, set_in}
 use Rattle.dsec_spec.specs.Trying.{Tried, good, nothing, all_bad, too_many_bad}
 use Rattle.dsec_spec.specs.Lasting.{least_ttl, ttl_for_sig}
@@ -79,10 +82,25 @@ abbrev pub after : Node → Node → Standing → Reached
 after zone n (apex keys) = record { zone = n; node = n }
 after zone n _ = record { zone = zone; node = n }
 
--- whether a walk goes on below a node: below a zone and below what is within one, and nowhere else (RFC 4033 5)
+-- whether NSEC3 data list DNAME: then what is below the record's name is redirected, and nothing stands there (RFC 5155 8.3, RFC 6672 2.4)
+abbrev pub lists_dname : Option Nsec3 → Bool
+lists_dname None = false
+lists_dname (Some nsec3) = has_type nsec3.types DNAME
+
+-- whether these are the data of one such record
+abbrev pub is_dname_shown : List (List ℕ) → Bool
+is_dname_shown (rdata ∷ []) = lists_dname (nsec3_of rdata)
+is_dname_shown _ = false
+
+-- whether a set that shows a name within a zone shows too that the name redirects what is below it (RFC 5155 8.3, RFC 6672 2.4)
+abbrev pub redirects_below : RecordSet → Bool
+redirects_below set = (set.rtype == NSEC3) && is_dname_shown set.datas
+
+-- whether a walk goes on below a node: below a zone, and below what is within one unless it redirects what is below it, and nowhere else
+-- (RFC 4033 5)
 abbrev pub goes_on : Standing → Bool
 goes_on (apex keys) = true
-goes_on (within last) = true
+goes_on (within last) = not (redirects_below last.records)
 goes_on (insecure cause signed) = false
 goes_on (bogus cause) = false
 

@@ -8,11 +8,15 @@ ghost use Rattle.dsec_nodes.specs.Machine.{arrived as arrived_at};
 ghost use Rattle.dsec_nodes.specs.Nodes as nodes;
 ghost use Rattle.dsec_nodes.specs.Walk as walks;
 ghost use Rattle.dsec_walk.specs.Views.{here_view};
+ghost use Rattle.dsec_wire.specs.DataViews.{nsec3_in};
 
 use dsec_crypto::Verifier;
+use dsec_link::RecordSet;
 use dsec_name::NoMemory;
 use dsec_node::{Node, Pending, Standing};
 use dsec_number::Rtype;
+use dsec_sorted::RtypeBitmap;
+use dsec_wire::Data;
 use std::sync::Arc;
 
 /// How far a walk has come.
@@ -33,11 +37,41 @@ pub(crate) enum Next<V: Verifier> {
     Asks(Pending),
 }
 
-/// Whether a walk goes on below a node: below a zone, and below what is within one (RFC 4033 5).
+/// Whether a walk goes on below a node: below a zone, and below what is within one (RFC 4033 5) unless it redirects what is below it.
 pub(crate) fn goes_on(standing: &Standing) -> bool
     ensures { result ≡ walks.goes_on (standing_view standing.now) }
 {
-    !matches!(standing, Standing::Insecure(_, _) | Standing::Bogus(_))
+    match standing {
+        Standing::Apex(_) => true,
+        Standing::Within(last) => !redirects_below(last.records()),
+        Standing::Insecure(_, _) | Standing::Bogus(_) => false,
+    }
+}
+
+/// Whether a set that shows a name within a zone is an NSEC3 record with DNAME, which redirects what is below the name (RFC 5155 8.3,
+/// RFC 6672 2.4).
+fn redirects_below(set: &RecordSet) -> bool
+    ensures { result ≡ walks.redirects_below set.now }
+{
+    match set.datas() {
+        [one] => lists_dname(one),
+        _ => false,
+    }
+}
+
+/// Whether data are those of an NSEC3 record with DNAME.
+fn lists_dname(data: &Data) -> bool
+    ensures { result ≡ walks.lists_dname (nsec3_in data.now) }
+{
+    match data.nsec3() {
+        Some(nsec3) => {
+            let bitmap = RtypeBitmap {
+                octets: nsec3.types,
+            };
+            bitmap.contains(Rtype::DNAME)
+        }
+        None => false,
+    }
 }
 
 /// Whether it is bogus.
