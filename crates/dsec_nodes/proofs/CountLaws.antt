@@ -149,7 +149,7 @@ asked_at_most w s h c = by s.phase refl s.reached refl
         let one : one_more s.phase ≡ 1 = ap one_more e in
         let ahead : IsFurther s s.reached = subst (IsAhead s) e h.is_ahead in
         let further : is_further s r ≡ true = subst (IsFurther s) f ahead in
-        let parts = and_parts (goes_on r.node.standing) (nat_le (length s.top + s.behind) (length s.target)) further in
+        let parts = and_parts (goes_on r.node) (nat_le (length s.top + s.behind) (length s.target)) further in
         let le : length s.top + s.behind ≤ length s.target = leb-true (length s.top + s.behind) (length s.target) parts.1 in
         let behind : 1 ≤ s.behind = subst (HasBegun s) f c.begun in
         omega (arith, c.counted, one, le, behind)

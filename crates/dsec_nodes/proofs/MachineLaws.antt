@@ -31,18 +31,18 @@ pub record Stands (w : World) (s : Walking) : Type 0 where
 -- a walk that doesn't go on has reached the name's node
 at_end : (w : World) (replies : Replies) (s : Walking) (r : Reached) → is_further s r ≡ false → ReachedIs w replies s (Some r)
     → node_of w replies s.top s.target ≡ r.node
-at_end w replies s r e f = by (goes_on r.node.standing) refl e
+at_end w replies s r e f = by (goes_on r.node) refl e
   where
     last : length s.target - length s.top ≡ f.0 → node_of w replies s.top s.target ≡ r.node
     last same = ap (λ (m : ℕ). (way w replies s.top s.target m).node) same ∙ ap (λ (x : Reached). x.node) f.3
 
-    by : (b : Bool) → goes_on r.node.standing ≡ b → (b && nat_le (length s.top + s.behind) (length s.target)) ≡ false
+    by : (b : Bool) → goes_on r.node ≡ b → (b && nat_le (length s.top + s.behind) (length s.target)) ≡ false
         → node_of w replies s.top s.target ≡ r.node
     by true g h = let over = leb-false (length s.top + s.behind) (length s.target) h in last (omega (arith, over, f.1, f.2))
     by false g h =
         let rest : length s.target - length s.top ≡ f.0 + (length s.target - length s.top - f.0) = omega (arith, f.2) in
         ap (λ (m : ℕ). (way w replies s.top s.target m).node) rest
-        ∙ ap (λ (x : Reached). x.node) (ended w replies s.top s.target f.0 (length s.target - length s.top - f.0) (ap (λ (x : Reached). goes_on x.node.standing) f.3 ∙ g) ∙ f.3)
+        ∙ ap (λ (x : Reached). x.node) (ended w replies s.top s.target f.0 (length s.target - length s.top - f.0) (ap (λ (x : Reached). goes_on x.node) f.3 ∙ g) ∙ f.3)
 
 -- the next step from what is reached is the recursion's
 pub ahead_goes : (w : World) (s : Walking) → Stands w s → Goes w (ahead s)

@@ -6,7 +6,7 @@ use Rattle.std.proofs.Math.Nat.{min-eq_left}
 use Rattle.dsec_spec.specs.Names.{Place}
 use Rattle.dsec_nodes.specs.World.{World, Replies}
 use Rattle.dsec_nodes.specs.Nodes.{Node, bogus}
-use Rattle.dsec_nodes.specs.Walk.{at_anchor, Reached, goes_on, after, next, way, node_of}
+use Rattle.dsec_nodes.specs.Walk.{at_anchor, Reached, goes_on, goes_on_at, after, next, way, node_of}
 use Rattle.dsec_nodes.specs.Machine.{Walking, name_at, arrived, IsFurther}
 use Rattle.dsec_nodes.specs.InStep.{ReachedIs}
 use Rattle.dsec_nodes.proofs.WalkLaws.{way_to}
@@ -29,7 +29,7 @@ pub reach : (w : World) (replies : Replies) (s : Walking) (o : Option Reached) (
     → NextIs w replies s o n → way w replies s.top s.target s.behind ≡ arrived o n
 reach w replies s None n f g e = ap (way w replies s.top s.target) f ∙ ap (λ (x : Node). record { zone = x; node = x }) e
 reach w replies s (Some r) n f g e =
-    let on : goes_on (way w replies s.top s.target f.0).node.standing ≡ true = ap (λ (x : Reached). goes_on x.node.standing) f.3 ∙ (and_parts _ _ g).0 in
+    let on : goes_on (way w replies s.top s.target f.0).node ≡ true = ap (λ (x : Reached). goes_on x.node) f.3 ∙ (and_parts _ _ g).0 in
     let it : next w replies (way w replies s.top s.target f.0) (take (length s.top + suc f.0) s.target) ≡ n =
     ap (λ (x : Reached). next w replies x (take (length s.top + suc f.0) s.target)) f.3 ∙ (ap (λ (m : ℕ). next w replies r (take (length s.top + m) s.target)) (sym f.1) ∙ e) in
     ap (way w replies s.top s.target) f.1 ∙ (arrives w replies s.top s.target f.0 n on it ∙ ap (λ (x : Reached). after x.zone n n.standing) f.3)
@@ -62,7 +62,7 @@ got_next w replies s o n below le f g named e = by o f g
     by : (p : Option Reached) → ReachedIs w replies s p → IsFurther s p → NextIs w replies s p n
     by None f g = ap (λ (m : ℕ). (way w replies s.top s.target m).node) (sym f) ∙ there None f g
     by (Some r) f g =
-        let on : goes_on (way w replies s.top s.target f.0).node.standing ≡ true = ap (λ (x : Reached). goes_on x.node.standing) f.3 ∙ (and_parts _ _ g).0 in
+        let on : goes_on (way w replies s.top s.target f.0).node ≡ true = ap (λ (x : Reached). goes_on x.node) f.3 ∙ (and_parts _ _ g).0 in
         ap (λ (m : ℕ). next w replies r (take (length s.top + m) s.target)) f.1
         ∙ (ap (λ (x : Reached). next w replies x (take (length s.top + suc f.0) s.target)) (sym f.3)
         ∙ (sym (was_next w replies s.top s.target f.0 on) ∙ (ap (λ (m : ℕ). (way w replies s.top s.target m).node) (sym f.1) ∙ there (Some r) f g)))
@@ -85,7 +85,7 @@ pub bogus_is : (w : World) (replies : Replies) (s : Walking) (o : Option Reached
     → ReachedIs w replies s o → IsFurther s o → NextIs w replies s o n → node_of w replies s.top s.target ≡ n
 bogus_is w replies s o n cause b below le f g e =
     let it = reach w replies s o n f g e in
-    let ends_there : goes_on (way w replies s.top s.target s.behind).node.standing ≡ false = ap (λ (x : Reached). goes_on x.node.standing) it ∙ (ap (λ (x : Node). goes_on x.standing) (arrived_node o n) ∙ ap goes_on b) in
+    let ends_there : goes_on (way w replies s.top s.target s.behind).node ≡ false = ap (λ (x : Reached). goes_on x.node) it ∙ (ap (λ (x : Node). goes_on x) (arrived_node o n) ∙ ap (goes_on_at n.name) b) in
     let rest : length s.target - length s.top ≡ s.behind + (length s.target - length s.top - s.behind) = omega (arith, within_target w replies s o le f g) in
     ap (λ (m : ℕ). (way w replies s.top s.target m).node) rest
     ∙ (ap (λ (x : Reached). x.node) (ended w replies s.top s.target s.behind (length s.target - length s.top - s.behind) ends_there) ∙ (ap (λ (x : Reached). x.node) it ∙ arrived_node o n))

@@ -22,7 +22,7 @@ use Rattle.dsec_nodes.specs.Nodes.{Node, Standing, apex, within, insecure, bogus
 use Rattle.dsec_nodes.specs.Signing.{under_keys, link_under}
 use Rattle.dsec_nodes.specs.Held.{HeldZone, GoodPair}
 use Rattle.dsec_nodes.specs.Taking.{IsListed, RestsAt}
-use Rattle.dsec_nodes.specs.Walk.{Reached, held_keys, goes_on, after, next, way, node_of}
+use Rattle.dsec_nodes.specs.Walk.{Reached, held_keys, goes_on, goes_on_at, after, next, way, node_of}
 use Rattle.dsec_nodes.specs.Judging.{is_shown, has_no_set, Judged, found_by, found_at, target_of, by_island, judged_of}
 use Rattle.dsec_nodes.specs.SoundFindings.{BeginsAt, IsShownSet}
 use Rattle.dsec_nodes.proofs.Signs.{from_under}
@@ -41,7 +41,7 @@ pub zone_is_node : (w : World) (replies : Replies) (top name : Place) (k : ℕ) 
     → (way w replies top name k).node.standing ≡ apex keys → (way w replies top name k).zone ≡ (way w replies top name k).node
 zone_is_node w replies top name zero keys e = refl
 zone_is_node w replies top name (suc k) keys e =
-    by (zone_is_node w replies top name k keys) (goes_on (way w replies top name k).node.standing) e
+    by (zone_is_node w replies top name k keys) (goes_on (way w replies top name k).node) e
   where
     r : Reached
     r = way w replies top name k
@@ -65,7 +65,7 @@ pub zone_over : (w : World) (replies : Replies) (top target : Place) (keys : Lis
     → (node_of w replies top target).standing ≡ apex keys → ZoneOver w top target (node_of w replies top target) keys
 zone_over w replies top target keys below e =
     let r = way w replies top target (length target - length top) in
-    let z = (node_on_way w replies top target below).in_zone (ap goes_on e) in
+    let z = (node_on_way w replies top target below).in_zone (ap (goes_on_at (node_of w replies top target).name) e) in
     let same : r.zone ≡ r.node = zone_is_node w replies top target (length target - length top) keys e in
     let own : held_keys r.zone.standing ≡ keys = ap (λ (x : Node). held_keys x.standing) same ∙ ap held_keys e in
     record {

@@ -11,7 +11,7 @@ use Rattle.dsec_spec.specs.Chain.{Link}
 use Rattle.dsec_nodes.specs.Replies.{read_reply}
 use Rattle.dsec_nodes.specs.World.{World, Replies, on_circle}
 use Rattle.dsec_nodes.specs.Nodes.{Node, Standing, apex, within, insecure, bogus, Kept, HoldsAt, IsBogus}
-use Rattle.dsec_nodes.specs.Walk.{at_anchor, Reached, held_keys, goes_on, after, next, onward, way, node_of}
+use Rattle.dsec_nodes.specs.Walk.{at_anchor, Reached, held_keys, goes_on, goes_on_at, after, next, onward, way, node_of}
 use Rattle.dsec_nodes.proofs.KeptLaws.{held, Follows}
 use Rattle.dsec_nodes.proofs.ChildLaws.{child_below}
 use Rattle.dsec_nodes.proofs.AnchorLaws.{anchor_reply_under, anchor_not_within}
@@ -54,7 +54,7 @@ front_over name m = record { under = drop m name; is = sym (take-append-drop m n
 
 -- what is reached with a node at or above the name is on the way
 on_way : (w : World) (top name p : Place) (labels : ℕ) (r : Reached) → KeptUnder w top p r.node → IsAtOrBelow name p
-    → (goes_on r.node.standing ≡ true → InZone w top name labels r) → OnTheWay w top name labels r
+    → (goes_on r.node ≡ true → InZone w top name labels r) → OnTheWay w top name labels r
 on_way w top name p labels r k over z = record {
   node_kept = k.0.0;
   node_rests = k.1;
@@ -76,10 +76,10 @@ after_kept w top name labels r n (within last) e z k =
     (λ _. record { zone_held = z.zone_held; zone_rests = z.zone_rests; count = z.count; at_most = omega (arith, z.at_most); is = z.is })
 after_kept w top name labels r n (insecure cause signed) e z k =
     on_way w top name (take (suc labels) name) (suc labels) (record { zone = r.zone; node = n }) k (front_over name (suc labels))
-    (λ g. absurd (false≢true (sym (ap goes_on e) ∙ g)))
+    (λ g. absurd (false≢true (sym (ap (goes_on_at n.name) e) ∙ g)))
 after_kept w top name labels r n (bogus cause) e z k =
     on_way w top name (take (suc labels) name) (suc labels) (record { zone = r.zone; node = n }) k (front_over name (suc labels))
-    (λ g. absurd (false≢true (sym (ap goes_on e) ∙ g)))
+    (λ g. absurd (false≢true (sym (ap (goes_on_at n.name) e) ∙ g)))
 
 -- a node that follows from a zone has its anchor
 pub rests_below : (anchors : List Record) (top : Place) (zone n : Node) → RestsAt anchors top zone → Follows zone n → Rests anchors top n
@@ -87,7 +87,7 @@ rests_below anchors top zone n r f e = record { anchor = r.anchor; its = f e ∙
 
 onward_kept : (w : World) (replies : Replies) (top name : Place) (labels : ℕ) (r : Reached) → suc labels ≤ length name
     → OnTheWay w top name labels r → OnTheWay w top name (suc labels) (onward w replies r (take (suc labels) name))
-onward_kept w replies top name labels r le o = by (goes_on r.node.standing) refl
+onward_kept w replies top name labels r le o = by (goes_on r.node) refl
   where
     next_name : Place
     next_name = take (suc labels) name
@@ -102,7 +102,7 @@ onward_kept w replies top name labels r le o = by (goes_on r.node.standing) refl
         let kept = child_below w replies r.zone (held_keys r.zone.standing) next_name z.zone_held below in
         after_kept w top name labels r n n.standing refl z (kept.0, rests_below w.anchors top r.zone n z.zone_rests kept.1, kept.2)
 
-    by : (b : Bool) → goes_on r.node.standing ≡ b → OnTheWay w top name (suc labels) (cond b (after r.zone n n.standing) r)
+    by : (b : Bool) → goes_on r.node ≡ b → OnTheWay w top name (suc labels) (cond b (after r.zone n n.standing) r)
     by true f = further (o.in_zone f)
     by false f = record {
       node_kept = o.node_kept;
@@ -125,9 +125,9 @@ first_kept w top name n (apex keys) e never t k = on_way w top name top (length 
     (λ _. zone_in w top name (length top) n keys e (subst (λ (p : Place). KeptUnder w top p n) t k))
 first_kept w top name n (within last) e never t k = absurd (never last e)
 first_kept w top name n (insecure cause signed) e never t k = on_way w top name top (length top) (record { zone = n; node = n }) k (top_over name top t)
-    (λ g. absurd (false≢true (sym (ap goes_on e) ∙ g)))
+    (λ g. absurd (false≢true (sym (ap (goes_on_at n.name) e) ∙ g)))
 first_kept w top name n (bogus cause) e never t k = on_way w top name top (length top) (record { zone = n; node = n }) k (top_over name top t)
-    (λ g. absurd (false≢true (sym (ap goes_on e) ∙ g)))
+    (λ g. absurd (false≢true (sym (ap (goes_on_at n.name) e) ∙ g)))
 
 -- each node on the way is kept
 pub way_kept : (w : World) (replies : Replies) (top name : Place) (k : ℕ) → top ≡ take (length top) name → length top + k ≤ length name

@@ -7,13 +7,13 @@ use Rattle.dsec_nodes.specs.Nodes.{Node, Standing, apex, within, insecure, bogus
 use Rattle.dsec_nodes.specs.Walk.{Reached, goes_on, after, next, way}
 
 -- a walk that has ended stays where it is
-pub ended : (w : World) (replies : Replies) (top name : Place) (k j : ℕ) → goes_on (way w replies top name k).node.standing ≡ false
+pub ended : (w : World) (replies : Replies) (top name : Place) (k j : ℕ) → goes_on (way w replies top name k).node ≡ false
     → way w replies top name (k + j) ≡ way w replies top name k
 ended w replies top name k zero e = let none : k + 0 ≡ k = omega arith in ap (way w replies top name) none
 ended w replies top name k (suc j) e =
     let more : k + suc j ≡ suc (k + j) = omega arith in
     let before = ended w replies top name k j e in
-    ap (way w replies top name) more ∙ (by (goes_on (way w replies top name (k + j)).node.standing) (ap (λ (r : Reached). goes_on r.node.standing) before ∙ e) ∙ before)
+    ap (way w replies top name) more ∙ (by (goes_on (way w replies top name (k + j)).node) (ap (λ (r : Reached). goes_on r.node) before ∙ e) ∙ before)
   where
     by : (b : Bool) → b ≡ false
         → cond b (after (way w replies top name (k + j)).zone (next w replies (way w replies top name (k + j)) (take (length top + suc (k + j)) name)) (next w replies (way w replies top name (k + j)) (take (length top + suc (k + j)) name)).standing) (way w replies top name (k + j)) ≡ way w replies top name (k + j)
@@ -22,10 +22,10 @@ ended w replies top name k (suc j) e =
 
 -- what is reached by the next node
 pub arrives : (w : World) (replies : Replies) (top name : Place) (k : ℕ) (n : Node)
-    → goes_on (way w replies top name k).node.standing ≡ true
+    → goes_on (way w replies top name k).node ≡ true
     → next w replies (way w replies top name k) (take (length top + suc k) name) ≡ n
     → way w replies top name (suc k) ≡ after (way w replies top name k).zone n n.standing
-arrives w replies top name k n e f = by (goes_on (way w replies top name k).node.standing) e ∙ ap (λ (x : Node). after (way w replies top name k).zone x x.standing) f
+arrives w replies top name k n e f = by (goes_on (way w replies top name k).node) e ∙ ap (λ (x : Node). after (way w replies top name k).zone x x.standing) f
   where
     by : (b : Bool) → b ≡ true
         → cond b (after (way w replies top name k).zone (next w replies (way w replies top name k) (take (length top + suc k) name)) (next w replies (way w replies top name k) (take (length top + suc k) name)).standing) (way w replies top name k)
@@ -41,7 +41,7 @@ after_node zone n (insecure cause signed) = refl
 after_node zone n (bogus cause) = refl
 
 -- and it was the next one, where the walk went on
-pub was_next : (w : World) (replies : Replies) (top name : Place) (k : ℕ) → goes_on (way w replies top name k).node.standing ≡ true
+pub was_next : (w : World) (replies : Replies) (top name : Place) (k : ℕ) → goes_on (way w replies top name k).node ≡ true
     → (way w replies top name (suc k)).node ≡ next w replies (way w replies top name k) (take (length top + suc k) name)
 was_next w replies top name k e =
     let n = next w replies (way w replies top name k) (take (length top + suc k) name) in

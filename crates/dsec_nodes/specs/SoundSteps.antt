@@ -31,7 +31,7 @@ pub record OnTheWay (w : World) (top name : Place) (labels : ℕ) (r : Reached) 
   pub from : r.node.made ≤ w.now
   pub to : w.now ≤ r.node.made + r.node.valid_for
   pub over : IsAtOrBelow name r.node.name
-  pub in_zone : goes_on r.node.standing ≡ true → InZone w top name labels r
+  pub in_zone : goes_on r.node ≡ true → InZone w top name labels r
 
 -- what a walk has reached is on the way to its target (RFC 4033 2)
 abbrev pub SoundAt : World → Walking → Option Reached → Type 0

@@ -1,10 +1,10 @@
 -- From an island's anchor down to a name (RFC 4033 3.1, RFC 4035 5.2).
-use Rattle.std.specs.Prelude.{ℕ, zero, suc, ◌+◌, ◌-◌, ◌==◌, ◌&&◌, min, List, [], ◌∷◌, length, take, find, Bool, true, false, Option, Some, None, if◌then◌else◌}
+use Rattle.std.specs.Prelude.{ℕ, zero, suc, ◌+◌, ◌-◌, ◌==◌, ◌&&◌, ◌||◌, min, List, [], ◌∷◌, length, take, find, Bool, true, false, Option, Some, None, if◌then◌else◌}
 use Rattle.std.proofs.Math.Bool.{not}
-use Rattle.dsec_spec.specs.Names.{Place}
-use Rattle.dsec_spec.specs.Numbers.{DS, DNSKEY, NSEC3, DNAME}
+use Rattle.dsec_spec.specs.Names.{Place, place, same_place}
+use Rattle.dsec_spec.specs.Numbers.{DS, DNSKEY, NSEC, NSEC3, DNAME}
 use Rattle.dsec_spec.specs.Records.{Record, RecordSet}
-use Rattle.dsec_spec.specs.RecordViews.{Nsec3, nsec3_of}
+use Rattle.dsec_spec.specs.RecordViews.{Nsec, nsec_of, Nsec3, nsec3_of}
 use Rattle.dsec_spec.specs.TypeBitmaps.{has_type}
 use Rattle.dsec_spec.specs.Groups.{Group, set_in}
 use Rattle.dsec_spec.specs.Trying.{Tried, good, nothing, all_bad, too_many_bad}
@@ -82,27 +82,45 @@ abbrev pub after : Node → Node → Standing → Reached
 after zone n (apex keys) = record { zone = n; node = n }
 after zone n _ = record { zone = zone; node = n }
 
--- whether NSEC3 data list DNAME: then what is below the record's name is redirected, and nothing stands there (RFC 5155 8.3, RFC 6672 2.4)
-abbrev pub lists_dname : Option Nsec3 → Bool
-lists_dname None = false
-lists_dname (Some nsec3) = has_type nsec3.types DNAME
+-- whether a name's own record lists DNAME (RFC 4034 4.1.2, RFC 5155 3.2.1)
+abbrev pub nsec_lists_dname : Option Nsec → Bool
+nsec_lists_dname None = false
+nsec_lists_dname (Some nsec) = has_type nsec.types DNAME
 
--- whether these are the data of one such record
-abbrev pub is_dname_shown : List (List ℕ) → Bool
-is_dname_shown (rdata ∷ []) = lists_dname (nsec3_of rdata)
-is_dname_shown _ = false
+abbrev pub nsec3_lists_dname : Option Nsec3 → Bool
+nsec3_lists_dname None = false
+nsec3_lists_dname (Some nsec3) = has_type nsec3.types DNAME
 
--- whether a set that shows a name within a zone shows too that the name redirects what is below it (RFC 5155 8.3, RFC 6672 2.4)
-abbrev pub redirects_below : RecordSet → Bool
-redirects_below set = (set.rtype == NSEC3) && is_dname_shown set.datas
+-- whether data of this type are those of an NSEC or NSEC3 record that lists DNAME
+abbrev pub lists_dname : ℕ → List ℕ → Bool
+lists_dname rtype rdata =
+    nsec3_lists_dname (if rtype == NSEC3 then nsec3_of rdata else None) || nsec_lists_dname (if rtype == NSEC then nsec_of rdata else None)
 
--- whether a walk goes on below a node: below a zone, and below what is within one unless it redirects what is below it, and nowhere else
--- (RFC 4033 5)
-abbrev pub goes_on : Standing → Bool
-goes_on (apex keys) = true
-goes_on (within last) = not (redirects_below last.records)
-goes_on (insecure cause signed) = false
-goes_on (bogus cause) = false
+-- whether these are the data of one such record, and of no other: a name has one (RFC 4034 4, RFC 5155 7.1)
+abbrev pub one_lists_dname : ℕ → List (List ℕ) → Bool
+one_lists_dname rtype (rdata ∷ []) = lists_dname rtype rdata
+one_lists_dname rtype _ = false
+
+-- whether a set that shows the name within a zone is the name's own: an NSEC record of another owner shows it as an empty non-terminal
+-- (RFC 4592 2.2.2)
+abbrev pub is_own : Place → RecordSet → Bool
+is_own name set = (set.rtype == NSEC3) || same_place (place set.owner) name
+
+-- whether a set that shows the name within a zone shows too that the name redirects what is below it, so that nothing stands there
+-- (RFC 5155 8.3, RFC 6672 2.4, RFC 6840 4.1)
+abbrev pub redirects_below : Place → RecordSet → Bool
+redirects_below name set = is_own name set && one_lists_dname set.rtype set.datas
+
+-- whether a walk goes on below a name of which this is known: below a zone, and below what is within one unless it redirects what is below it,
+-- and nowhere else (RFC 4033 5)
+abbrev pub goes_on_at : Place → Standing → Bool
+goes_on_at name (apex keys) = true
+goes_on_at name (within last) = not (redirects_below name last.records)
+goes_on_at name (insecure cause signed) = false
+goes_on_at name (bogus cause) = false
+
+abbrev pub goes_on : Node → Bool
+goes_on n = goes_on_at n.name n.standing
 
 -- the node of the next name, made below the last zone and with its keys (RFC 4035 5.2)
 abbrev pub next : World → Replies → Reached → Place → Node
@@ -110,7 +128,7 @@ next w replies r name = child w replies r.zone (held_keys r.zone.standing) name
 
 -- one name further, where the walk goes on (RFC 4033 2)
 abbrev pub onward : World → Replies → Reached → Place → Reached
-onward w replies r name = if goes_on r.node.standing then after r.zone (next w replies r name) (next w replies r name).standing else r
+onward w replies r name = if goes_on r.node then after r.zone (next w replies r name) (next w replies r name).standing else r
 
 -- what is reached so many labels below the island, on the way to a name (RFC 4035 5)
 abbrev pub way : World → Replies → Place → Place → ℕ → Reached

@@ -84,7 +84,7 @@ in_phase s phase = record {
 
 -- whether a walk that has reached this goes on to another name (RFC 4033 2)
 abbrev pub is_further : Walking → Reached → Bool
-is_further s r = goes_on r.node.standing && nat_le (length s.top + s.behind) (length s.target)
+is_further s r = goes_on r.node && nat_le (length s.top + s.behind) (length s.target)
 
 -- a walk that hasn't begun
 abbrev pub started : Place → Place → Walking

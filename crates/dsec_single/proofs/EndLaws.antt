@@ -11,7 +11,7 @@ use Rattle.dsec_spec.proofs.NamesBelow.{below_trans}
 use Rattle.dsec_spec.proofs.SignedTests.{below_decides}
 use Rattle.dsec_nodes.specs.World.{World}
 use Rattle.dsec_nodes.specs.Nodes.{Node, apex, Kept}
-use Rattle.dsec_nodes.specs.Walk.{Reached, goes_on}
+use Rattle.dsec_nodes.specs.Walk.{Reached, goes_on, goes_on_at}
 use Rattle.dsec_nodes.specs.Taking.{Rests, is_in_time}
 use Rattle.dsec_nodes.specs.Machine.{Walking, Step, done}
 use Rattle.dsec_nodes.specs.SoundSteps.{OnTheWay, SoundAt, StepKept}
@@ -98,5 +98,5 @@ end_of w table before now group top n way (t, e, s) = record {
 
     zone : (keys : List (List ℕ)) → n.standing ≡ apex keys → n.signer ≡ target
     zone keys f =
-        let named : n.name ≡ t.walk.target = (subst (EndsAtTarget t.walk) e h.at_end) (ap goes_on f) in
+        let named : n.name ≡ t.walk.target = (subst (EndsAtTarget t.walk) e h.at_end) (ap (goes_on_at n.name) f) in
         sym (zone_named w n keys kept f from to) ∙ (named ∙ h.same_target)

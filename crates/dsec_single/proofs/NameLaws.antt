@@ -9,7 +9,7 @@ use Rattle.dsec_nodes.specs.World.{World}
 use Rattle.dsec_nodes.specs.Nodes.{Node, Standing, apex, within, insecure, bogus}
 use Rattle.dsec_nodes.specs.Replies.{read_reply}
 use Rattle.dsec_nodes.specs.ByDs.{Pending, Below, made, asks, by_ds_reply, by_key_reply}
-use Rattle.dsec_nodes.specs.Walk.{by_anchor_reply, Reached, held_keys, goes_on, may_stand}
+use Rattle.dsec_nodes.specs.Walk.{by_anchor_reply, Reached, held_keys, goes_on, goes_on_at, may_stand}
 use Rattle.dsec_nodes.specs.Taking.{counts}
 use Rattle.dsec_nodes.specs.SoundSteps.{SoundAt, PendingSound, SoundStep}
 use Rattle.dsec_nodes.specs.Machine.{Question, Phase, begins, gets, asks_first, asks_keys, puts, ends, Walking, Step, node_get, node_put, ask, done, Input, begin, node, stored, reply, name_at, arrived, in_phase, is_further, ahead_from, ahead, with_got, asking, given, heard, made_by, making, below_by, first_reply, key_reply, replied, advanced, Answers, IsFurther}
@@ -33,7 +33,7 @@ IsWithinTarget s (Some r) = (1 ≤ s.behind) × (length s.top + (s.behind - 1) �
 
 -- a walk ends at its target, where its node is Secure
 abbrev pub EndsAtTarget : Walking → Step → Type 0
-EndsAtTarget s (done n) = goes_on n.standing ≡ true → n.name ≡ s.target
+EndsAtTarget s (done n) = goes_on n ≡ true → n.name ≡ s.target
 EndsAtTarget s (node_get name) = Unit {0}
 EndsAtTarget s (node_put name n) = Unit {0}
 EndsAtTarget s (ask name rtype) = Unit {0}
@@ -52,7 +52,7 @@ within_target w s (Some r) f = (omega (arith, f.1), omega (arith, f.1, f.2))
 ahead_names : (s : Walking) → IsNamed s s.reached → IsWithinTarget s s.reached → Names (ahead s)
 ahead_names s h f = by s.reached refl
   where
-    at_target : (r : Reached) → s.reached ≡ Some r → is_further s r ≡ false → goes_on r.node.standing ≡ true → r.node.name ≡ s.target
+    at_target : (r : Reached) → s.reached ≡ Some r → is_further s r ≡ false → goes_on r.node ≡ true → r.node.name ≡ s.target
     at_target r e stop on =
         let named : r.node.name ≡ take (length s.top + (s.behind - 1)) s.target = subst (IsNamed s) e h in
         let fit : (1 ≤ s.behind) × (length s.top + (s.behind - 1) ≤ length s.target) = subst (IsWithinTarget s) e f in
@@ -87,7 +87,7 @@ making_names s asked n e = by n.standing refl
     by (apex keys) f = record { named = named; at_end = tt }
     by (within last) f = record { named = named; at_end = tt }
     by (insecure cause signed) f = record { named = named; at_end = tt }
-    by (bogus cause) f = record { named = named; at_end = λ on. absurd (false≢true (sym (ap goes_on f) ∙ on)) }
+    by (bogus cause) f = record { named = named; at_end = λ on. absurd (false≢true (sym (ap (goes_on_at n.name) f) ∙ on)) }
 
 -- a node that was kept counts or is passed over
 given_names : (w : World) (s : Walking) (o : Option Node) → IsNamed s s.reached → length s.top + s.behind ≤ length s.target → Names (given w s o)

@@ -9,7 +9,7 @@ use Rattle.dsec_nodes.specs.World.{World}
 use Rattle.dsec_nodes.specs.Nodes.{Node, Standing, apex, within, insecure, bogus}
 use Rattle.dsec_nodes.specs.Replies.{read_reply}
 use Rattle.dsec_nodes.specs.ByDs.{Pending, Below, made, asks, by_ds_reply, by_key_reply}
-use Rattle.dsec_nodes.specs.Walk.{by_anchor_reply, Reached, held_keys, after, goes_on, may_stand}
+use Rattle.dsec_nodes.specs.Walk.{by_anchor_reply, Reached, held_keys, after, goes_on, goes_on_at, may_stand}
 use Rattle.dsec_nodes.specs.Machine.{started, Question, Phase, begins, gets, asks_first, asks_keys, puts, ends, Walking, Step, node_get, done, Input, begin, node, stored, reply, name_at, arrived, in_phase, is_further, ahead_from, ahead, with_got, asking, given, heard, made_by, making, below_by, first_reply, key_reply, replied, advanced, IsFurther, Answers}
 use Rattle.dsec_nodes.specs.InStep.{Goes, InStep}
 use Rattle.dsec_nodes.specs.SoundSteps.{SoundAt, PendingSound, SoundStep, InputKept, Sound}
@@ -112,18 +112,18 @@ arrived_in_zone : (w : World) (o : Option Reached) (n : Node) → ZoneOf w o →
     → IsInZone w (Some (arrived o n))
 arrived_in_zone w None n z may from to = λ g. by n.standing refl g
   where
-    by : (x : Standing) → n.standing ≡ x → goes_on n.standing ≡ true → IsZoneNow w n
+    by : (x : Standing) → n.standing ≡ x → goes_on n ≡ true → IsZoneNow w n
     by (apex keys) e g = record { keys = keys; begins = e; from = from; to = to }
     by (within last) e g = absurd (false≢true (sym (ap (may_stand None) e) ∙ may))
-    by (insecure cause signed) e g = absurd (false≢true (sym (ap goes_on e) ∙ g))
-    by (bogus cause) e g = absurd (false≢true (sym (ap goes_on e) ∙ g))
+    by (insecure cause signed) e g = absurd (false≢true (sym (ap (goes_on_at n.name) e) ∙ g))
+    by (bogus cause) e g = absurd (false≢true (sym (ap (goes_on_at n.name) e) ∙ g))
 arrived_in_zone w (Some r) n z may from to = by n.standing refl
   where
     by : (x : Standing) → n.standing ≡ x → IsInZone w (Some (after r.zone n x))
     by (apex keys) e = λ g. record { keys = keys; begins = e; from = from; to = to }
     by (within last) e = λ g. z
-    by (insecure cause signed) e = λ g. absurd (false≢true (sym (ap goes_on e) ∙ g))
-    by (bogus cause) e = λ g. absurd (false≢true (sym (ap goes_on e) ∙ g))
+    by (insecure cause signed) e = λ g. absurd (false≢true (sym (ap (goes_on_at n.name) e) ∙ g))
+    by (bogus cause) e = λ g. absurd (false≢true (sym (ap (goes_on_at n.name) e) ∙ g))
 
 -- the next step from what is reached reaches nothing more
 ahead_in_zone : (w : World) (s : Walking) → IsInZone w s.reached → IsInZone w (ahead s).0.reached

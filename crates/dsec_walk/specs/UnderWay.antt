@@ -18,7 +18,7 @@ pub record IsZoneNow (w : World) (zone : Node) : Type 0 where
 -- where a walk goes on below what it has reached, the last zone on the way is one that counts (RFC 4035 5.2)
 abbrev pub IsInZone : World → Option Reached → Type 0
 IsInZone w None = Unit {0}
-IsInZone w (Some r) = goes_on r.node.standing ≡ true → IsZoneNow w r.zone
+IsInZone w (Some r) = goes_on r.node ≡ true → IsZoneNow w r.zone
 
 -- a walk that can be taken on: it is sound, it has asked no more questions than it may, and its last zone counts (RFC 4035 4.5, 5.2)
 pub record IsUnderWay (w : World) (s : Walking) : Type 0 where

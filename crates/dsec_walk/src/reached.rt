@@ -8,11 +8,12 @@ ghost use Rattle.dsec_nodes.specs.Machine.{arrived as arrived_at};
 ghost use Rattle.dsec_nodes.specs.Nodes as nodes;
 ghost use Rattle.dsec_nodes.specs.Walk as walks;
 ghost use Rattle.dsec_walk.specs.Views.{here_view};
-ghost use Rattle.dsec_wire.specs.DataViews.{nsec3_in};
+ghost use Rattle.dsec_spec.specs.Names.{place};
+ghost use Rattle.dsec_wire.specs.DataViews.{nsec3_in, nsec_in};
 
 use dsec_crypto::Verifier;
 use dsec_link::RecordSet;
-use dsec_name::NoMemory;
+use dsec_name::{Name, NoMemory};
 use dsec_node::{Node, Pending, Standing};
 use dsec_number::Rtype;
 use dsec_sorted::RtypeBitmap;
@@ -38,36 +39,63 @@ pub(crate) enum Next<V: Verifier> {
 }
 
 /// Whether a walk goes on below a node: below a zone, and below what is within one (RFC 4033 5) unless it redirects what is below it.
-pub(crate) fn goes_on(standing: &Standing) -> bool
-    ensures { result ≡ walks.goes_on (standing_view standing.now) }
+pub(crate) fn goes_on<V: Verifier>(node: &Node<V>) -> bool
+    ensures { result ≡ walks.goes_on node.now }
 {
-    match standing {
+    match node.standing() {
         Standing::Apex(_) => true,
-        Standing::Within(last) => !redirects_below(last.records()),
+        Standing::Within(last) => !redirects_below(node.name(), last.records()),
         Standing::Insecure(_, _) | Standing::Bogus(_) => false,
     }
 }
 
-/// Whether a set that shows a name within a zone is an NSEC3 record with DNAME, which redirects what is below the name (RFC 5155 8.3,
-/// RFC 6672 2.4).
-fn redirects_below(set: &RecordSet) -> bool
-    ensures { result ≡ walks.redirects_below set.now }
+/// Whether a set that shows the name within a zone is the name's own NSEC or NSEC3 record, with DNAME: that redirects what is below the name
+/// (RFC 5155 8.3, RFC 6672 2.4, RFC 6840 4.1).
+fn redirects_below(name: &Name, set: &RecordSet) -> bool
+    ensures { result ≡ walks.redirects_below (place name.now) set.now }
 {
     match set.datas() {
-        [one] => lists_dname(one),
+        [one] => is_own(name, set) && lists_dname(one),
         _ => false,
     }
 }
 
-/// Whether data are those of an NSEC3 record with DNAME.
+/// Whether a set that shows the name within a zone is the name's own.
+fn is_own(name: &Name, set: &RecordSet) -> bool
+    ensures { result ≡ walks.is_own (place name.now) set.now }
+{
+    set.rtype() == Rtype::NSEC3 || set.owner() == name
+}
+
+/// Whether data are those of an NSEC or NSEC3 record with DNAME.
 fn lists_dname(data: &Data) -> bool
-    ensures { result ≡ walks.lists_dname (nsec3_in data.now) }
+    ensures { result ≡ walks.lists_dname data.now.rtype data.now.octets }
+{
+    nsec3_lists_dname(data) || nsec_lists_dname(data)
+}
+
+/// Whether data are those of an NSEC3 record with DNAME.
+fn nsec3_lists_dname(data: &Data) -> bool
+    ensures { result ≡ walks.nsec3_lists_dname (nsec3_in data.now) }
 {
     match data.nsec3() {
         Some(nsec3) => {
             let bitmap = RtypeBitmap {
                 octets: nsec3.types,
             };
+            bitmap.contains(Rtype::DNAME)
+        }
+        None => false,
+    }
+}
+
+/// Whether data are those of an NSEC record with DNAME.
+fn nsec_lists_dname(data: &Data) -> bool
+    ensures { result ≡ walks.nsec_lists_dname (nsec_in data.now) }
+{
+    match data.nsec() {
+        Some(nsec) => {
+            let bitmap = RtypeBitmap { octets: nsec.types };
             bitmap.contains(Rtype::DNAME)
         }
         None => false,

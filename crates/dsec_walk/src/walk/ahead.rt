@@ -60,7 +60,7 @@ impl<V: Verifier> Walk<V> {
     {
         match &self.here {
             Some(here) => {
-                if !(goes_on(here.node.standing()) && self.has_more()) {
+                if !(goes_on(&here.node) && self.has_more()) {
                     let node = Arc::try_clone(&here.node)?;
                     self.phase = Phase::Ends;
                     return Ok(Step::Done(node));
