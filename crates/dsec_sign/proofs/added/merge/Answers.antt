@@ -4,8 +4,8 @@ use Rattle.std.proofs.lemmas.List.Sorted.{ranks_by, answers_always}
 use Rattle.dsec_spec.specs.Records.{Record}
 use Rattle.dsec_spec.specs.CanonicalRecords.{record_cmp}
 use Rattle.dsec_spec.proofs.CanonicalOrder.{record_cmp_total}
-use Rattle.dsec_sign.proofs.added.sort.Goals as goal
+use Rattle.dsec_sign.proofs.added.merge.Goals as goal
 
 pub returns-clause-sorted : goal.returns-clause-sorted
 returns-clause-sorted c =
-    c.sort_unstable_by.ensures.sorted (λ a b. is_lt (record_cmp a b)) (ranks_by record_cmp_total (λ (r : Record). r)) (answers_always _ _ _ (λ f a r g called. search rules))
+    c.in_ok-sort_by.ensures.sorted (λ a b. is_lt (record_cmp a b)) (ranks_by record_cmp_total (λ (r : Record). r)) (answers_always _ _ _ (λ f a r g called. search rules))
