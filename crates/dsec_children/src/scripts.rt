@@ -1,0 +1,104 @@
+//! Scripts, one after the other, and the names that their messages ask for.
+
+use crate::setting::Setting;
+use crate::walk::push_way;
+use dsec_anchors::island_owner;
+use dsec_name::{Name, NoMemory};
+use dsec_node::Config;
+use dsec_number::Rtype;
+use dsec_script::{Item, Script, read_script};
+use dsec_wire::{Message, Questions};
+use std::alloc::Global;
+use std::marker::Brand;
+use std::sync::ledger::Blank;
+
+/// Adds what is printed of scripts.
+pub(crate) fn push_scripts(alloc: Global, out: &mut Vec<u8>, text: &[u8]) -> Result<(), NoMemory> {
+    let mut rest = text;
+    for _ in 0..text.len() {
+        let (first, behind) = split(rest);
+        push_headed(alloc, out, first)?;
+        rest = behind;
+        if rest.is_empty() {
+            break;
+        }
+    }
+    Ok(())
+}
+
+/// The first script with the line before it, and what stands behind its last LF.
+fn split(text: &[u8]) -> (&[u8], &[u8]) {
+    match text.windows(4).position(|four| four.starts_with(b"\n== ")) {
+        Some(at) => (&text[..at], &text[at + 1..]),
+        None => (text, b""),
+    }
+}
+
+/// Adds the line before a script, and what is printed of the script.
+fn push_headed(alloc: Global, out: &mut Vec<u8>, text: &[u8]) -> Result<(), NoMemory> {
+    let (heading, script) = match text.iter().position(|octet| *octet == b'\n') {
+        Some(at) => (&text[..at], &text[at + 1..]),
+        None => (text, b"".as_slice()),
+    };
+    out.extend_from_slice(heading)?;
+    out.push(b'\n')?;
+    push_script(alloc, out, script)
+}
+
+/// Adds the nodes of a script's names.
+fn push_script(alloc: Global, out: &mut Vec<u8>, text: &[u8]) -> Result<(), NoMemory> {
+    let Ok(script) = read_script(alloc, text) else {
+        return Ok(out.extend_from_slice(b"refused\n")?);
+    };
+    for item in script.items.as_slice() {
+        push_item(alloc, out, &script, item)?;
+    }
+    Ok(())
+}
+
+/// Adds the nodes on the way to the name that a message asks for.
+fn push_item(
+    alloc: Global,
+    out: &mut Vec<u8>,
+    script: &Script,
+    item: &Item,
+) -> Result<(), NoMemory> {
+    let Some(name) = asked_name(alloc, item) else {
+        return Ok(out.extend_from_slice(b"no question\n")?);
+    };
+    let Some(top) = island_owner(script.anchors.as_slice(), &name, Rtype::A) else {
+        return Ok(out.extend_from_slice(b"no island\n")?);
+    };
+    let config = Config::new();
+    let setting = Setting {
+        script,
+        config: &config,
+        now: item.seconds,
+    };
+    push_way::<Brand>(alloc, out, &setting, top, &name, Blank::new(1))
+}
+
+/// The name that a message asks for; none where it has no question.
+fn asked_name(alloc: Global, item: &Item) -> Option<Name> {
+    let questions = questions_of(alloc, item.octets.as_slice())?;
+    match questions.as_slice() {
+        [first, ..] => first.qname().clone().ok(),
+        [] => None,
+    }
+}
+
+/// What a message asks; nothing where it can't be read.
+fn questions_of(alloc: Global, octets: &[u8]) -> Option<Questions> {
+    match message_of(alloc, octets) {
+        Some(message) => message.question(alloc).ok(),
+        None => None,
+    }
+}
+
+/// A message of these octets.
+fn message_of(alloc: Global, octets: &[u8]) -> Option<Message> {
+    match octets.to_vec(alloc) {
+        Ok(copy) => Message::from_octets(copy).ok(),
+        Err(_) => None,
+    }
+}
