@@ -122,12 +122,12 @@ def signed_twice(share):
     return message(NAME, 1, fitting(room(share, NAME), each(owned)))
 
 
-def many_signatures(share, tag, signer=ZONE):
+def many_signatures(share, tag, signer=ZONE, zone=ZONE):
     """One address with as many signatures of a tag as have room, behind one that names the zone."""
-    own = record(b"\xc0\x0c", 1, ADDRESS)
-    first = record(b"\xc0\x0c", 46, signature(1, 2, [own], tag=1, good=False))
-    data = signature(1, 2, [own], tag=tag, good=False, zone=signer)[:-32]
-    return message(NAME, 1, [own, first] + fitting(room(share, NAME, own, first),
+    name, own = label(0) + zone, record(b"\xc0\x0c", 1, ADDRESS)
+    first = record(b"\xc0\x0c", 46, signature(1, label_count(name), [own], tag=1, good=False, zone=zone))
+    data = signature(1, label_count(name), [own], tag=tag, good=False, zone=signer)[:-32]
+    return message(name, 1, [own, first] + fitting(room(share, name, own, first),
                                                    ([record(b"\xc0\x0c", 46, data + number(index, 2))] for index in range(65536))))
 
 
@@ -150,6 +150,14 @@ def signatures_of_another_algorithm(share):
 def signatures_of_another_zone(share):
     """The signers differ from the zone by their last letter, and the keys have the signatures' tag and algorithm."""
     return at_anchor(many_signatures(share, OTHER_TAG, b"\7examplf\0"), keys_of_one_tag(share, OTHER_TAG))
+
+
+def signatures_of_another_long_zone(share):
+    """The same, where zone and signers have 121 labels, of which the last differs."""
+    zone = deep(120)
+    signer = zone.replace(b"example", b"examplf")
+    return Judged(many_signatures(share, OTHER_TAG, signer, zone), [(text_of(zone), "DNSKEY", keys_of_one_tag(share, OTHER_TAG, 13, zone))],
+                  [text_of(zone) + " 3600 IN DNSKEY 257 3 13 AQI="])
 
 
 def ds_of_one_tag(share):
@@ -401,6 +409,7 @@ JUDGED = (
     Kind("a set with signatures of one tag, keys of that tag", "0 Bogus 6", signatures_of_one_tag),
     Kind("a set with signatures of one tag, keys of that tag and another algorithm", "0 Bogus 6", signatures_of_another_algorithm),
     Kind("a set with signatures of one tag by another zone, keys of that tag", "0 Bogus 6", signatures_of_another_zone),
+    Kind("a set with signatures of one tag by another zone of 121 labels, keys of that tag", "0 Bogus 6", signatures_of_another_long_zone),
     Kind("DS records of one tag, keys of that tag", "0 Bogus 6", ds_of_one_tag),
     Kind("a name of 124 labels denied by NSEC3, 100 iterations", "0 Bogus", lambda share: denied_by_hashes(100, share)),
     Kind("a name of 124 labels denied by NSEC3, 500 iterations", "0 Insecure", lambda share: denied_by_hashes(500, share)),
