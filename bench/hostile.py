@@ -240,6 +240,14 @@ def deep_insecure(share):
     return Judged(octets, replies_below(0) + replies, [ANCHOR])
 
 
+def walk_under_keys(share):
+    """An address 119 names below the anchor, all within its zone, which has as many keys as have room."""
+    name = deep(119)
+    replies = [("example.", "DNSKEY", keys_of_one_tag(share, OTHER_TAG))]
+    replies += [(text_of(deep(labels)), "DS", by_nsec(deep(labels), WITH_A)) for labels in range(1, 120)]
+    return Judged(message(name, 1, [record(name, 1, ADDRESS)]), replies, [ANCHOR])
+
+
 def nsec_set(front, base, up, next_name):
     own = record(front + base, 47, next_name + WITH_A)
     return [record(front + up, 47, own[len(front + base) + 10:]), record(front + up, 46, signature(47, label_count(front + base), [own]))]
@@ -416,6 +424,7 @@ JUDGED = (
     Kind("an answer from a wildcard by NSEC3, 100 iterations", "0 Bogus", wildcard_by_hashes),
     Kind("a walk of 120 names by NSEC3, 100 iterations", "0 Bogus", walk_by_hashes),
     Kind("names in an insecure zone, 120 names below the anchor", "0 Insecure", deep_insecure),
+    Kind("a walk of 119 names under many keys", "0 Bogus 6", walk_under_keys),
     Kind("a name that NSEC records don't deny", "0 Bogus", denied_by_nsecs),
     Kind("a name that NSEC records of 123 labels don't deny", "0 Bogus", denied_by_long_nsecs),
     Kind("a chain of CNAMEs", "0 Bogus 6", cname_chain),
