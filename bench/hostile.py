@@ -13,8 +13,8 @@ import subprocess
 import sys
 import tempfile
 
-from making import (BELOW, KEY, OPT, TAG, ZONE, address, around_hash, cpu, hash_of, in_base32hex, keys, label_count, memory, message,
-                    number, record, replies_below, signature, signed, tag_of, text_of, write_script)
+from making import (BELOW, KEY, OPT, RUNS, TAG, ZONE, address, around_hash, hash_of, in_base32hex, keys, label_count, memory, message,
+                    number, record, replies_below, run_seconds, signature, signed, tag_of, text_of, write_script)
 
 # A message or a reply has at most so many octets, a script and a zone's text so many.
 MOST, TEXT = 65535, 16777216
@@ -582,53 +582,59 @@ def n_log_n(octets):
 Cost = collections.namedtuple("Cost", "octets seconds noise memory bound")
 
 
-def cost_judged(words, script, judged, times, line):
-    """What a message costs: its memory alone, and its time where it is judged so many times, each in a moment of its own."""
-    octets = len(judged.message) + sum(len(reply) for _, _, reply in judged.replies) + sum(8 + len(anchor) for anchor in judged.anchors[1:])
-    write_script(script, [judged.message], 1, judged.replies, False, judged.anchors)
-    begins(words, script, line)
-    most = memory(words, script)
-    write_script(script, [judged.message], times, judged.replies, True, judged.anchors)
-    seconds, noise = cpu(words, script)
-    return Cost(octets, seconds / times, noise, most, TIMES * octets + BESIDE)
+def octets_of(judged):
+    return len(judged.message) + sum(len(reply) for _, _, reply in judged.replies) + sum(8 + len(anchor) for anchor in judged.anchors[1:])
+
+
+def in_turns(words, sources):
+    """The CPU time of some runs of each source, in turns, so that what else the machine does meets all alike."""
+    turns = [[run_seconds(words, source) for source in sources] for _ in range(RUNS)]
+    return [(min(times), max(times) / min(times)) for times in zip(*turns)]
 
 
 def times_of(words, script, half, whole):
     """How many times a message is to be judged: so that its half takes long enough, and its whole makes a script."""
     write_script(script, [half.message], 1, half.replies, False, half.anchors)
-    seconds, _ = cpu(words, script)
+    seconds = run_seconds(words, script)
     write_script(script, [whole.message], 1, whole.replies, False, whole.anchors)
     free = TEXT - os.path.getsize(script)
     return max(1, min(math.ceil(SECONDS / max(seconds, 0.001)), 1 + free // (2 * len(whole.message) + 20)))
 
 
 def measure_judged(program, folder, kind):
-    words, script = [program, "validate"], os.path.join(folder, "script")
-    half, whole = kind.make(0.5), kind.make(1)
-    times = times_of(words, script, half, whole)
-    return [cost_judged(words, script, judged, times, kind.state) for judged in (half, whole)], times
+    """What a message costs: its memory alone, and its time where it is judged so many times, each in a moment of its own."""
+    words, shares = [program, "validate"], [kind.make(0.5), kind.make(1)]
+    sources = [os.path.join(folder, name) for name in ("half", "whole")]
+    times, most = times_of(words, sources[0], *shares), []
+    for judged, source in zip(shares, sources):
+        write_script(source, [judged.message], 1, judged.replies, False, judged.anchors)
+        begins(words, source, kind.state)
+        most.append(memory(words, source))
+        write_script(source, [judged.message], times, judged.replies, True, judged.anchors)
+    return [Cost(octets_of(judged), seconds / times, noise, taken, TIMES * octets_of(judged) + BESIDE)
+            for judged, taken, (seconds, noise) in zip(shares, most, in_turns(words, sources))], times
 
 
 def measure_script(program, folder, kind):
-    words, source, costs = [program, "validate"], os.path.join(folder, "script"), []
-    for share in (0.5, 1):
-        octets = write(source, kind.make(share))
+    words, sources = [program, "validate"], [os.path.join(folder, name) for name in ("half", "whole")]
+    octets = [write(source, kind.make(share)) for source, share in zip(sources, (0.5, 1))]
+    for source in sources:
         begins(words, source, kind.state)
-        seconds, noise = cpu(words, source)
-        costs.append(Cost(octets, seconds, noise, memory(words, source), TIMES * octets + BESIDE))
-    return costs, 1
+    return [Cost(size, seconds, noise, memory(words, source), TIMES * size + BESIDE)
+            for source, size, (seconds, noise) in zip(sources, octets, in_turns(words, sources))], 1
 
 
 def measure_zone(program, folder, zone):
-    words, source, costs = [program] + zone.words, os.path.join(folder, "zone"), []
-    for count in (zone.count // 2, zone.count):
-        octets = write(source, APEX + "".join(map(zone.line, range(count))))
+    words, sources = [program] + zone.words, [os.path.join(folder, name) for name in ("half", "whole")]
+    bounds, sizes = [], []
+    for source, count in zip(sources, (zone.count // 2, zone.count)):
+        sizes.append(write(source, APEX + "".join(map(zone.line, range(count)))))
         _, lines_written, written = first_line(words, source)
         if lines_written != zone.written(count):
             sys.exit("%s: %d lines for %d" % (zone.name, lines_written, count))
-        seconds, noise = cpu(words, source)
-        costs.append(Cost(octets, seconds, noise, memory(words, source), TIMES * octets + BESIDE + WRITTEN * written))
-    return costs, 1
+        bounds.append(TIMES * sizes[-1] + BESIDE + WRITTEN * written)
+    return [Cost(size, seconds, noise, memory(words, source), bound)
+            for source, size, bound, (seconds, noise) in zip(sources, sizes, bounds, in_turns(words, sources))], 1
 
 
 def told(name, costs, times):

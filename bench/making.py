@@ -147,17 +147,20 @@ def write_script(path, messages, count, replies=None, moments=False, anchors=("e
             out.write("message %s\n" % messages[index % len(messages)].hex())
 
 
+def run_seconds(words, source):
+    """The CPU time of a run in seconds."""
+    with open(source, "rb") as stdin:
+        child = subprocess.Popen(words, stdin=stdin, stdout=subprocess.DEVNULL)
+        _, status, usage = os.wait4(child.pid, 0)
+        child.returncode = os.waitstatus_to_exitcode(status)
+    if child.returncode != 0:
+        sys.exit("%s: status %d" % (words[0], child.returncode))
+    return usage.ru_utime + usage.ru_stime
+
+
 def cpu(words, source=os.devnull):
     """The least CPU time of some runs in seconds, and how many times as much the greatest is."""
-    times = []
-    for _ in range(RUNS):
-        with open(source, "rb") as stdin:
-            child = subprocess.Popen(words, stdin=stdin, stdout=subprocess.DEVNULL)
-            _, status, usage = os.wait4(child.pid, 0)
-            child.returncode = os.waitstatus_to_exitcode(status)
-        if child.returncode != 0:
-            sys.exit("%s: status %d" % (words[0], child.returncode))
-        times.append(usage.ru_utime + usage.ru_stime)
+    times = [run_seconds(words, source) for _ in range(RUNS)]
     return min(times), max(times) / min(times)
 
 
