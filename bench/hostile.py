@@ -37,7 +37,7 @@ ADDRESS = bytes([192, 0, 2, 1])
 ANCHOR = "example. 3600 IN DNSKEY 257 3 13 AQI="
 OTHER_TAG = 4242
 SOA = b"\2ns" + ZONE + b"\4host" + ZONE + b"".join(number(value, 4) for value in (1, 3600, 600, 86400, 300))
-# Types in NSEC and NSEC3 records: A or NS, RRSIG, NSEC; A, RRSIG; none but A.
+# Types of NSEC records: A or NS, and RRSIG and NSEC. And of NSEC3 records: A.
 WITH_A, WITH_NS, HASHED_A = bytes.fromhex("0006400000000003"), bytes.fromhex("0006200000000003"), bytes.fromhex("000140")
 
 # What a kind is called; how the first line of its output begins; and how a share of it is made.
@@ -473,6 +473,14 @@ def short_moments(share):
     return lines(int(share * TEXT), "", lambda _: "now 1\n", tail)
 
 
+def kept_nodes(share):
+    """2,000 names within a zone with many keys, each asked for once in one moment."""
+    names = [b"\4%04x" % index + ZONE for index in range(int(share * 2000))]
+    replies = ["reply %s DS %s\n" % (text_of(name), by_nsec(name, WITH_A).hex()) for name in names]
+    messages = ["message %s\n" % message(name, 1, [record(name, 1, ADDRESS)]).hex() for name in names]
+    return "now 500\nanchor %s\nreply example. DNSKEY %s\n" % (ANCHOR, keys_of_one_tag(1, OTHER_TAG).hex()) + "".join(replies + messages)
+
+
 def anchors_and_keys(share):
     """Anchors of a tag and algorithm before the one that admits a key, and keys of another tag."""
     line = "anchor example. DS %d 13 2 00\n" % (OTHER_TAG + 1)
@@ -493,6 +501,7 @@ SCRIPTS = (
     Kind("anchors at one place", "0 Secure", lambda share: script_of(lambda _: "anchor example. NS .\n", share)),
     Kind("anchors at as many places", "0 Secure", lambda share: script_of(lambda index: "anchor %x.a. NS .\n" % index, share)),
     Kind("DS anchors at one place, keys of another tag", "0 Secure", anchors_and_keys),
+    Kind("2,000 names under many keys", "0 Bogus 6", kept_nodes),
     Kind("moments", "0 error:FormError", short_moments),
 )
 
