@@ -113,7 +113,8 @@ impl<V: Verifier> Memo<V> for Nsec3Cache {
         _signature: &[u8],
         _yes: bool,
     ) -> Result<(), NoMemory>
-        ensures { self.new ≡ self.old }
+        ensures none { result ≡ Ok tt }
+        ensures unchanged { self.new ≡ self.old }
     {
         Ok(())
     }

@@ -162,7 +162,8 @@ impl<V: Verifier> Memo<V> for SigCache<V> {
         _iterations: u16,
         _hash: [u8; 20],
     ) -> Result<(), NoMemory>
-        ensures { self.new ≡ self.old }
+        ensures none { result ≡ Ok tt }
+        ensures unchanged { self.new ≡ self.old }
     {
         Ok(())
     }
