@@ -1,7 +1,7 @@
 //! By which signed set it is known that no zone begins at a name, or that no chain leads there.
 
 use dsec_link::RecordSet;
-use dsec_name::NoMemory;
+use dsec_name::{Name, NoMemory};
 use dsec_node::{Ground, SignedCause, Standing};
 use dsec_number::Rtype;
 use dsec_sorted::RtypeBitmap;
@@ -43,24 +43,26 @@ fn ground_word(basis: Ground) -> &'static [u8] {
     }
 }
 
-/// Whether a set that shows a name within a zone is an NSEC3 record with DNAME: then what is below the name is redirected, and no node is
-/// made there (RFC 5155 8.3, RFC 6672 2.4).
-pub(crate) fn redirects_below(set: &RecordSet) -> bool {
+/// Whether a set that shows the name within a zone is the name's own NSEC or NSEC3 record, with DNAME: then what is below the name is redirected,
+/// and no node is made there (RFC 5155 8.3, RFC 6672 2.4, RFC 6840 4.1).
+pub(crate) fn redirects_below(name: &Name, set: &RecordSet) -> bool {
     match set.datas() {
-        [one] => lists_dname(one),
+        [one] => (set.rtype() == Rtype::NSEC3 || set.owner() == name) && lists_dname(one),
         _ => false,
     }
 }
 
-/// Whether data are those of an NSEC3 record with DNAME.
+/// Whether data are those of an NSEC or NSEC3 record with DNAME.
 fn lists_dname(data: &Data) -> bool {
-    match data.nsec3() {
-        Some(nsec3) => {
-            let bitmap = RtypeBitmap {
-                octets: nsec3.types,
-            };
-            bitmap.contains(Rtype::DNAME)
-        }
-        None => false,
+    match (data.nsec3(), data.nsec()) {
+        (Some(nsec3), _) => has_dname(nsec3.types),
+        (None, Some(nsec)) => has_dname(nsec.types),
+        (None, None) => false,
     }
+}
+
+/// Whether a bitmap has the bit of DNAME.
+fn has_dname(types: &[u8]) -> bool {
+    let bitmap = RtypeBitmap { octets: types };
+    bitmap.contains(Rtype::DNAME)
 }

@@ -75,14 +75,14 @@ fn go_on<L: Ledger>(
 fn below(node: Node<StandIn>) -> Onward {
     match node.standing() {
         Standing::Apex(_) => Onward::Zone(node),
-        Standing::Within(last) => beside(last),
+        Standing::Within(last) => beside(node.name(), last),
         Standing::Insecure(_, _) | Standing::Bogus(_) => Onward::End,
     }
 }
 
 /// Where the way goes on below a name that is within a zone by this link.
-fn beside(last: &Link) -> Onward {
-    if redirects_below(last.records()) {
+fn beside(name: &Name, last: &Link) -> Onward {
+    if redirects_below(name, last.records()) {
         Onward::End
     } else {
         Onward::Same
