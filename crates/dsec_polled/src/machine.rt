@@ -1,0 +1,71 @@
+//! A message judged by hand: the caller's own loop answers its steps, from caches of nodes and an upstream.
+
+use crate::scene::{Scene, Told, tell};
+use anyhow::{Context, Result};
+use dsec_core::{Input, Step, Validation};
+use dsec_crypto::StandIn;
+use dsec_group::{NoMemo, Steps};
+use dsec_node::{Caches, Config};
+use dsec_outside::Upstream;
+use dsec_serve::answer_to;
+use std::alloc::Global;
+use std::sync::ledger::Ledger;
+
+/// A message that is judged by hand.
+#[derive(Drop)]
+pub(crate) struct Machine {
+    validation: Validation<StandIn>,
+    next: Option<Input<StandIn>>,
+    questions: u64,
+    told: Option<Told>,
+}
+
+impl Machine {
+    /// The message with this index, which is to begin.
+    pub(crate) fn start(alloc: Global, scene: &Scene, index: usize) -> Result<Machine> {
+        let message = scene.message(alloc, index)?;
+        let moment = scene.moment(index)?;
+        let anchors = scene.anchors(alloc)?;
+        Ok(Machine {
+            validation: Validation::start(alloc, anchors, Config::new(), &message, moment)?,
+            next: Some(Input::Begin),
+            questions: 0,
+            told: None,
+        })
+    }
+
+    /// One step more, where it has not ended: it is given what answers the last step, and caches or the upstream answer the next.
+    pub(crate) fn turn<C: Caches<StandIn>, U: Upstream, L: Ledger>(
+        &mut self,
+        alloc: Global,
+        caches: &mut C,
+        upstream: &mut U,
+        steps: &mut Steps<L>,
+    ) {
+        let Some(input) = self.next.take() else {
+            return;
+        };
+        if !self.validation.awaits(&input) {
+            return;
+        }
+        match self
+            .validation
+            .advance::<L>(alloc, input, &mut NoMemo, steps)
+        {
+            Ok(Step::Done(outcome)) => self.told = Some((outcome.state(), outcome.cause())),
+            Ok(step) => {
+                if let Step::Ask(_, _) = &step {
+                    self.questions = self.questions.saturating_add(1);
+                }
+                self.next = answer_to(alloc, caches, upstream, step).ok();
+            }
+            Err(_) => {}
+        }
+    }
+
+    /// Writes what is told of the message, where nothing more is waited for.
+    pub(crate) fn tell(&self, rt: &HostRuntime, way: &str, index: usize) -> Result<()> {
+        let told = self.told.context("not judged")?;
+        tell(rt, way, index, told, "questions", self.questions)
+    }
+}
