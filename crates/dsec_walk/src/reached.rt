@@ -68,17 +68,17 @@ fn is_own(name: &Name, set: &RecordSet) -> bool
 }
 
 /// Whether data are those of an NSEC or NSEC3 record with DNAME.
-fn lists_dname(data: &Data) -> bool
-    ensures { result ≡ walks.lists_dname data.now.rtype data.now.octets }
+fn lists_dname(one: &Data) -> bool
+    ensures { result ≡ walks.lists_dname one.now.rtype one.now.octets }
 {
-    nsec3_lists_dname(data) || nsec_lists_dname(data)
+    nsec3_lists_dname(one) || nsec_lists_dname(one)
 }
 
 /// Whether data are those of an NSEC3 record with DNAME.
-fn nsec3_lists_dname(data: &Data) -> bool
-    ensures { result ≡ walks.nsec3_lists_dname (nsec3_in data.now) }
+fn nsec3_lists_dname(one: &Data) -> bool
+    ensures { result ≡ walks.nsec3_lists_dname (nsec3_in one.now) }
 {
-    match data.nsec3() {
+    match one.nsec3() {
         Some(nsec3) => {
             let bitmap = RtypeBitmap {
                 octets: nsec3.types,
@@ -90,10 +90,10 @@ fn nsec3_lists_dname(data: &Data) -> bool
 }
 
 /// Whether data are those of an NSEC record with DNAME.
-fn nsec_lists_dname(data: &Data) -> bool
-    ensures { result ≡ walks.nsec_lists_dname (nsec_in data.now) }
+fn nsec_lists_dname(one: &Data) -> bool
+    ensures { result ≡ walks.nsec_lists_dname (nsec_in one.now) }
 {
-    match data.nsec() {
+    match one.nsec() {
         Some(nsec) => {
             let bitmap = RtypeBitmap { octets: nsec.types };
             bitmap.contains(Rtype::DNAME)
