@@ -2,10 +2,12 @@
 
 use crate::scene::{Scene, tell};
 use anyhow::{Error, Result};
+use dsec_anchors::TrustAnchors;
 use dsec_crypto::StandIn;
 use dsec_group::{Group, NoMemo, Seed, groups};
 use dsec_name::Name;
 use dsec_node::{Caches, Config, Node, OwnedCaches};
+use dsec_outside::Upstream;
 use dsec_single::{validate_with_node, validated};
 use dsec_validated::ValidatedGroup;
 use dsec_wire::Message;
@@ -41,7 +43,9 @@ fn in_two_ways(
 ) -> Result<()> {
     let moment = scene.moment(index)?;
     let before = scene.upstream.asked;
-    let made = from_anchors(rt.alloc(), scene, caches, group, moment)?;
+    let anchors = scene.anchors(rt.alloc())?;
+    let upstream = &mut scene.upstream;
+    let made = from_anchors(rt.alloc(), &anchors, caches, upstream, group, moment)?;
     let questions = scene.upstream.asked.saturating_sub(before);
     tell(
         rt,
@@ -58,25 +62,28 @@ fn in_two_ways(
 }
 
 /// A group with what validation from the anchors says of it.
-fn from_anchors(
+fn from_anchors<U: Upstream>(
     alloc: Global,
-    scene: &mut Scene,
+    anchors: &TrustAnchors,
     caches: &mut OwnedCaches<StandIn>,
+    upstream: &mut U,
     group: &Group,
     moment: u64,
 ) -> Result<ValidatedGroup<StandIn>> {
-    let anchors = scene.anchors(alloc)?;
-    validated(
+    let config = Config::new();
+    match validated(
         alloc,
         group,
-        &anchors,
-        &Config::new(),
+        anchors,
+        &config,
         caches,
         &mut NoMemo,
-        &mut scene.upstream,
+        upstream,
         moment,
-    )
-    .map_err(Error::msg)
+    ) {
+        Ok(made) => Ok(made),
+        Err(error) => Err(Error::msg(error)),
+    }
 }
 
 /// The node that is kept for a zone, or for the nearest name above it, if one is.

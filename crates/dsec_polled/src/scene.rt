@@ -20,12 +20,14 @@ pub(crate) struct Scene {
 impl Scene {
     /// The scene of a script.
     pub(crate) fn read(alloc: Global, text: &[u8]) -> Result<Scene> {
-        let script = read_script(alloc, text).ok().context("no script")?;
-        Ok(Scene {
-            anchors: script.anchors,
-            items: script.items,
-            upstream: TableUpstream::new(script.replies),
-        })
+        match read_script(alloc, text) {
+            Ok(script) => Ok(Scene {
+                anchors: script.anchors,
+                items: script.items,
+                upstream: TableUpstream::new(script.replies),
+            }),
+            Err(_) => Err(Error::msg("no script")),
+        }
     }
 
     /// The anchors, once more.
