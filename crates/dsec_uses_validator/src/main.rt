@@ -4,15 +4,14 @@
 mod resolver;
 mod verifier;
 
-ghost use Rattle.std.specs.Prelude.{IsTrue};
+ghost use Rattle.std.specs.Prelude.{IfSome};
 ghost use Rattle.dsec_context.specs.Setting.{world_at};
-ghost use Rattle.dsec_nodes.specs.Outcomes.{Outcome};
 ghost use Rattle.dsec_nodes.specs.SoundOutcomes.{IsSound};
 ghost use Rattle.dsec_uses_validator.specs.Accepted.{by_one_algorithm};
 
 use anyhow::{Context, Error, Result};
 use dsec_anchors::TrustAnchors;
-use dsec_context::ValidationContext;
+use dsec_context::{ValidationContext, Verdict};
 use dsec_group::ValidationState;
 use dsec_outside::Upstream;
 use dsec_wire::Message;
@@ -27,19 +26,23 @@ const ANCHOR: &str = "example. 3600 IN DNSKEY 257 3 13 AQI=";
 /// The moment at which replies are judged, in seconds since 1970.
 const NOW: u64 = 500;
 
-/// Whether a reply is Secure: it answers by sets that signatures lead to from the context's anchors, or denies so (RFC 4033 5).
-fn is_secure<U: Upstream>(
+/// The verdict on a reply, if it is Secure: the reply answers by sets that signatures lead to from the context's anchors, or denies so
+/// (RFC 4033 5).
+fn secure_verdict<U: Upstream>(
     alloc: Global,
     context: &mut ValidationContext<OneAlgorithm>,
     reply: &mut Message,
     upstream: &mut U,
     now: u64,
-) -> bool
-    ensures { IsTrue result → (o : Outcome) × IsSound (world_at by_one_algorithm context.old.anchors context.old.config now) context.old.config.max_cname_dname reply.old o }
+) -> Option<Verdict<OneAlgorithm>>
+    ensures { IfSome result (λ v. IsSound (world_at by_one_algorithm context.old.anchors context.old.config now) context.old.config.max_cname_dname reply.old v.outcome) }
 {
     match context.validate_msg(alloc, reply, upstream, now) {
-        Ok(verdict) => matches!(verdict.outcome().state(), ValidationState::Secure),
-        Err(_) => false,
+        Ok(verdict) => match verdict.outcome().state() {
+            ValidationState::Secure => Some(verdict),
+            _ => None,
+        },
+        Err(_) => None,
     }
 }
 
@@ -61,9 +64,9 @@ fn main(rt: HostRuntime) -> Result<()> {
             .ok()
             .context("no hex")?;
         let mut reply = Message::from_octets(octets.into_vec()).map_err(Error::msg)?;
-        match is_secure(alloc, &mut context, &mut reply, &mut upstream, NOW) {
-            true => println!(rt; "secure")?,
-            false => println!(rt; "not secure")?,
+        match secure_verdict(alloc, &mut context, &mut reply, &mut upstream, NOW) {
+            Some(_) => println!(rt; "secure")?,
+            None => println!(rt; "not secure")?,
         }
     }
     Ok(())
