@@ -208,6 +208,7 @@ class Chain(unittest.TestCase):
                       "the signature by key 5151 has expired at 2026-11-27 00:00:00", "the question fails", "DS of key 1810, algorithm 13"):
             self.assertIn(words, text)
         self.assertIn("an expansion of *.w.example.", self.told("wildcard-answer"))
+        self.assertIn("nothing stands below a DNAME", self.told("below-dname"))
         self.assertIn("next a.example., types NS SOA MX RRSIG NSEC DNSKEY", self.told("missing-name"))
 
     def test_pictures(self):

@@ -2,7 +2,7 @@
 
 The tests are this tool's own: they say where to look. What a message is judged to be is the program's to say."""
 
-from data import (CNAME, DNSKEY, DS, NS, NSEC, NSEC3, SOA, base32hex, data_text, ds_from, hash_of, key_from, key_text, nsec3_from,
+from data import (CNAME, DNAME, DNSKEY, DS, NS, NSEC, NSEC3, SOA, base32hex, data_text, ds_from, hash_of, key_from, key_text, nsec3_from,
                   nsec_from, speaks_of)
 from runs import reply_for
 from signatures import is_expansion, look_at, sets_in
@@ -15,10 +15,11 @@ MOST_ITERATIONS, BOGUS_ITERATIONS = 100, 500
 
 
 class Reached:
-    """How far a walk from an anchor has come: the zone with its keys, the box and the state that it is in, and the name where it stopped."""
+    """How far a walk from an anchor has come: the zone with its keys, the box and the state that it is in, the name where it stopped, and
+    whether its last name redirects what is below it."""
 
-    def __init__(self, name, keys, box, state, stopped=None):
-        self.name, self.keys, self.box, self.state, self.stopped = name, keys, box, state, stopped
+    def __init__(self, name, keys, box, state, stopped=None, redirects=False):
+        self.name, self.keys, self.box, self.state, self.stopped, self.redirects = name, keys, box, state, stopped, redirects
 
 
 def set_in(section, owner, rtype):
@@ -46,8 +47,16 @@ def walk(story, script, island, target, tests):
     for length in range(len(island) + 1, len(target) + 1):
         if reached.state != GOOD:
             break
-        reached = stepped(story, script, reached, target[len(target) - length:], tests)
+        name = target[len(target) - length:]
+        reached = below_dname(story, reached, name) if reached.redirects else stepped(story, script, reached, name, tests)
     return reached
+
+
+def below_dname(story, reached, name):
+    """A name below one with DNAME, which redirects it: nothing stands there, and nothing is asked (RFC 5155 8.3, RFC 6672 2.4)."""
+    place = story.box(story.zone(reached.name), SETS, set_title(name, DS, 1), ["not asked for: nothing stands below a DNAME"], FAILED)
+    story.arrow(reached.box, place, FAILED)
+    return Reached(reached.name, reached.keys, place, FAILED, name)
 
 
 def anchored(story, script, island, tests):
@@ -130,38 +139,41 @@ def without_ds(story, zone, reached, name, reply, tests):
             found = look_at(one, reached.name, reached.keys, tests)
             types = nsec_from(one.records[0]).types if one.rtype == NSEC and own else []
             wrong = found.fault or wrong_for_ds(one, found.signature, types)
-            return shown(story, zone, reached, one, wrong, found, "a delegation without DS: unsigned" if NS in types else None, name, tests)
+            unsigned = "a delegation without DS: unsigned" if NS in types else None
+            return shown(story, zone, reached, one, wrong, found, unsigned, DNAME in types, name, tests)
     for one in sets_in(reply.authority):
         if one.rtype == NSEC3 and len(one.records) == 1 and lowered(one.owner[1:]) == lowered(reached.name):
             said = said_by_hash(nsec3_from(one.records[0]), one.owner[0].lower().decode("ascii", "replace"), name)
             if said:
                 found = look_at(one, reached.name, reached.keys, tests)
-                return shown(story, zone, reached, one, found.fault or said[0], found, said[1], name, tests)
+                return shown(story, zone, reached, one, found.fault or said[0], found, said[1], said[2], name, tests)
     place = story.box(zone, SETS, set_title(name, DS, 1), ["no DS record, and nothing that shows that there is none"], FAILED)
     story.arrow(reached.box, place, FAILED)
     return Reached(reached.name, reached.keys, place, FAILED, name)
 
 
 def said_by_hash(nsec3, label, name):
-    """What an NSEC3 record says of a name's DS set: what is wrong, and why the name is unsigned (RFC 5155 8.6, 8.9). None: nothing."""
+    """What an NSEC3 record says of a name's DS set: what is wrong, why the name is unsigned (RFC 5155 8.6, 8.9), and whether it redirects
+    what is below it. None: nothing."""
     if nsec3.algorithm != 1 or nsec3.flags > 1:
         return None
     if nsec3.iterations > MOST_ITERATIONS:
-        return "more than %d iterations" % BOGUS_ITERATIONS if nsec3.iterations > BOGUS_ITERATIONS else None, "too many iterations: unsigned"
+        return ("more than %d iterations" % BOGUS_ITERATIONS if nsec3.iterations > BOGUS_ITERATIONS else None,
+                "too many iterations: unsigned", False)
     digest, following = base32hex(hash_of(name, nsec3)), base32hex(nsec3.next)
     if digest == label:
         wrong = ("it says that there is a DS record" if DS in nsec3.types else "it is the zone's own, from below the cut"
                  if SOA in nsec3.types else None)
-        return wrong, "a delegation without DS: unsigned" if NS in nsec3.types else None
+        return wrong, "a delegation without DS: unsigned" if NS in nsec3.types else None, DNAME in nsec3.types
     if label < digest < following or following <= label and (label < digest or digest < following):
-        return None if nsec3.flags & 1 else "it says that the name isn't there", "it may be a delegation by Opt-Out: unsigned"
+        return None if nsec3.flags & 1 else "it says that the name isn't there", "it may be a delegation by Opt-Out: unsigned", False
     return None
 
 
-def shown(story, zone, reached, one, wrong, found, unsigned, name, tests):
+def shown(story, zone, reached, one, wrong, found, unsigned, redirects, name, tests):
     """What comes of a record that speaks of a missing DS set: a failure, an unsigned name, or a name of the zone itself."""
     if not wrong and not unsigned:
-        return reached
+        return Reached(reached.name, reached.keys, reached.box, reached.state, redirects=redirects)
     lines = data_lines(one.rtype, one.records) + ([wrong] if wrong else signed_lines(found.signature, one, tests.moment) + [unsigned])
     state = FAILED if wrong else UNSIGNED
     place = story.box(zone, SETS, set_title(one.owner, one.rtype, one.rclass), lines, state)
