@@ -19,7 +19,7 @@ use Rattle.dsec_spec.specs.Records.{Record}
 use Rattle.dsec_spec.specs.Redirection.{Mapping, silent, agrees, too_long, bare_alias, first_said, fitting, followed, followed_from, followers, group_says, index_by, is_bare, is_index, map_dname, mapping, moved, mapping_to, said_by, staying_from, stays, with_followers}
 use Rattle.dsec_group.specs.Followers.{follower_view, followers_at, followers_in}
 use Rattle.dsec_group.specs.Keys.{GroupKey, group_key, has_key, is_key}
-use Rattle.dsec_group.specs.Mappings.{is_dname_of_class, or_push_error}
+use Rattle.dsec_group.specs.Mappings.{may_speak, or_push_error}
 use Rattle.dsec_group.specs.declared.settle.Follower.{Follower}
 
 -- the name that a DNAME maps a name to, put together of its first labels and the target
@@ -56,9 +56,9 @@ module _ (o : Option Labels) (alias : Labels) where
   pub too_long_at : (e : PushNameError) → OnFalse (needs_memory e) (or_push_error o ≡ Err e) → e ≡ PushNameError.PushNameError → mapping_to o alias ≡ too_long
   too_long_at e h same = too_long_by (subst (λ x. OnFalse (needs_memory x) (or_push_error o ≡ Err x)) same h)
 
--- a group of DNAME records of the class speaks by its records, and no other does
-pub speaks : (cname : Record) (g : Group) → is_dname_of_class cname g ≡ true → group_says cname g ≡ said_by cname g.records
-speaks cname g h = rw h refl
+-- a group that may speak does so by its records
+pub speaks : (anchors : List Record) (cname : Record) (g : Group) → may_speak anchors cname g ≡ true → group_says anchors cname g ≡ said_by cname g.records
+speaks anchors cname g h = rw h refl
 
 module _ (cname : Record) where
   said_at : (dname : Record) (records : List Record) (i : ℕ) → i < length records → dname ≡ get_or records i dname
@@ -82,28 +82,30 @@ module _ (cname : Record) where
   unfolding said_by
   said_nothing records i past = at_drop_all (said_by cname) records i past
 
+-- the group that a CNAME record follows from, looked for from an index on
+module _ (anchors : List Record) (cname : Record) where
   followed_at : (g : Group) (groups : List Group) (i : ℕ) → i < length groups → g ≡ get_or groups i g
-      → followed_from cname i (drop i groups) ≡ index_by i (group_says cname g) (followed_from cname (i + 1) (drop (i + 1) groups))
+      → followed_from anchors cname i (drop i groups) ≡ index_by i (group_says anchors cname g) (followed_from anchors cname (i + 1) (drop (i + 1) groups))
   unfolding followed_from
   followed_at g groups i within is =
       let next : i + 1 ≡ suc i = omega arith in
-      at_drop_more (followed_from cname i) groups i g within ∙ (ap (λ (h : Group). followed_from cname i (h ∷ drop (i + 1) groups)) (sym is)
-      ∙ ap (λ n. index_by i (group_says cname g) (followed_from cname n (drop (i + 1) groups))) (sym next))
+      at_drop_more (followed_from anchors cname i) groups i g within ∙ (ap (λ (h : Group). followed_from anchors cname i (h ∷ drop (i + 1) groups)) (sym is)
+      ∙ ap (λ n. index_by i (group_says anchors cname g) (followed_from anchors cname n (drop (i + 1) groups))) (sym next))
 
-  pub followed_later : (g : Group) (groups : List Group) (i : ℕ) (whole : Option ℕ) → i < length groups → g ≡ get_or groups i g → group_says cname g ≡ silent
-      → followed_from cname i (drop i groups) ≡ whole → followed_from cname (i + 1) (drop (i + 1) groups) ≡ whole
+  pub followed_later : (g : Group) (groups : List Group) (i : ℕ) (whole : Option ℕ) → i < length groups → g ≡ get_or groups i g → group_says anchors cname g ≡ silent
+      → followed_from anchors cname i (drop i groups) ≡ whole → followed_from anchors cname (i + 1) (drop (i + 1) groups) ≡ whole
   followed_later g groups i whole within is none so_far =
-      sym (ap (λ m. index_by i m (followed_from cname (i + 1) (drop (i + 1) groups))) none) ∙ (sym (followed_at g groups i within is) ∙ so_far)
+      sym (ap (λ m. index_by i m (followed_from anchors cname (i + 1) (drop (i + 1) groups))) none) ∙ (sym (followed_at g groups i within is) ∙ so_far)
 
-  pub followed_here : (g : Group) (groups : List Group) (i : ℕ) → i < length groups → g ≡ get_or groups i g → group_says cname g ≡ agrees → followed_from cname i (drop i groups) ≡ Some i
-  followed_here g groups i within is says = followed_at g groups i within is ∙ ap (λ m. index_by i m (followed_from cname (i + 1) (drop (i + 1) groups))) says
+  pub followed_here : (g : Group) (groups : List Group) (i : ℕ) → i < length groups → g ≡ get_or groups i g → group_says anchors cname g ≡ agrees → followed_from anchors cname i (drop i groups) ≡ Some i
+  followed_here g groups i within is says = followed_at g groups i within is ∙ ap (λ m. index_by i m (followed_from anchors cname (i + 1) (drop (i + 1) groups))) says
 
-  pub followed_never : (g : Group) (groups : List Group) (i : ℕ) → i < length groups → g ≡ get_or groups i g → group_says cname g ≡ too_long → followed_from cname i (drop i groups) ≡ None
-  followed_never g groups i within is says = followed_at g groups i within is ∙ ap (λ m. index_by i m (followed_from cname (i + 1) (drop (i + 1) groups))) says
+  pub followed_never : (g : Group) (groups : List Group) (i : ℕ) → i < length groups → g ≡ get_or groups i g → group_says anchors cname g ≡ too_long → followed_from anchors cname i (drop i groups) ≡ None
+  followed_never g groups i within is says = followed_at g groups i within is ∙ ap (λ m. index_by i m (followed_from anchors cname (i + 1) (drop (i + 1) groups))) says
 
-  pub followed_none : (groups : List Group) (i : ℕ) → length groups ≤ i → followed_from cname i (drop i groups) ≡ None
+  pub followed_none : (groups : List Group) (i : ℕ) → length groups ≤ i → followed_from anchors cname i (drop i groups) ≡ None
   unfolding followed_from
-  followed_none groups i past = at_drop_all (followed_from cname i) groups i past
+  followed_none groups i past = at_drop_all (followed_from anchors cname i) groups i past
 
 -- those that follow from the group at an index, by the indexes of all
 follower_step : (o : Option ℕ) (os : List (Option ℕ)) (g : Group) (gs kept : List Group) (n : ℕ) → followers_at n (followers_in os gs) ≡ kept
@@ -114,9 +116,9 @@ follower_step (Some to) os g gs kept n h = go (to == n) refl where
   go true e = rw (e, h) refl
   go false e = rw (e, h) refl
 
-pub followers_are : (groups gs : List Group) (n : ℕ) → followers_at n (followers_in (map (followed groups) gs) gs) ≡ filter (λ g. is_index n (followed groups g)) gs
-followers_are groups [] n = refl
-followers_are groups (g ∷ gs) n = follower_step (followed groups g) (map (followed groups) gs) g gs (filter (λ h. is_index n (followed groups h)) gs) n (followers_are groups gs n)
+pub followers_are : (anchors : List Record) (groups gs : List Group) (n : ℕ) → followers_at n (followers_in (map (followed anchors groups) gs) gs) ≡ filter (λ g. is_index n (followed anchors groups g)) gs
+followers_are anchors groups [] n = refl
+followers_are anchors groups (g ∷ gs) n = follower_step (followed anchors groups g) (map (followed anchors groups) gs) g gs (filter (λ h. is_index n (followed anchors groups h)) gs) n (followers_are anchors groups gs n)
 
 or_false : (b : Bool) → (b || false) ≡ b
 or_false true = refl
@@ -157,35 +159,35 @@ followers_more n xs x =
       go false e = rw e refl
 
 -- the groups that stay, with one more group at the end
-pub staying_more : (groups xs : List Group) (x : Group) (n m : ℕ) → m ≡ n + length xs → staying_from groups n (xs ++ x ∷ []) ≡ staying_from groups n xs ++ stays groups m x
+pub staying_more : (anchors : List Record) (groups xs : List Group) (x : Group) (n m : ℕ) → m ≡ n + length xs → staying_from anchors groups n (xs ++ x ∷ []) ≡ staying_from anchors groups n xs ++ stays anchors groups m x
 unfolding staying_from
-staying_more groups [] x n m e =
+staying_more anchors groups [] x n m e =
     let same : m ≡ n = omega (arith, e) in
-    append-nil (stays groups n x) ∙ ap (λ k. stays groups k x) (sym same)
-staying_more groups (y ∷ xs) x n m e =
-    ap (λ zs. stays groups n y ++ zs) (staying_more groups xs x (suc n) m (omega (arith, e)))
-    ∙ sym (append_assoc (stays groups n y) (staying_from groups (suc n) xs) (stays groups m x))
+    append-nil (stays anchors groups n x) ∙ ap (λ k. stays anchors groups k x) (sym same)
+staying_more anchors groups (y ∷ xs) x n m e =
+    ap (λ zs. stays anchors groups n y ++ zs) (staying_more anchors groups xs x (suc n) m (omega (arith, e)))
+    ∙ sym (append_assoc (stays anchors groups n y) (staying_from anchors groups (suc n) xs) (stays anchors groups m x))
 
 -- a key that none of the groups has, none that stays has
-pub staying_keys : (k : GroupKey) (groups gs : List Group) (n : ℕ) → has_key k gs ≡ false → has_key k (staying_from groups n gs) ≡ false
+pub staying_keys : (anchors : List Record) (k : GroupKey) (groups gs : List Group) (n : ℕ) → has_key k gs ≡ false → has_key k (staying_from anchors groups n gs) ≡ false
 unfolding staying_from
-staying_keys k groups [] n h = refl
-staying_keys k groups (g ∷ gs) n h =
+staying_keys anchors k groups [] n h = refl
+staying_keys anchors k groups (g ∷ gs) n h =
     let q = both (is_key k (group_key g)) (has_key k gs) h in
-    go (is_some (followed groups g)) q.0 (staying_keys k groups gs (suc n) q.1) where
+    go (is_some (followed anchors groups g)) q.0 (staying_keys anchors k groups gs (suc n) q.1) where
       both : (b c : Bool) → (b || c) ≡ false → (b ≡ false) × (c ≡ false)
       both true c h = absurd (true≢false h)
       both false c h = (refl, h)
 
-      go : (b : Bool) → is_key k (group_key g) ≡ false → has_key k (staying_from groups (suc n) gs) ≡ false
-          → has_key k (cond b [] (with_followers g (followers groups n) ∷ []) ++ staying_from groups (suc n) gs) ≡ false
+      go : (b : Bool) → is_key k (group_key g) ≡ false → has_key k (staying_from anchors groups (suc n) gs) ≡ false
+          → has_key k (cond b [] (with_followers g (followers anchors groups n) ∷ []) ++ staying_from anchors groups (suc n) gs) ≡ false
       go true a h = h
       go false a h = rw a h
 
 -- where none is bare, all stay as they are
-none_follows : (groups : List Group) (g : Group) → is_bare g ≡ false → followed groups g ≡ None
-none_follows groups g h = go (bare_alias g) refl h where
-  go : (o : Option Record) → bare_alias g ≡ o → is_some o ≡ false → followed groups g ≡ None
+none_follows : (anchors : List Record) (groups : List Group) (g : Group) → is_bare g ≡ false → followed anchors groups g ≡ None
+none_follows anchors groups g h = go (bare_alias g) refl h where
+  go : (o : Option Record) → bare_alias g ≡ o → is_some o ≡ false → followed anchors groups g ≡ None
   go None e h = rw e refl
   go (Some r) e h = absurd (true≢false h)
 
@@ -195,18 +197,18 @@ first_bare g gs h = go (is_bare g) refl (sym (sum_by-cons (λ (x : Group). cond 
   go true e h = absurd (omega (arith, h))
   go false e h = (e, omega (arith, h))
 
-no_followers : (groups gs : List Group) (n : ℕ) → count_by is_bare gs ≡ 0 → filter (λ g. is_index n (followed groups g)) gs ≡ []
-no_followers groups [] n h = refl
-no_followers groups (g ∷ gs) n h =
+no_followers : (anchors : List Record) (groups gs : List Group) (n : ℕ) → count_by is_bare gs ≡ 0 → filter (λ g. is_index n (followed anchors groups g)) gs ≡ []
+no_followers anchors groups [] n h = refl
+no_followers anchors groups (g ∷ gs) n h =
     let q = first_bare g gs h in
-    rw (none_follows groups g q.0) (no_followers groups gs n q.1)
+    rw (none_follows anchors groups g q.0) (no_followers anchors groups gs n q.1)
 
-pub none_moves : (groups gs : List Group) (n : ℕ) → count_by is_bare groups ≡ 0 → count_by is_bare gs ≡ 0 → staying_from groups n gs ≡ gs
+pub none_moves : (anchors : List Record) (groups gs : List Group) (n : ℕ) → count_by is_bare groups ≡ 0 → count_by is_bare gs ≡ 0 → staying_from anchors groups n gs ≡ gs
 unfolding staying_from
-none_moves groups [] n all h = refl
-none_moves groups (g ∷ gs) n all h =
+none_moves anchors groups [] n all h = refl
+none_moves anchors groups (g ∷ gs) n all h =
     let q = first_bare g gs h in
-    rw (none_follows groups g q.0, no_followers groups groups n all, with_none g, none_moves groups gs (suc n) all q.1) refl
+    rw (none_follows anchors groups g q.0, no_followers anchors groups groups n all, with_none g, none_moves anchors groups gs (suc n) all q.1) refl
 
 -- copies of records pushed one after the other
 pub pushed_one : (was now more records : List Record) (i : ℕ) (item copy : Record) → now ≡ was ++ take i records → more ≡ now ++ copy ∷ [] → copy ≡ item → i < length records → item ≡ get_or records i item
@@ -273,29 +275,29 @@ follows_none all gs i within fs whole so_far none = go (get_or all i None) refl 
   go (Some to) e = absurd (none to e)
 
 -- groups that stay, of which one more was looked at
-module _ (groups : List Group) (i : ℕ) (g : Group) (settled : List Group) (within : i < length groups) (is : g ≡ get_or groups i g) (so_far : settled ≡ staying_from groups 0 (take i groups)) where
-  stays_next : staying_from groups 0 (take (i + 1) groups) ≡ settled ++ stays groups i g
+module _ (anchors : List Record) (groups : List Group) (i : ℕ) (g : Group) (settled : List Group) (within : i < length groups) (is : g ≡ get_or groups i g) (so_far : settled ≡ staying_from anchors groups 0 (take i groups)) where
+  stays_next : staying_from anchors groups 0 (take (i + 1) groups) ≡ settled ++ stays anchors groups i g
   stays_next =
-      ap (staying_from groups 0) (take_more groups i g within ∙ ap (λ (h : Group). take i groups ++ h ∷ []) (sym is))
-      ∙ (staying_more groups (take i groups) g 0 i (omega (arith, within, length-take i groups)) ∙ ap (λ (hs : List Group). hs ++ stays groups i g) (sym so_far))
+      ap (staying_from anchors groups 0) (take_more groups i g within ∙ ap (λ (h : Group). take i groups ++ h ∷ []) (sym is))
+      ∙ (staying_more anchors groups (take i groups) g 0 i (omega (arith, within, length-take i groups)) ∙ ap (λ (hs : List Group). hs ++ stays anchors groups i g) (sym so_far))
 
-  pub stays_on : (more : List Group) (whole : Group) (pairs : List (ℕ × Group)) → is_some (followed groups g) ≡ false → whole ≡ with_followers g (followers_at i pairs)
-      → pairs ≡ followers_in (map (followed groups) groups) groups → more ≡ settled ++ whole ∷ [] → more ≡ staying_from groups 0 (take (i + 1) groups)
+  pub stays_on : (more : List Group) (whole : Group) (pairs : List (ℕ × Group)) → is_some (followed anchors groups g) ≡ false → whole ≡ with_followers g (followers_at i pairs)
+      → pairs ≡ followers_in (map (followed anchors groups) groups) groups → more ≡ settled ++ whole ∷ [] → more ≡ staying_from anchors groups 0 (take (i + 1) groups)
   stays_on more whole pairs none made are pushed =
-      pushed ∙ (ap (λ (h : Group). settled ++ h ∷ []) (made ∙ ap (with_followers g) (ap (followers_at i) are ∙ followers_are groups groups i))
-      ∙ (ap (λ b. settled ++ (if b then [] else with_followers g (followers groups i) ∷ [])) (sym none) ∙ sym stays_next))
+      pushed ∙ (ap (λ (h : Group). settled ++ h ∷ []) (made ∙ ap (with_followers g) (ap (followers_at i) are ∙ followers_are anchors groups groups i))
+      ∙ (ap (λ b. settled ++ (if b then [] else with_followers g (followers anchors groups i) ∷ [])) (sym none) ∙ sym stays_next))
 
-  pub leaves_off : is_some (followed groups g) ≡ true → settled ≡ staying_from groups 0 (take (i + 1) groups)
+  pub leaves_off : is_some (followed anchors groups g) ≡ true → settled ≡ staying_from anchors groups 0 (take (i + 1) groups)
   leaves_off some =
       sym (append-nil settled)
-      ∙ (ap (λ b. settled ++ (if b then [] else with_followers g (followers groups i) ∷ [])) (sym some) ∙ sym stays_next)
+      ∙ (ap (λ b. settled ++ (if b then [] else with_followers g (followers anchors groups i) ∷ [])) (sym some) ∙ sym stays_next)
 
 -- what the group at an index follows from, among the indexes of all
-pub followed_index_at : (groups : List Group) (all : List (Option ℕ)) (i : ℕ) (o : Option ℕ) (g : Group) → all ≡ map (followed groups) groups → o ≡ get_or all i o → i < length groups → g ≡ get_or groups i g
-    → followed groups g ≡ o
-followed_index_at groups all i o g are there within is =
-    let mine : slice_get (map (followed groups) groups) i ≡ Some (followed groups g) = there_by (followed groups) groups i g within is in
-    let its : slice_get all i ≡ Some o = there_is all i o o (omega (arith, within, ap length are, length-map groups (followed groups))) there in
+pub followed_index_at : (anchors : List Record) (groups : List Group) (all : List (Option ℕ)) (i : ℕ) (o : Option ℕ) (g : Group) → all ≡ map (followed anchors groups) groups → o ≡ get_or all i o → i < length groups → g ≡ get_or groups i g
+    → followed anchors groups g ≡ o
+followed_index_at anchors groups all i o g are there within is =
+    let mine : slice_get (map (followed anchors groups) groups) i ≡ Some (followed anchors groups g) = there_by (followed anchors groups) groups i g within is in
+    let its : slice_get all i ≡ Some o = there_is all i o o (omega (arith, within, ap length are, length-map groups (followed anchors groups))) there in
     ap (λ (x : Option (Option ℕ)). unwrap_or x None) (sym mine ∙ ap (λ (os : List (Option ℕ)). slice_get os i) (sym are) ∙ its)
 
 -- each index has its element
@@ -305,8 +307,8 @@ element (x ∷ xs) zero h = (x, refl)
 element (x ∷ xs) (suc i) h = element xs i (omega (arith, h))
 
 -- where none is bare nothing is moved
-pub nothing_moved : (limit : ℕ) (groups : List Group) → count_by is_bare groups ≡ 0 → groups ≡ unwrap_or (moved limit groups) groups
-nothing_moved limit groups none = go (nat_lt limit (count_by is_bare groups)) refl where
-  go : (b : Bool) → nat_lt limit (count_by is_bare groups) ≡ b → groups ≡ unwrap_or (moved limit groups) groups
+pub nothing_moved : (anchors : List Record) (limit : ℕ) (groups : List Group) → count_by is_bare groups ≡ 0 → groups ≡ unwrap_or (moved anchors limit groups) groups
+nothing_moved anchors limit groups none = go (nat_lt limit (count_by is_bare groups)) refl where
+  go : (b : Bool) → nat_lt limit (count_by is_bare groups) ≡ b → groups ≡ unwrap_or (moved anchors limit groups) groups
   go true e = rw e refl
-  go false e = rw e (sym (none_moves groups groups 0 none none))
+  go false e = rw e (sym (none_moves anchors groups groups 0 none none))

@@ -1,11 +1,13 @@
 -- What DNAME records say of CNAME records, as the code answers it.
-use Rattle.std.specs.Prelude.{◌==◌, ◌&&◌, Bool, Option, Some, None, Result, Ok, Err}
+use Rattle.std.specs.Prelude.{◌==◌, ◌&&◌, List, Bool, Option, Some, None, Result, Ok, Err}
+use Rattle.std.proofs.Math.Bool.{not}
 use Rattle.dsec_name.specs.declared.push_name.PushNameError.{PushNameError}
 use Rattle.dsec_spec.specs.Groups.{Group}
-use Rattle.dsec_spec.specs.Names.{Labels}
+use Rattle.dsec_spec.specs.Names.{Labels, place}
 use Rattle.dsec_spec.specs.Numbers.{DNAME}
 use Rattle.dsec_spec.specs.Records.{Record}
 use Rattle.dsec_spec.specs.Redirection as redirection
+use Rattle.dsec_spec.specs.Redirection.{stands_between}
 use Rattle.dsec_group.specs.declared.dname.Mapping.{Mapping}
 
 -- a name, or that there is none of at most 255 octets
@@ -19,6 +21,6 @@ mapping_view Mapping.Silent = redirection.silent
 mapping_view Mapping.Agrees = redirection.agrees
 mapping_view Mapping.TooLong = redirection.too_long
 
--- whether a group is of DNAME records of a CNAME record's class
-abbrev pub is_dname_of_class : Record → Group → Bool
-is_dname_of_class cname g = (g.rtype == DNAME) && (g.class == cname.class)
+-- whether a group may speak of a CNAME record: it is of DNAME records of its class, and no anchor stands between
+abbrev pub may_speak : List Record → Record → Group → Bool
+may_speak anchors cname g = (g.rtype == DNAME) && (g.class == cname.class) && not (stands_between anchors (place cname.owner) (place g.owner))

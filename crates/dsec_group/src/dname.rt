@@ -5,10 +5,10 @@ ghost use Rattle.std.specs.Option.{option_map};
 ghost use Rattle.dsec_spec.specs.Names.{Labels, is_below as below, is_strictly_below as strictly_below, place};
 ghost use Rattle.dsec_spec.specs.Numbers.{CNAME, DNAME};
 ghost use Rattle.dsec_spec.specs.Reading.{Gives};
-ghost use Rattle.dsec_spec.specs.Redirection.{bare_alias as bare_alias_of, followed as followed_of, followed_from, group_says as group_says_of, map_dname as map_dname_of, mapping as mapping_of, mapping_to};
+ghost use Rattle.dsec_spec.specs.Redirection.{bare_alias as bare_alias_of, followed as followed_of, followed_from, group_says as group_says_of, map_dname as map_dname_of, mapping as mapping_of, mapping_to, stands_between as stands_between_of};
 ghost use Rattle.dsec_name.specs.JoinedNames.{needs_memory};
 ghost use Rattle.dsec_name.specs.NameRefs.{name_view};
-ghost use Rattle.dsec_group.specs.Mappings.{is_dname_of_class, mapping_view, or_push_error};
+ghost use Rattle.dsec_group.specs.Mappings.{mapping_view, may_speak as may_speak_of, or_push_error};
 
 use crate::group::Group;
 use dsec_name::{Name, NameRef, NoMemory, PushNameError};
@@ -98,19 +98,34 @@ fn is_strictly_below(name: &Name, base: &Name) -> bool
     is_below(name, base) && base.label_count() < name.label_count()
 }
 
-/// Whether a group is of DNAME records of a CNAME record's class.
-fn is_dname_beside(cname: &Record, group: &Group) -> bool
-    ensures { result ≡ is_dname_of_class cname.now group.now }
+/// Whether an anchor stands at or above a name, and strictly below one above it.
+fn stands_between(anchors: &[Record], name: &Name, above: &Name) -> bool
+    ensures { result ≡ stands_between_of anchors.now (place name.now) (place above.now) }
 {
-    group.rtype() == Rtype::DNAME && group.class() == cname.class()
+    anchors.iter().any(|anchor| is_below(name, anchor.owner())
+        && is_strictly_below(anchor.owner(), above))
+}
+
+/// Whether a group may speak of a CNAME record: it is of DNAME records of its class, and no anchor stands between.
+fn may_speak(anchors: &[Record], cname: &Record, group: &Group) -> bool
+    ensures { result ≡ may_speak_of anchors.now cname.now group.now }
+{
+    group.rtype() == Rtype::DNAME
+        && group.class() == cname.class()
+        && !stands_between(anchors, cname.owner(), group.owner())
 }
 
 /// What a group says of a CNAME record: the first of its DNAME records that isn't silent speaks for it.
-fn group_says(alloc: Global, cname: &Record, group: &Group) -> Result<Mapping, NoMemory>
+fn group_says(
+    alloc: Global,
+    anchors: &[Record],
+    cname: &Record,
+    group: &Group,
+) -> Result<Mapping, NoMemory>
     requires { cname.now.rtype ≡ CNAME }
-    ensures { IfOk result (λ said. mapping_view said ≡ group_says_of cname.now group.now) }
+    ensures { IfOk result (λ said. mapping_view said ≡ group_says_of anchors.now cname.now group.now) }
 {
-    if !is_dname_beside(cname, group) {
+    if !may_speak(anchors, cname, group) {
         return Ok(Mapping::Silent);
     }
     let records = group.rr_set();
@@ -127,14 +142,15 @@ fn group_says(alloc: Global, cname: &Record, group: &Group) -> Result<Mapping, N
 /// The index of the group that a CNAME record follows from.
 fn followed_index(
     alloc: Global,
+    anchors: &[Record],
     cname: &Record,
     groups: &[Group],
 ) -> Result<Option<usize>, NoMemory>
     requires { cname.now.rtype ≡ CNAME }
-    ensures { IfOk result (λ index. index ≡ followed_from cname.now 0 groups.now) }
+    ensures { IfOk result (λ index. index ≡ followed_from anchors.now cname.now 0 groups.now) }
 {
     for index in 0..groups.len() {
-        match group_says(alloc, cname, &groups[index])? {
+        match group_says(alloc, anchors, cname, &groups[index])? {
             Mapping::Silent => {}
             Mapping::Agrees => return Ok(Some(index)),
             Mapping::TooLong => return Ok(None),
@@ -160,13 +176,14 @@ pub(crate) fn bare_alias(group: &Group) -> Option<&Record>
 /// The index of the group that a group follows from, where it is a bare alias.
 pub(crate) fn followed(
     alloc: Global,
+    anchors: &[Record],
     groups: &[Group],
     group: &Group,
 ) -> Result<Option<usize>, NoMemory>
-    ensures { IfOk result (λ index. index ≡ followed_of groups.now group.now) }
+    ensures { IfOk result (λ index. index ≡ followed_of anchors.now groups.now group.now) }
 {
     match bare_alias(group) {
-        Some(cname) => followed_index(alloc, cname, groups),
+        Some(cname) => followed_index(alloc, anchors, cname, groups),
         None => Ok(None),
     }
 }

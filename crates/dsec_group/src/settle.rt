@@ -11,6 +11,7 @@ use crate::group::Group;
 use crate::set::GroupSet;
 use dsec_cause::Cause;
 use dsec_name::NoMemory;
+use dsec_wire::Record;
 use std::alloc::Global;
 
 /// A bare alias, and the index of the group that it follows from.
@@ -22,11 +23,16 @@ struct Follower<'a> {
 
 impl GroupSet {
     /// Moves each bare alias, which is a group of one CNAME record without a signature, to the first group of its class with a
-    /// DNAME record that maps its owner to its target: it becomes an extra record there. A mapping past 255 octets ends its
-    /// search, and it stays. Where there are more bare aliases than `max_cname_dname` nothing is moved, and the cause says so.
-    pub fn move_redundant_cnames(&mut self, max_cname_dname: u8) -> Result<Option<Cause>, NoMemory>
+    /// DNAME record that maps its owner to its target, where none of the anchors stands between the two: it becomes an extra
+    /// record there. A mapping past 255 octets ends its search, and it stays. Where there are more bare aliases than
+    /// `max_cname_dname` nothing is moved, and the cause says so.
+    pub fn move_redundant_cnames(
+        &mut self,
+        anchors: &[Record],
+        max_cname_dname: u8,
+    ) -> Result<Option<Cause>, NoMemory>
         ensures cause { IfOk result (λ cause. cause ≡ (if has_too_many max_cname_dname self.old then Some TooManyUnsignedCnames else None)) }
-        ensures moved { OnOk result (self.new ≡ unwrap_or (moved max_cname_dname self.old) self.old) }
+        ensures moved { OnOk result (self.new ≡ unwrap_or (moved anchors.now max_cname_dname self.old) self.old) }
         ensures err { OnErr result (self.new ≡ self.old) }
     {
         let bare = bare_count(self.as_slice());
@@ -34,19 +40,19 @@ impl GroupSet {
             return Ok(Some(Cause::TooManyUnsignedCnames));
         }
         if bare > 0 {
-            let settled = self.settled()?;
+            let settled = self.settled(anchors)?;
             *self = settled;
         }
         Ok(None)
     }
 
     /// The groups with each bare alias moved.
-    fn settled(&self) -> Result<GroupSet, NoMemory>
-        ensures { IfOk result (λ set. set ≡ staying_from self.now 0 self.now) }
+    fn settled(&self, anchors: &[Record]) -> Result<GroupSet, NoMemory>
+        ensures { IfOk result (λ set. set ≡ staying_from anchors.now self.now 0 self.now) }
     {
         let groups = self.as_slice();
         let alloc = self.allocator();
-        let all = all_followed(alloc, groups)?;
+        let all = all_followed(alloc, anchors, groups)?;
         let followers = followers_among(alloc, groups, &all)?;
         let mut settled = self.blank();
         for index in 0..groups.len() {
@@ -72,12 +78,16 @@ fn bare_count(groups: &[Group]) -> usize
 }
 
 /// The index of the group that each of the groups follows from, where it does.
-fn all_followed(alloc: Global, groups: &[Group]) -> Result<Vec<Option<usize>>, NoMemory>
-    ensures { IfOk result (λ all. all.items ≡ map (followed_of groups.now) groups.now) }
+fn all_followed(
+    alloc: Global,
+    anchors: &[Record],
+    groups: &[Group],
+) -> Result<Vec<Option<usize>>, NoMemory>
+    ensures { IfOk result (λ all. all.items ≡ map (followed_of anchors.now groups.now) groups.now) }
 {
     let mut all = Vec::with_capacity(alloc, groups.len())?;
     for group in groups {
-        all.push(followed(alloc, groups, group)?)?;
+        all.push(followed(alloc, anchors, groups, group)?)?;
     }
     Ok(all)
 }

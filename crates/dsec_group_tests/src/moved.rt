@@ -4,7 +4,7 @@ use crate::lines::records;
 use dsec_cause::Cause;
 use dsec_group::{Group, GroupSet, Seed, groups};
 use dsec_number::Rtype;
-use dsec_wire::Records;
+use dsec_wire::{Record, Records};
 use std::alloc::Global;
 use std::process::Abort;
 
@@ -76,6 +76,43 @@ const ROWS: [Row; 8] = [
     ),
 ];
 
+/// Where anchors stand at one name below the DNAME of most rows.
+const ANCHORS: [&str; 1] = ["S.d. 60 IN TXT anchor"];
+
+#[rattlefmt::skip]
+const ANCHORED: [Row; 5] = [
+    (
+        "an alias below an anchor follows from no DNAME above it",
+        &["d. 60 IN DNAME t.", "a.s.d. 60 IN CNAME a.s.t."],
+        11, None,
+        &[("d.", 39, 1, 0), ("a.s.d.", 5, 1, 0)],
+    ),
+    (
+        "nor does one at the anchor",
+        &["d. 60 IN DNAME t.", "s.d. 60 IN CNAME s.t."],
+        11, None,
+        &[("d.", 39, 1, 0), ("s.d.", 5, 1, 0)],
+    ),
+    (
+        "from a DNAME at the anchor it follows",
+        &["s.d. 60 IN DNAME t.", "a.s.d. 60 IN CNAME a.t."],
+        11, None,
+        &[("s.d.", 39, 1, 1)],
+    ),
+    (
+        "an anchor beside the alias bars nothing",
+        &["d. 60 IN DNAME t.", "a.d. 60 IN CNAME a.t."],
+        11, None,
+        &[("d.", 39, 1, 1)],
+    ),
+    (
+        "a DNAME that is barred leaves it to the next, though it would map past 255 octets",
+        &[LONG, "s.d. 60 IN DNAME s.t.", "bbbb.s.d. 60 IN CNAME bbbb.s.t."],
+        11, None,
+        &[("d.", 39, 1, 0), ("s.d.", 39, 1, 1)],
+    ),
+];
+
 fn is_like(alloc: Global, group: &Group, want: &Shown) -> bool {
     let (owner, rtype, records, extra) = *want;
     let Ok(shown) = format!(in alloc; "{}", group.owner()) else {
@@ -96,8 +133,8 @@ fn are_like(alloc: Global, groups: &[Group], wanted: &[Shown]) -> bool {
 }
 
 /// Whether the groups become what the row says, and a copy is what it is of.
-fn become_so(alloc: Global, found: &mut GroupSet, row: &Row) -> bool {
-    match found.move_redundant_cnames(row.2) {
+fn become_so(alloc: Global, anchors: &[Record], found: &mut GroupSet, row: &Row) -> bool {
+    match found.move_redundant_cnames(anchors, row.2) {
         Ok(cause) => {
             cause == row.3
                 && are_like(alloc, found.as_slice(), row.4)
@@ -114,24 +151,29 @@ fn is_copied(alloc: Global, found: &GroupSet, wanted: &[Shown]) -> bool {
     }
 }
 
-fn row_holds(alloc: Global, row: &Row) -> bool {
+fn row_holds(alloc: Global, anchors: &[Record], row: &Row) -> bool {
     let Some(section) = records(alloc, row.1) else {
         return false;
     };
     match groups(alloc, Records::new(section), Seed::fixed()) {
-        Ok(mut found) => become_so(alloc, &mut found, row),
+        Ok(mut found) => become_so(alloc, anchors, &mut found, row),
         Err(_) => false,
     }
 }
 
-fn assert_rows(rt: &impl Abort, alloc: Global, rows: &[Row]) {
+fn assert_rows(rt: &impl Abort, alloc: Global, anchors: &[Record], rows: &[Row]) {
     for row in rows {
         let shows = row.0;
-        assert!(rt; row_holds(alloc, row), "{shows}");
+        assert!(rt; row_holds(alloc, anchors, row), "{shows}");
     }
 }
 
 #[test]
 fn aliases_move(rt: HostRuntime) {
-    assert_rows(&rt, rt.alloc(), &ROWS);
+    assert_rows(&rt, rt.alloc(), &[], &ROWS);
+    let anchors = records(rt.alloc(), &ANCHORS);
+    assert!(rt; anchors.is_some());
+    if let Some(anchors) = anchors {
+        assert_rows(&rt, rt.alloc(), anchors.as_slice(), &ANCHORED);
+    }
 }

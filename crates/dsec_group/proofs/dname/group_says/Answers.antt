@@ -6,13 +6,13 @@ use Rattle.dsec_group.proofs.dname.group_says.Goals as goal
 
 pub returns-in-Agrees : goal.returns-in-Agrees
 returns-in-Agrees c =
-    let whole = speaks c.args.cname.now c.args.group.now (sym c.is_dname_beside.ensures ∙ c.if-not-is_dname_beside.false) in
+    let whole = speaks c.args.anchors.now c.args.cname.now c.args.group.now (sym c.may_speak.ensures ∙ c.if-not-may_speak.false) in
     sym (said_agrees c.args.cname.now c.dname-item.result c.rr_set-records.result.now c.loop-dname.dname-index c.loop-dname-test.true c.dname-item.is (sym c.in_ok-one_says.ensures ∙ ap mapping_view c.in-Agrees.is))
     ∙ (c.loop-dname.invariant ∙ (ap (said_by c.args.cname.now) c.rr_set-records.ensures.records ∙ sym whole))
 
 pub returns-in-TooLong : goal.returns-in-TooLong
 returns-in-TooLong c =
-    let whole = speaks c.args.cname.now c.args.group.now (sym c.is_dname_beside.ensures ∙ c.if-not-is_dname_beside.false) in
+    let whole = speaks c.args.anchors.now c.args.cname.now c.args.group.now (sym c.may_speak.ensures ∙ c.if-not-may_speak.false) in
     sym (said_too_long c.args.cname.now c.dname-item.result c.rr_set-records.result.now c.loop-dname.dname-index c.loop-dname-test.true c.dname-item.is (sym c.in_ok-one_says.ensures ∙ ap mapping_view c.in-TooLong.is))
     ∙ (c.loop-dname.invariant ∙ (ap (said_by c.args.cname.now) c.rr_set-records.ensures.records ∙ sym whole))
 
@@ -22,6 +22,6 @@ loop-dname-preserved c =
 
 pub returns : goal.returns
 returns c =
-    let whole = speaks c.args.cname.now c.args.group.now (sym c.is_dname_beside.ensures ∙ c.if-not-is_dname_beside.false) in
+    let whole = speaks c.args.anchors.now c.args.cname.now c.args.group.now (sym c.may_speak.ensures ∙ c.if-not-may_speak.false) in
     sym (said_nothing c.args.cname.now c.rr_set-records.result.now c.loop-dname.dname-index c.loop-dname-test.false)
     ∙ (c.loop-dname.invariant ∙ (ap (said_by c.args.cname.now) c.rr_set-records.ensures.records ∙ sym whole))
