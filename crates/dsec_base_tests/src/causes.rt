@@ -4,7 +4,7 @@ use dsec_base::Cause;
 use std::fmt::InlineText;
 
 /// Each cause with its code and its text.
-const ROWS: [(Cause, u16, &str); 55] = [
+const ROWS: [(Cause, u16, &str); 56] = [
     (Cause::RrsigWithoutRrset, 5, "RRSIG without RRset"),
     (Cause::NoTrustAnchor, 5, "No trust anchor for root."),
     (Cause::NoSignature, 6, "No signature"),
@@ -95,6 +95,7 @@ const ROWS: [(Cause, u16, &str); 55] = [
     ),
     (Cause::DnameFromWildcard, 6, "DNAME from wildcard"),
     (Cause::DnameTooLong, 6, "Failed to expand DNAME"),
+    (Cause::CnameFromApexForDs, 6, "CNAME from apex for DS"),
     (Cause::SoaWrongClass, 6, "SOA with wrong class"),
     (Cause::SoaWrongName, 6, "SOA with wrong name"),
     (

@@ -4,7 +4,7 @@ use Rattle.std.specs.Prelude.{find, unwrap_or, ◌==◌}
 use Rattle.std.specs.Str.{bytes_eq}
 use Rattle.dsec_cause.specs.Causes.{AreToldApart, code_of, text_of}
 use Rattle.dsec_cause.specs.declared.cause.Cause.{Cause}
-use Rattle.dsec_cause.specs.declared.cause.Cause.TheVariants.{RrsigWithoutRrset, NoTrustAnchor, NoSignature, BadSignature, TooManyBadSignatures, TooManyBadSignaturesForDnskey, BadSignatureForDnskey, TooManyUnsignedCnames, NoDnskeyForAnchor, RequestFailed, RequestUnreadable, NoDnskey, TooManyDsRecords, TooManyDnskeysForDs, NoSupportedDs, NsecForDsFromWildcard, NsecProvesDs, NsecForDsFromApex, PrefixNsecFromWildcard, PrefixNsecIsDname, PrefixNsecIsDelegation, EmptyNonTerminalNsecFromWildcard, NsecNotUsable, Nsec3IterationsTooHigh, Nsec3UnsupportedAlgorithm, Nsec3BadOwnerHash, Nsec3FromWrongZone, Nsec3ProvesDs, Nsec3ForDsFromApex, Nsec3ProvesNameMissingForDs, NoProofForMissingDs, TooManyAliases, DnameFromWildcard, DnameTooLong, SoaWrongClass, SoaWrongName, MissingSoa, NsecProvesType, NsecFromApexForDs, NsecFromParent, NsecMatches, NsecShowsEmptyNonTerminal, NsecDnameOrDelegation, NsecFromWildcard, WildcardElsewhere, WildcardTooLong, Nsec3ProvesType, Nsec3FromApexForDs, Nsec3FromParent, Nsec3DnameOrDelegation, TooManyNsec3Hashes, Nsec3OptOut, Nsec3IterationsInsecure, NoNsec3Proof, NoDenialProof}
+use Rattle.dsec_cause.specs.declared.cause.Cause.TheVariants.{RrsigWithoutRrset, NoTrustAnchor, NoSignature, BadSignature, TooManyBadSignatures, TooManyBadSignaturesForDnskey, BadSignatureForDnskey, TooManyUnsignedCnames, NoDnskeyForAnchor, RequestFailed, RequestUnreadable, NoDnskey, TooManyDsRecords, TooManyDnskeysForDs, NoSupportedDs, NsecForDsFromWildcard, NsecProvesDs, NsecForDsFromApex, PrefixNsecFromWildcard, PrefixNsecIsDname, PrefixNsecIsDelegation, EmptyNonTerminalNsecFromWildcard, NsecNotUsable, Nsec3IterationsTooHigh, Nsec3UnsupportedAlgorithm, Nsec3BadOwnerHash, Nsec3FromWrongZone, Nsec3ProvesDs, Nsec3ForDsFromApex, Nsec3ProvesNameMissingForDs, NoProofForMissingDs, TooManyAliases, DnameFromWildcard, DnameTooLong, CnameFromApexForDs, SoaWrongClass, SoaWrongName, MissingSoa, NsecProvesType, NsecFromApexForDs, NsecFromParent, NsecMatches, NsecShowsEmptyNonTerminal, NsecDnameOrDelegation, NsecFromWildcard, WildcardElsewhere, WildcardTooLong, Nsec3ProvesType, Nsec3FromApexForDs, Nsec3FromParent, Nsec3DnameOrDelegation, TooManyNsec3Hashes, Nsec3OptOut, Nsec3IterationsInsecure, NoNsec3Proof, NoDenialProof}
 
 -- all causes
 abbrev all : List Cause
@@ -16,7 +16,8 @@ all = RrsigWithoutRrset ∷ NoTrustAnchor ∷ NoSignature ∷ BadSignature ∷ T
     ∷ EmptyNonTerminalNsecFromWildcard ∷ NsecNotUsable ∷ Nsec3IterationsTooHigh
     ∷ Nsec3UnsupportedAlgorithm ∷ Nsec3BadOwnerHash ∷ Nsec3FromWrongZone ∷ Nsec3ProvesDs
     ∷ Nsec3ForDsFromApex ∷ Nsec3ProvesNameMissingForDs ∷ NoProofForMissingDs ∷ TooManyAliases
-    ∷ DnameFromWildcard ∷ DnameTooLong ∷ SoaWrongClass ∷ SoaWrongName ∷ MissingSoa ∷ NsecProvesType
+    ∷ DnameFromWildcard ∷ DnameTooLong ∷ CnameFromApexForDs ∷ SoaWrongClass ∷ SoaWrongName ∷ MissingSoa
+    ∷ NsecProvesType
     ∷ NsecFromApexForDs ∷ NsecFromParent ∷ NsecMatches ∷ NsecShowsEmptyNonTerminal
     ∷ NsecDnameOrDelegation ∷ NsecFromWildcard ∷ WildcardElsewhere ∷ WildcardTooLong
     ∷ Nsec3ProvesType ∷ Nsec3FromApexForDs ∷ Nsec3FromParent ∷ Nsec3DnameOrDelegation
@@ -61,6 +62,7 @@ back NoProofForMissingDs = refl
 back TooManyAliases = refl
 back DnameFromWildcard = refl
 back DnameTooLong = refl
+back CnameFromApexForDs = refl
 back SoaWrongClass = refl
 back SoaWrongName = refl
 back MissingSoa = refl

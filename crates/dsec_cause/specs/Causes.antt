@@ -1,7 +1,7 @@
 -- The causes of verdicts: a code (RFC 8914 4) and a text each.
 use Rattle.std.specs.Prelude.{◌≡◌, ℕ, List, codes}
 use Rattle.dsec_cause.specs.declared.cause.Cause.{Cause}
-use Rattle.dsec_cause.specs.declared.cause.Cause.TheVariants.{RrsigWithoutRrset, NoTrustAnchor, NoSignature, BadSignature, TooManyBadSignatures, TooManyBadSignaturesForDnskey, BadSignatureForDnskey, TooManyUnsignedCnames, NoDnskeyForAnchor, RequestFailed, RequestUnreadable, NoDnskey, TooManyDsRecords, TooManyDnskeysForDs, NoSupportedDs, NsecForDsFromWildcard, NsecProvesDs, NsecForDsFromApex, PrefixNsecFromWildcard, PrefixNsecIsDname, PrefixNsecIsDelegation, EmptyNonTerminalNsecFromWildcard, NsecNotUsable, Nsec3IterationsTooHigh, Nsec3UnsupportedAlgorithm, Nsec3BadOwnerHash, Nsec3FromWrongZone, Nsec3ProvesDs, Nsec3ForDsFromApex, Nsec3ProvesNameMissingForDs, NoProofForMissingDs, TooManyAliases, DnameFromWildcard, DnameTooLong, SoaWrongClass, SoaWrongName, MissingSoa, NsecProvesType, NsecFromApexForDs, NsecFromParent, NsecMatches, NsecShowsEmptyNonTerminal, NsecDnameOrDelegation, NsecFromWildcard, WildcardElsewhere, WildcardTooLong, Nsec3ProvesType, Nsec3FromApexForDs, Nsec3FromParent, Nsec3DnameOrDelegation, TooManyNsec3Hashes, Nsec3OptOut, Nsec3IterationsInsecure, NoNsec3Proof, NoDenialProof}
+use Rattle.dsec_cause.specs.declared.cause.Cause.TheVariants.{RrsigWithoutRrset, NoTrustAnchor, NoSignature, BadSignature, TooManyBadSignatures, TooManyBadSignaturesForDnskey, BadSignatureForDnskey, TooManyUnsignedCnames, NoDnskeyForAnchor, RequestFailed, RequestUnreadable, NoDnskey, TooManyDsRecords, TooManyDnskeysForDs, NoSupportedDs, NsecForDsFromWildcard, NsecProvesDs, NsecForDsFromApex, PrefixNsecFromWildcard, PrefixNsecIsDname, PrefixNsecIsDelegation, EmptyNonTerminalNsecFromWildcard, NsecNotUsable, Nsec3IterationsTooHigh, Nsec3UnsupportedAlgorithm, Nsec3BadOwnerHash, Nsec3FromWrongZone, Nsec3ProvesDs, Nsec3ForDsFromApex, Nsec3ProvesNameMissingForDs, NoProofForMissingDs, TooManyAliases, DnameFromWildcard, DnameTooLong, CnameFromApexForDs, SoaWrongClass, SoaWrongName, MissingSoa, NsecProvesType, NsecFromApexForDs, NsecFromParent, NsecMatches, NsecShowsEmptyNonTerminal, NsecDnameOrDelegation, NsecFromWildcard, WildcardElsewhere, WildcardTooLong, Nsec3ProvesType, Nsec3FromApexForDs, Nsec3FromParent, Nsec3DnameOrDelegation, TooManyNsec3Hashes, Nsec3OptOut, Nsec3IterationsInsecure, NoNsec3Proof, NoDenialProof}
 
 -- 0 is "Other Error", 5 "DNSSEC Indeterminate", 6 "DNSSEC Bogus"
 abbrev pub code_of : Cause → ℕ
@@ -39,6 +39,7 @@ code_of NoProofForMissingDs = 6
 code_of TooManyAliases = 6
 code_of DnameFromWildcard = 6
 code_of DnameTooLong = 6
+code_of CnameFromApexForDs = 6
 code_of SoaWrongClass = 6
 code_of SoaWrongName = 6
 code_of MissingSoa = 6
@@ -97,6 +98,7 @@ text_of NoProofForMissingDs = codes "No proof for missing DS"
 text_of TooManyAliases = codes "too many DNAME/CNAME records in sequence"
 text_of DnameFromWildcard = codes "DNAME from wildcard"
 text_of DnameTooLong = codes "Failed to expand DNAME"
+text_of CnameFromApexForDs = codes "CNAME from apex for DS"
 text_of SoaWrongClass = codes "SOA with wrong class"
 text_of SoaWrongName = codes "SOA with wrong name"
 text_of MissingSoa = codes "Missing SOA record for NODATA or NXDOMAIN"

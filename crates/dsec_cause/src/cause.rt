@@ -76,6 +76,8 @@ pub enum Cause {
     DnameFromWildcard,
     /// The name that a DNAME record makes passes 255 octets.
     DnameTooLong,
+    /// The CNAME record at the name of a question for DS is the child's.
+    CnameFromApexForDs,
     /// The SOA record is of another class.
     SoaWrongClass,
     /// The SOA record isn't at or above the name.
@@ -176,6 +178,7 @@ impl Cause {
             Cause::TooManyAliases => "too many DNAME/CNAME records in sequence",
             Cause::DnameFromWildcard => "DNAME from wildcard",
             Cause::DnameTooLong => "Failed to expand DNAME",
+            Cause::CnameFromApexForDs => "CNAME from apex for DS",
             Cause::SoaWrongClass => "SOA with wrong class",
             Cause::SoaWrongName => "SOA with wrong name",
             Cause::MissingSoa => "Missing SOA record for NODATA or NXDOMAIN",
