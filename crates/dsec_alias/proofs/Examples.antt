@@ -1,11 +1,11 @@
 -- Paths that come to each kind of end (RFC 1034 3.6.2, RFC 6672 2.2, 3.1).
 use Rattle.std.proofs.Common.{◌≡◌, ℕ, List, [], ◌∷◌, Option, Some, None, refl, false}
-use Rattle.dsec_cause.specs.declared.cause.Cause.TheVariants.{TooManyAliases, DnameFromWildcard}
-use Rattle.dsec_spec.specs.Names.{Labels, place, wire_octets}
-use Rattle.dsec_spec.specs.Numbers.{IN, A, CNAME, DNAME}
+use Rattle.dsec_cause.specs.declared.cause.Cause.TheVariants.{TooManyAliases, DnameFromWildcard, CnameFromApexForDs}
+use Rattle.dsec_spec.specs.Names.{Labels, Place, place, wire_octets}
+use Rattle.dsec_spec.specs.Numbers.{IN, A, CNAME, DNAME, DS}
 use Rattle.dsec_spec.specs.RecordData.{labels_in, name_in}
 use Rattle.dsec_spec.specs.Islands.{longest}
-use Rattle.dsec_alias.specs.States.{secure}
+use Rattle.dsec_alias.specs.States.{State, secure, insecure, indeterminate}
 use Rattle.dsec_alias.specs.Candidates.{Candidate, denied, Reply}
 use Rattle.dsec_alias.specs.Following.{ends_at, ends_bogus, do_cname_dname}
 
@@ -80,6 +80,33 @@ from_a_wildcard = refl
 in_a_circle : do_cname_dname (reply e (alias CNAME a_e b_e None ∷ alias CNAME b_e a_e None ∷ [])) 11 a_e ≡ ends_bogus a_e TooManyAliases
 unfolding do_cname_dname longest name_in labels_in
 in_a_circle = refl
+
+-- where the DS set of a name is asked for, a CNAME record of the zone above leads on, and one of the zone that begins at the name fails
+abbrev for_ds : Place → State → Reply ℕ
+for_ds zone state = record {
+  anchors = record { owner = e; class = IN; rtype = 48; ttl = 0; rdata = [] } ∷ [];
+  class = IN;
+  rtype = DS;
+  candidates = record (alias CNAME a_e b_e None) { signer = zone; state = state } ∷ [];
+  denying = λ name c encloser. denied 7;
+}
+
+of_the_zone_above : do_cname_dname (for_ds (place e) secure) 11 a_e ≡ ends_at b_e secure (record { group = 0; denial = None } ∷ [])
+unfolding do_cname_dname longest name_in labels_in
+of_the_zone_above = refl
+
+of_the_zone_below : do_cname_dname (for_ds (place a_e) secure) 11 a_e ≡ ends_bogus a_e CnameFromApexForDs
+unfolding do_cname_dname longest name_in labels_in
+of_the_zone_below = refl
+
+of_an_unsigned_zone_below : do_cname_dname (for_ds (place a_e) insecure) 11 a_e ≡ ends_bogus a_e CnameFromApexForDs
+unfolding do_cname_dname longest name_in labels_in
+of_an_unsigned_zone_below = refl
+
+-- where no anchor stands above it, nothing is known of its zone
+of_an_unknown_zone : do_cname_dname (for_ds (place a_e) indeterminate) 11 a_e ≡ ends_at b_e indeterminate (record { group = 0; denial = None } ∷ [])
+unfolding do_cname_dname longest name_in labels_in
+of_an_unknown_zone = refl
 
 -- a DNAME record from a wildcard fails
 dname_from_a_wildcard : do_cname_dname (reply e (alias DNAME d_e b_e (Some e) ∷ [])) 11 x_d_e ≡ ends_bogus d_e DnameFromWildcard

@@ -2,6 +2,7 @@ pub mod Firsts
 pub mod IslandLaws
 pub mod AliasLaws
 pub mod MappingLaws
+pub mod ChildLaws
 pub mod StepLaws
 pub mod PathLaws
 pub mod SecureLaws

@@ -2,6 +2,7 @@
 use Rattle.std.proofs.Common.{◌≡◌, ℕ, List, Some, refl, sym, ◌∙◌, subst, inl, inr, ◌⊎◌}
 use Rattle.std.specs.Prelude.{◌≢◌, Contains}
 use Rattle.dsec_spec.specs.Names.{Labels}
+use Rattle.dsec_spec.specs.Numbers.{CNAME, DNAME}
 use Rattle.dsec_spec.proofs.Members.{first_in, later_in}
 use Rattle.dsec_alias.specs.States.{State, secure, insecure, bogus, indeterminate, map_maybe_secure}
 use Rattle.dsec_alias.specs.Candidates.{Reply}
@@ -28,30 +29,36 @@ of_either indeterminate maybe = inl refl
 not_insecure : insecure ≡ secure → ⊥
 not_insecure e = cc
 
+not_both : (t : ℕ) → t ≡ CNAME → t ≡ DNAME → ⊥
+not_both t e f = let same : CNAME ≡ DNAME = sym e ∙ f in cc
+
 module _ {D : Type 0} (reply : Reply D) where
   -- a step whose state is Secure
   secure_step : {name onto : Labels} {step : AliasStep D} {own : State} → LeadsTo reply name step own onto → own ≡ secure
       → IsSecureStep reply name step onto
-  secure_step (by_cname {i = i} {c = c} {target = target} n is none) e = record {
+  secure_step (by_cname {i = i} {c = c} {target = target} n is other none) e = record {
     candidate = c;
     target = target;
     next = n;
     is_secure = e;
+    from_above = λ its ds own. other (record { for_ds = ds; own_zone = own; known = inl e });
     by = inl (record { of_type = is; itself = none; no_denial = refl; onto_target = refl });
   }
-  secure_step (by_denied {i = i} {c = c} {target = target} {encloser = encloser} {d = d} n is some f) e = record {
+  secure_step (by_denied {i = i} {c = c} {target = target} {encloser = encloser} {d = d} n is other some f) e = record {
     candidate = c;
     target = target;
     next = n;
     is_secure = e;
+    from_above = λ its ds own. other (record { for_ds = ds; own_zone = own; known = inl e });
     by = inr (inl (record { of_type = is; encloser = encloser; expands = some; denial = d; beside = refl; is_denied = f; onto_target = refl }));
   }
-  secure_step (by_opened {i = i} {c = c} n is some f) e = absurd (not_insecure (both_secure c.state insecure e).1)
+  secure_step (by_opened {i = i} {c = c} n is other some f) e = absurd (not_insecure (both_secure c.state insecure e).1)
   secure_step (by_dname {i = i} {c = c} {target = target} n is none replaced fits) e = record {
     candidate = c;
     target = target;
     next = n;
     is_secure = e;
+    from_above = λ its ds own. absurd (not_both c.group.rtype its is);
     by = inr (inr (record { of_type = is; itself = none; no_denial = refl; replaced = replaced; fits = fits }));
   }
 
@@ -71,9 +78,9 @@ module _ {D : Type 0} (reply : Reply D) where
   -- a step whose state isn't Secure weakens a path to that state
   weak_step : {name onto : Labels} {step : AliasStep D} {own : State} → LeadsTo reply name step own onto → own ≢ secure
       → Weakens reply own step
-  weak_step (by_cname {i = i} {c = c} n is none) other = by_set n refl
-  weak_step (by_denied {i = i} {c = c} n is some e) other = by_set n refl
-  weak_step (by_opened {i = i} {c = c} {d = d} n is some e) other =
+  weak_step (by_cname {i = i} {c = c} n is above none) other = by_set n refl
+  weak_step (by_denied {i = i} {c = c} n is above some e) other = by_set n refl
+  weak_step (by_opened {i = i} {c = c} {d = d} n is above some e) other =
       let step : AliasStep D = record { group = i; denial = Some d } in
       elim (of_either c.state insecure) [
         | inl its ↦ subst (λ (s : State). Weakens reply s step) (sym its) (by_set n refl)

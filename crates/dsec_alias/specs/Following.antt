@@ -1,14 +1,14 @@
 -- Following aliases from a name to the last: what the validator does (RFC 1034 3.6.2, RFC 4035 5.3.4, RFC 6672 2.2, 3.1).
-use Rattle.std.specs.Prelude.{ℕ, zero, suc, ◌==◌, ◌&&◌, List, [], ◌∷◌, position, slice_get, Bool, Option, Some, None, if◌then◌else◌}
+use Rattle.std.specs.Prelude.{ℕ, zero, suc, ◌==◌, ◌&&◌, List, [], ◌∷◌, position, slice_get, Bool, true, false, Option, Some, None, if◌then◌else◌}
 use Rattle.std.specs.Option.{is_some}
 use Rattle.dsec_cause.specs.declared.cause.Cause.{Cause}
-use Rattle.dsec_cause.specs.declared.cause.Cause.TheVariants.{TooManyAliases, DnameFromWildcard, DnameTooLong}
-use Rattle.dsec_spec.specs.Names.{Labels}
-use Rattle.dsec_spec.specs.Numbers.{DNAME}
+use Rattle.dsec_cause.specs.declared.cause.Cause.TheVariants.{TooManyAliases, DnameFromWildcard, DnameTooLong, CnameFromApexForDs}
+use Rattle.dsec_spec.specs.Names.{Labels, place, same_place}
+use Rattle.dsec_spec.specs.Numbers.{DNAME, DS}
 use Rattle.dsec_spec.specs.Groups.{Group}
 use Rattle.dsec_spec.specs.Answering.{leads_on}
 use Rattle.dsec_spec.specs.Redirection.{map_dname}
-use Rattle.dsec_alias.specs.States.{State, secure, insecure, map_maybe_secure}
+use Rattle.dsec_alias.specs.States.{State, secure, insecure, bogus, indeterminate, map_maybe_secure}
 use Rattle.dsec_alias.specs.Candidates.{Candidate, Denied, denied, opened, unproved, Reply, asked_at, only_target}
 
 -- a step of a path: the index of the alias in the answer section, and the denial beside it, where it is an expansion of a wildcard
@@ -56,9 +56,25 @@ abbrev pub dname_turn : {D : Type 0} → Labels → Candidate → Labels → Opt
 dname_turn name c target None = by_mapping c (map_dname c.group.owner target name)
 dname_turn name c target (Some encloser) = fails_at c.group.owner DnameFromWildcard
 
+-- whether it is known which zone an alias is of: where no anchor stands above it, it isn't
+abbrev pub is_known : State → Bool
+is_known secure = true
+is_known insecure = true
+is_known bogus = false
+is_known indeterminate = false
+
+-- whether an alias at a name for whose DS set is asked is of the zone that begins there, which says nothing of that set: it stands in the zone
+-- above (RFC 4035 2.4)
+abbrev pub is_of_child : {D : Type 0} → Reply D → Labels → Candidate → Bool
+is_of_child reply name c = (reply.rtype == DS) && same_place c.signer (place name) && is_known c.state
+
+-- a CNAME record, unless it is of the zone below: then it isn't followed
+abbrev pub cname_from : {D : Type 0} → Reply D → Labels → Candidate → Labels → Turn D
+cname_from reply name c target = if is_of_child reply name c then fails_at name CnameFromApexForDs else cname_turn reply name c target c.encloser
+
 -- an alias, by its type, and its target
 abbrev pub turn_to : {D : Type 0} → Reply D → Labels → Candidate → Labels → Turn D
-turn_to reply name c target = if c.group.rtype == DNAME then dname_turn name c target c.encloser else cname_turn reply name c target c.encloser
+turn_to reply name c target = if c.group.rtype == DNAME then dname_turn name c target c.encloser else cname_from reply name c target
 
 -- a path, after a step of this state
 abbrev pub after_step : {D : Type 0} → AliasStep D → State → AliasEnd D → AliasEnd D

@@ -1,9 +1,9 @@
 -- Paths of aliases, as relations: the next alias of a name, where it leads, and where it does not (RFC 1034 3.6.2, RFC 4035 5.3.4, RFC 6672 2.2).
-use Rattle.std.specs.Prelude.{◌≡◌, ℕ, zero, suc, ◌<◌, ◌≤◌, List, [], ◌∷◌, ◌++◌, Contains, slice_get, Some, None}
+use Rattle.std.specs.Prelude.{◌≡◌, ◌⊎◌, ℕ, zero, suc, ◌<◌, ◌≤◌, List, [], ◌∷◌, ◌++◌, Contains, slice_get, Some, None}
 use Rattle.dsec_cause.specs.declared.cause.Cause.{Cause}
-use Rattle.dsec_cause.specs.declared.cause.Cause.TheVariants.{TooManyAliases, DnameFromWildcard, DnameTooLong}
+use Rattle.dsec_cause.specs.declared.cause.Cause.TheVariants.{TooManyAliases, DnameFromWildcard, DnameTooLong, CnameFromApexForDs}
 use Rattle.dsec_spec.specs.Names.{Labels, place, wire_length}
-use Rattle.dsec_spec.specs.Numbers.{CNAME, DNAME}
+use Rattle.dsec_spec.specs.Numbers.{CNAME, DNAME, DS}
 use Rattle.dsec_spec.specs.Records.{Record}
 use Rattle.dsec_spec.specs.RecordViews.{target_of}
 use Rattle.dsec_spec.specs.Messages.{Question}
@@ -43,27 +43,38 @@ pub record IsReplaced (owner target name mapped : Labels) : Type 0 where
   pub at_owner : place above ≡ place owner
   pub is : mapped ≡ before ++ target
 
+-- The alias at a name for whose DS set is asked is known to be of the zone that begins there: by that zone's keys, or by a delegation to which
+-- no chain leads. That zone says nothing of the set, which stands in the zone above (RFC 4035 2.4).
+pub record IsOfChild {D : Type 0} (reply : Reply D) (name : Labels) (c : Candidate) : Type 0 where
+  pub for_ds : reply.rtype ≡ DS
+  pub own_zone : c.signer ≡ place name
+  pub known : (c.state ≡ secure) ⊎ (c.state ≡ insecure)
+
 -- From a name a step leads on, with a state. By its next alias: a CNAME record that is no expansion leads to its target; so does one that is,
--- where that the name exists is denied, and as an Insecure step where that is left open; a DNAME record that is no expansion leads to the name
--- with its owner replaced by its target, which has at most 255 octets.
+-- where that the name exists is denied, and as an Insecure step where that is left open; where a DS set is asked for, none of the zone below
+-- does. A DNAME record that is no expansion leads to the name with its owner replaced by its target, which has at most 255 octets.
 pub data LeadsTo {D : Type 0} (reply : Reply D) (name : Labels) : AliasStep D → State → Labels → Type 0 where
-  by_cname : {i : ℕ} {c : Candidate} {target : Labels} → IsNextAlias reply name i c target → c.group.rtype ≡ CNAME → c.encloser ≡ None
+  by_cname : {i : ℕ} {c : Candidate} {target : Labels} → IsNextAlias reply name i c target → c.group.rtype ≡ CNAME
+      → (IsOfChild reply name c → ⊥) → c.encloser ≡ None
       → LeadsTo reply name (record { group = i; denial = None }) c.state target
   by_denied : {i : ℕ} {c : Candidate} {target encloser : Labels} {d : D} → IsNextAlias reply name i c target → c.group.rtype ≡ CNAME
-      → c.encloser ≡ Some encloser → reply.denying name c encloser ≡ denied d
+      → (IsOfChild reply name c → ⊥) → c.encloser ≡ Some encloser → reply.denying name c encloser ≡ denied d
       → LeadsTo reply name (record { group = i; denial = Some d }) c.state target
   by_opened : {i : ℕ} {c : Candidate} {target encloser : Labels} {d : D} → IsNextAlias reply name i c target → c.group.rtype ≡ CNAME
-      → c.encloser ≡ Some encloser → reply.denying name c encloser ≡ opened d
+      → (IsOfChild reply name c → ⊥) → c.encloser ≡ Some encloser → reply.denying name c encloser ≡ opened d
       → LeadsTo reply name (record { group = i; denial = Some d }) (map_maybe_secure c.state insecure) target
   by_dname : {i : ℕ} {c : Candidate} {target mapped : Labels} → IsNextAlias reply name i c target → c.group.rtype ≡ DNAME → c.encloser ≡ None
       → IsReplaced c.group.owner target name mapped → wire_length mapped ≤ 255
       → LeadsTo reply name (record { group = i; denial = None }) c.state mapped
 
--- From a name no step leads on that stands; the path ends at a name, and why. By its next alias: a CNAME record that is an expansion, where that
--- the name exists is neither denied nor left open; a DNAME record that is an expansion (RFC 6672 3.3); or one that leads past 255 octets.
+-- From a name no step leads on that stands; the path ends at a name, and why. By its next alias: a CNAME record of the zone below, where a DS
+-- set is asked for; another that is an expansion, where that the name exists is neither denied nor left open; a DNAME record that is an
+-- expansion (RFC 6672 3.3); or one that leads past 255 octets.
 pub data FailsAt {D : Type 0} (reply : Reply D) (name : Labels) : Labels → Cause → Type 0 where
+  of_child : {i : ℕ} {c : Candidate} {target : Labels} → IsNextAlias reply name i c target → c.group.rtype ≡ CNAME → IsOfChild reply name c
+      → FailsAt reply name name CnameFromApexForDs
   not_denied : {i : ℕ} {c : Candidate} {target encloser : Labels} {cause : Cause} → IsNextAlias reply name i c target → c.group.rtype ≡ CNAME
-      → c.encloser ≡ Some encloser → reply.denying name c encloser ≡ unproved cause → FailsAt reply name name cause
+      → (IsOfChild reply name c → ⊥) → c.encloser ≡ Some encloser → reply.denying name c encloser ≡ unproved cause → FailsAt reply name name cause
   dname_expanded : {i : ℕ} {c : Candidate} {target encloser : Labels} → IsNextAlias reply name i c target → c.group.rtype ≡ DNAME
       → c.encloser ≡ Some encloser → FailsAt reply name c.group.owner DnameFromWildcard
   dname_too_long : {i : ℕ} {c : Candidate} {target mapped : Labels} → IsNextAlias reply name i c target → c.group.rtype ≡ DNAME

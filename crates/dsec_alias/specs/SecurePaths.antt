@@ -1,7 +1,7 @@
 -- What a Secure path of aliases means, and what makes one less than Secure (RFC 4033 5, RFC 4035 5.3.4, RFC 6672 5.3).
 use Rattle.std.specs.Prelude.{◌≡◌, ◌⊎◌, ℕ, ◌≤◌, List, [], ◌∷◌, Option, Some, None}
-use Rattle.dsec_spec.specs.Names.{Labels, wire_length}
-use Rattle.dsec_spec.specs.Numbers.{CNAME, DNAME}
+use Rattle.dsec_spec.specs.Names.{Labels, place, wire_length}
+use Rattle.dsec_spec.specs.Numbers.{CNAME, DNAME, DS}
 use Rattle.dsec_alias.specs.States.{State, secure, insecure}
 use Rattle.dsec_alias.specs.Candidates.{Candidate, denied, opened, Reply}
 use Rattle.dsec_alias.specs.Following.{AliasStep}
@@ -32,12 +32,14 @@ pub record IsDname {D : Type 0} (name : Labels) (c : Candidate) (target : Labels
   pub replaced : IsReplaced c.group.owner target name onto
   pub fits : wire_length onto ≤ 255
 
--- a step of a Secure path: the name's next alias, which is Secure, leads to a name
+-- a step of a Secure path: the name's next alias, which is Secure, leads to a name; where a DS set is asked for, a CNAME record isn't of the
+-- zone that begins at the name (RFC 4035 2.4)
 pub record IsSecureStep {D : Type 0} (reply : Reply D) (name : Labels) (step : AliasStep D) (onto : Labels) : Type 0 where
   pub candidate : Candidate
   pub target : Labels
   pub next : IsNextAlias reply name step.group candidate target
   pub is_secure : candidate.state ≡ secure
+  pub from_above : candidate.group.rtype ≡ CNAME → reply.rtype ≡ DS → candidate.signer ≡ place name → ⊥
   pub by : IsCname candidate target step onto ⊎ IsCnameByWildcard reply name candidate target step onto ⊎ IsDname name candidate target step onto
 
 -- a Secure path: Secure steps, from each name to the next, to a final one
