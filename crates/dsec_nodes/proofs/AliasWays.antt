@@ -1,35 +1,33 @@
 -- A path of aliases through judged groups is a way of names, by Secure aliases where its state is Secure.
-use Rattle.std.proofs.Common.{◌≡◌, ℕ, zero, suc, ◌<◌, ◌≤◌, List, [], ◌∷◌, ◌++◌, length, map, Option, Some, None, refl, sym, ap, ◌∙◌, subst, arith, inl, inr, ◌⊎◌}
-use Rattle.std.specs.Prelude.{Contains, filter_map, slice_get}
+use Rattle.std.proofs.Common.{◌≡◌, ℕ, ◌≤◌, List, ◌∷◌, length, map, Option, Some, None, refl, sym, ap, ◌∙◌, subst, arith, inl, inr}
+use Rattle.std.specs.Prelude.{◌⊎◌, Contains, filter_map, slice_get}
 use Rattle.std.specs.List.{AllByRecursion}
 use Rattle.dsec_spec.specs.Names.{Labels, Place, place, IsAtOrBelow, IsStrictlyBelow}
-use Rattle.dsec_spec.specs.Numbers.{CNAME, DNAME}
-use Rattle.dsec_spec.specs.Records.{Record}
+use Rattle.dsec_spec.specs.Numbers.{CNAME, DNAME, DS}
 use Rattle.dsec_spec.specs.Messages.{Question}
 use Rattle.dsec_spec.specs.Groups.{Group}
-use Rattle.dsec_spec.specs.Chain.{Link}
 use Rattle.dsec_spec.proofs.Members.{from_map, in_map}
 use Rattle.dsec_absence.specs.Answers.{Source}
 use Rattle.dsec_nsec3.specs.Conclusions.{Conclusion, proved, hash_proved, left_open, unproved, closer_denied}
 use Rattle.dsec_nsec3.proofs.ConclusionLaws.{Concludes, closer_concludes}
-use Rattle.dsec_alias.specs.States.{State, secure}
+use Rattle.dsec_alias.specs.States.{State, secure, insecure}
 use Rattle.dsec_alias.specs.Candidates.{Candidate, denied, Reply}
 use Rattle.dsec_alias.specs.Following.{AliasStep}
-use Rattle.dsec_alias.specs.Paths.{LeadsOnTo, IsNextAlias, IsFinal, LeadsTo, by_cname, by_denied, by_opened, by_dname, IsPath}
+use Rattle.dsec_alias.specs.Paths.{LeadsOnTo, IsNextAlias, IsFinal, IsOfChild, LeadsTo, by_cname, by_denied, by_opened, by_dname, IsPath}
 use Rattle.dsec_alias.specs.Paths as paths
 use Rattle.dsec_alias.specs.SecurePaths.{IsSecureStep, IsSecurePath}
 use Rattle.dsec_alias.specs.SecurePaths as secure_paths
 use Rattle.dsec_nodes.specs.World.{World, limits_of}
 use Rattle.dsec_nodes.specs.Judging.{Finding, is_shown, has_no_set, is_insecure, is_bogus, is_indeterminate, Judged}
 use Rattle.dsec_nodes.specs.Outcomes.{Used}
-use Rattle.dsec_nodes.specs.ByDenial.{used_at, encloser_of}
+use Rattle.dsec_nodes.specs.ByDenial.{used_at}
 use Rattle.dsec_nodes.specs.Aliases.{state_in, expansion_in, candidate_of, Beside, by_nsec, by_hash, as_denied, reply_to, reached, used_beside, aliases_on, denials_on}
-use Rattle.dsec_nodes.specs.SoundFindings.{IsFound, IsShown, IsShownItself, IsShownFrom}
+use Rattle.dsec_nodes.specs.SoundFindings.{IsFound, IsShownItself, IsShownFrom}
 use Rattle.dsec_nodes.specs.SoundProofs.{IsOfCloser}
-use Rattle.dsec_nodes.specs.SoundAliases.{IsOnto, IsAliasOnto, AreAliases, no_alias, one_alias, IsAliasByWildcard, IsSecureAlias, AreSecureAliases, no_step, one_step}
+use Rattle.dsec_nodes.specs.SoundAliases.{IsOnto, IsAliasOnto, AreAliases, IsFromAbove, no_alias, one_alias, IsAliasByWildcard, IsSecureAlias, AreSecureAliases, no_step, one_step}
 use Rattle.dsec_nodes.proofs.Lists.{all_at, from_mapped_at}
 use Rattle.dsec_nodes.proofs.Signs.{mapped_at}
-use Rattle.dsec_nodes.proofs.DenialLaws.{shown_group, under_signer, shown_itself, shown_from, expanded_under}
+use Rattle.dsec_nodes.proofs.DenialLaws.{under_signer, shown_itself, shown_from, expanded_under}
 use Rattle.dsec_nodes.proofs.RcodeLaws.{OfConclusion, closer_is}
 use Rattle.dsec_nodes.proofs.DisproofLaws.{source, DisprovedBy, disproved_is, hash_disproved_is}
 use Rattle.dsec_nodes.proofs.WayLists.{alias_first}
@@ -81,22 +79,50 @@ module _ (w : World) (asked : Question) (js beside : List Judged) where
         };
       }
 
+  -- a CNAME alias of a name stands at it
+  pub stands_there : (name : Labels) (group : Group) (target : Labels) → group.rtype ≡ CNAME → LeadsOnTo w.anchors (reached asked name) group target
+      → place group.owner ≡ place name
+  stands_there name group target is l = elim l.leads.2 [
+    | inl at ↦ at.2
+    | inr above ↦ absurd (let e : CNAME ≡ DNAME = sym is ∙ above.0 in cc)
+  ]
+
+  -- a CNAME record that leads on isn't of the zone below, where a DS set is asked for
+  above_by : (name : Labels) (i : ℕ) (c : Candidate) (target : Labels) (n : IsNextAlias reply name i c target) → c.group.rtype ≡ CNAME
+      → (IsOfChild reply name c → ⊥) → IsFromAbove asked (judged_alias name i c target n).judged
+  above_by name i c target n is other = λ ds its known own.
+      let a = judged_alias name i c target n in
+      other (record {
+        for_ds = ds;
+        own_zone = sym (ap (λ (x : Candidate). x.signer) a.is) ∙ (own ∙ stands_there name a.judged.group target its a.leads);
+        known = subst (λ (x : Candidate). (x.state ≡ secure) ⊎ (x.state ≡ insecure)) a.is known;
+      })
+
+  not_both : (t : ℕ) → t ≡ CNAME → t ≡ DNAME → ⊥
+  not_both t e f = let same : CNAME ≡ DNAME = sym e ∙ f in cc
+
   -- a step is by a judged group, and leads onto a name
   record IsStepOnto (name : Labels) (step : AliasStep Beside) (onto : Labels) : Type 0 where
     judged : Judged
     stands : slice_get js step.group ≡ Some judged
     alias : IsAliasOnto w.anchors answers (reached asked name) judged.group onto
+    above : IsFromAbove asked judged
+
+  cname_onto : {d : Option Beside} (name : Labels) (i : ℕ) (c : Candidate) (target : Labels) → IsNextAlias reply name i c target → c.group.rtype ≡ CNAME
+      → (IsOfChild reply name c → ⊥) → IsStepOnto name (record { group = i; denial = d }) target
+  cname_onto name i c target n is other =
+      let a = judged_alias name i c target n in
+      record {
+        judged = a.judged;
+        stands = a.stands;
+        alias = a.alias target (inl (ap (λ (x : Candidate). x.group.rtype) a.is ∙ is, refl));
+        above = above_by name i c target n is other;
+      }
 
   step_onto : {name onto : Labels} {step : AliasStep Beside} {own : State} → LeadsTo reply name step own onto → IsStepOnto name step onto
-  step_onto {name = name} (by_cname {i = i} {c = c} {target = target} n is none) =
-      let a = judged_alias name i c target n in
-      record { judged = a.judged; stands = a.stands; alias = a.alias target (inl (ap (λ (x : Candidate). x.group.rtype) a.is ∙ is, refl)) }
-  step_onto {name = name} (by_denied {i = i} {c = c} {target = target} n is some e) =
-      let a = judged_alias name i c target n in
-      record { judged = a.judged; stands = a.stands; alias = a.alias target (inl (ap (λ (x : Candidate). x.group.rtype) a.is ∙ is, refl)) }
-  step_onto {name = name} (by_opened {i = i} {c = c} {target = target} n is some e) =
-      let a = judged_alias name i c target n in
-      record { judged = a.judged; stands = a.stands; alias = a.alias target (inl (ap (λ (x : Candidate). x.group.rtype) a.is ∙ is, refl)) }
+  step_onto {name = name} (by_cname {i = i} {c = c} {target = target} n is other none) = cname_onto name i c target n is other
+  step_onto {name = name} (by_denied {i = i} {c = c} {target = target} n is other some e) = cname_onto name i c target n is other
+  step_onto {name = name} (by_opened {i = i} {c = c} {target = target} n is other some e) = cname_onto name i c target n is other
   step_onto {name = name} (by_dname {i = i} {c = c} {target = target} {mapped = mapped} n is none replaced fits) =
       let a = judged_alias name i c target n in
       record {
@@ -107,6 +133,7 @@ module _ (w : World) (asked : Question) (js beside : List Judged) where
           subst (λ (owner : Labels). paths.IsReplaced owner target name mapped) (sym (ap (λ (x : Candidate). x.group.owner) a.is)) replaced,
           fits,
         ));
+        above = λ ds its known own. absurd (not_both a.judged.group.rtype its (ap (λ (x : Candidate). x.group.rtype) a.is ∙ is));
       }
 
   -- so a path is a way of names
@@ -128,6 +155,14 @@ module _ (w : World) (asked : Question) (js beside : List Judged) where
       let few = few_is rest in
       let size = ap length (alias_first js step path s.judged s.stands) in
       omega (arith, few, size)
+
+  -- each of them from above, where a DS set is asked for
+  pub above_is : {left : ℕ} {name final : Labels} {path : List (AliasStep Beside)} {state : State} → IsPath reply left name path state final
+      → AllByRecursion (IsFromAbove asked) (aliases_on js path)
+  above_is (paths.stays final) = tt
+  above_is (paths.leads {step = step} {steps = path} first rest) =
+      let s = step_onto first in
+      subst (AllByRecursion (IsFromAbove asked)) (sym (alias_first js step path s.judged s.stands)) (s.above, above_is rest)
 
   -- to a name from where none leads on
   pub final_is : {left : ℕ} {name final : Labels} {path : List (AliasStep Beside)} {state : State} → IsPath reply left name path state final
@@ -157,14 +192,6 @@ module _ (w : World) (asked : Question) (js beside : List Judged) where
       by (is_insecure cause signed) f some = absurd cc
       by (is_bogus cause links) f some = absurd cc
       by is_indeterminate f some = absurd cc
-
-  -- a CNAME alias of a name stands at it
-  pub stands_there : (name : Labels) (group : Group) (target : Labels) → group.rtype ≡ CNAME → LeadsOnTo w.anchors (reached asked name) group target
-      → place group.owner ≡ place name
-  stands_there name group target is l = elim l.leads.2 [
-    | inl at ↦ at.2
-    | inr above ↦ absurd (let e : CNAME ≡ DNAME = sym is ∙ above.0 in cc)
-  ]
 
   module _ (founds : AllByRecursion (IsFound w) js) (other_founds : AllByRecursion (IsFound w) beside) where
     abbrev authorities : List Group

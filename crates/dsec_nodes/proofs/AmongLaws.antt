@@ -1,14 +1,17 @@
--- A chain from one of the anchors is a chain from them, and begins where it stands.
-use Rattle.std.proofs.Common.{◌≡◌, ℕ, List, [], ◌∷◌, refl, sym, ap, ◌∙◌, inl, inr}
+-- A chain from one of the anchors is a chain from them, begins where it stands, and leads to a zone at or below it.
+use Rattle.std.proofs.Common.{◌≡◌, ℕ, List, [], ◌∷◌, refl, sym, ap, ◌∙◌, subst, inl, inr}
 use Rattle.std.specs.Prelude.{Contains}
-use Rattle.dsec_spec.specs.Names.{Place, place}
+use Rattle.dsec_spec.specs.Names.{Place, place, IsAtOrBelow, IsStrictlyBelow}
 use Rattle.dsec_spec.specs.Numbers.{DS, DNSKEY}
 use Rattle.dsec_spec.specs.Records.{Record, RecordSet}
 use Rattle.dsec_spec.specs.Accepts.{Accepts}
-use Rattle.dsec_spec.specs.Chain.{Link, Holds, IsAnchor, IsChain}
+use Rattle.dsec_spec.specs.Chain.{Link, Holds, IsAnchor, Leads, IsChain}
+use Rattle.dsec_nodes.specs.World.{Bounds}
+use Rattle.dsec_nodes.specs.SignedCauses.{SignedCause, IsSignedCause}
 use Rattle.dsec_nodes.specs.Taking.{IsListed}
 use Rattle.dsec_nodes.specs.SoundFindings.{BeginsAt}
 use Rattle.dsec_spec.proofs.Members.{in_more, not_in_none}
+use Rattle.dsec_spec.proofs.NamesBelow.{below_itself, below_trans, at_or_below, strictly_below_trans}
 
 -- an anchor that is among others is one of them
 pub listed_itself : (anchors : List Record) (anchor : Record) → Contains anchors anchor → IsListed anchors anchor
@@ -89,3 +92,28 @@ chain_begins accepts anchor (first ∷ links) zone keys t c = record {
   where
     its : (rtype : ℕ) (rdata : List ℕ) → IsAnchor (anchor ∷ []) rtype (place first.records.owner) rdata → place first.records.owner ≡ place anchor.owner
     its rtype rdata a = sym a.stands_at ∙ sym (ap (λ (x : Record). place x.owner) (only anchor a.anchor a.listed))
+
+-- links lead down: to a zone at or below the one that they lead from
+leads_down : (accepts : Accepts) (held : Place) (held_keys : List (List ℕ)) (links : List Link) (zone : Place) (keys : List (List ℕ)) (t : ℕ)
+    → Leads accepts held held_keys links zone keys t → IsAtOrBelow zone held
+leads_down accepts held held_keys [] zone keys t l = subst (λ (z : Place). IsAtOrBelow z held) l.0 (below_itself held)
+leads_down accepts held held_keys (above ∷ []) zone keys t l = absurd l
+leads_down accepts held held_keys (above ∷ link ∷ links) zone keys t l =
+    below_trans zone (place link.records.owner) held (leads_down accepts (place link.records.owner) link.records.datas links zone keys t l.2)
+    (subst (λ (p : Place). IsAtOrBelow p held) (sym l.1.same_owner) (at_or_below (place above.records.owner) held l.0.below))
+
+-- a chain from an anchor leads to a zone at or below it (RFC 4033 3.1)
+pub chain_down : (accepts : Accepts) (anchor : Record) (links : List Link) (zone : Place) (keys : List (List ℕ)) (t : ℕ)
+    → IsChain accepts (anchor ∷ []) links zone keys t → IsAtOrBelow zone (place anchor.owner)
+chain_down accepts anchor [] zone keys t c = absurd c
+chain_down accepts anchor (first ∷ links) zone keys t c =
+    let begins = chain_begins accepts anchor (first ∷ links) zone keys t c in
+    let same : begins.first ≡ first = let are = begins.are in cc in
+    subst (IsAtOrBelow zone) (ap (λ (l : Link). place l.records.owner) (sym same) ∙ begins.at)
+    (leads_down accepts (place first.records.owner) first.records.datas links zone keys t c.1)
+
+-- a signed cause is of a name strictly below the anchor from which it holds (RFC 4035 5.2)
+pub cause_below : (accepts : Accepts) (bounds : Bounds) (anchor : Record) (c : Place) (cause : SignedCause) (t : ℕ)
+    → IsSignedCause accepts bounds anchor c cause t → IsStrictlyBelow c (place anchor.owner)
+cause_below accepts bounds anchor c cause t s =
+    strictly_below_trans c s.holds.zone (place anchor.owner) s.below (chain_down accepts anchor s.holds.chain s.holds.zone s.holds.keys t s.holds.leads)

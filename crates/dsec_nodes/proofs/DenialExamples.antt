@@ -1,7 +1,7 @@
 -- What messages of `example.` come to by a table with its key set: types and names that are denied, and answers from a wildcard.
 use Rattle.std.proofs.Common.{◌≡◌, ℕ, List, [], ◌∷◌, ◌++◌, length, map, Option, Some, None, Ok, Err, refl}
 use Rattle.std.specs.Prelude.{Result, codes}
-use Rattle.dsec_cause.specs.declared.cause.Cause.TheVariants.{MissingSoa, NoNsec3Proof, NoDenialProof}
+use Rattle.dsec_cause.specs.declared.cause.Cause.TheVariants.{MissingSoa, SoaWrongName, NoNsec3Proof, NoDenialProof}
 use Rattle.dsec_spec.specs.Names.{Labels, asterisk, wire_octets}
 use Rattle.dsec_spec.specs.RecordData.{labels_in, name_in, blocks_in}
 use Rattle.dsec_spec.specs.Records.{key_octets, rrsig_octets, rrsig_of}
@@ -122,6 +122,16 @@ no_soa = refl
 type_below_is_denied : told (alone w 11 replies (message_of 0 0 4 named 16 (soa ++ star_nsec))) ≡ Some (secure, None, 1 ∷ 1 ∷ [])
 unfolding longest judged_all search common questions_of answers_of authorities_of many_of question_at record_at data_at parts_at name_at name_within firsts redirection.staying_from rrsig_of name_in labels_in blocks_in signs least_ttl opt_of first_opt do_cname_dname
 type_below_is_denied = refl
+
+-- `a.example. DS`: the zone above denies it
+ds_is_denied : told (alone w 11 replies (message_of 0 0 4 named 43 (soa ++ star_nsec))) ≡ Some (secure, None, 1 ∷ 1 ∷ [])
+unfolding longest judged_all search common questions_of answers_of authorities_of many_of question_at record_at data_at parts_at name_at name_within firsts redirection.staying_from rrsig_of name_in labels_in blocks_in signs least_ttl opt_of first_opt do_cname_dname
+ds_is_denied = refl
+
+-- `example. DS`: the zone that begins at the name doesn't
+ds_is_of_the_zone_above : told (alone w 11 replies (message_of 0 0 4 parent 43 (soa ++ apex_nsec))) ≡ Some (bogus, Some SoaWrongName, [])
+unfolding longest judged_all search common questions_of answers_of authorities_of many_of question_at record_at data_at parts_at name_at name_within firsts redirection.staying_from rrsig_of name_in labels_in blocks_in signs least_ttl opt_of first_opt do_cname_dname
+ds_is_of_the_zone_above = refl
 
 -- `a.example. A`, from the wildcard: a closer name is missing
 wildcard_answers : told (alone w 11 replies (message_of 0 2 2 named 1 (expanded ++ star_nsec))) ≡ Some (secure, None, 0 ∷ [])

@@ -7,8 +7,8 @@ use Rattle.dsec_spec.specs.Chain.{Link}
 use Rattle.dsec_nodes.specs.World.{World, Replies}
 use Rattle.dsec_nodes.specs.Causes.{NoSignature}
 use Rattle.dsec_nodes.specs.Nodes.{Node, Standing, within}
-use Rattle.dsec_nodes.specs.Walk.{Reached, redirects_below, goes_on, goes_on_at, way, node_of}
-use Rattle.dsec_nodes.specs.Judging.{Finding, is_bogus, found_at, target_of, by_island}
+use Rattle.dsec_nodes.specs.Walk.{Reached, redirects_below, goes_on_at, way, node_of}
+use Rattle.dsec_nodes.specs.Judging.{is_bogus, found_at, target_of, by_island}
 use Rattle.dsec_nodes.proofs.WayLaws.{ended}
 
 -- a walk ends at a name that redirects what is below it (RFC 5155 8.3, RFC 6672 2.4)

@@ -9,7 +9,7 @@ use Rattle.dsec_spec.specs.Numbers.{ANY}
 use Rattle.dsec_spec.specs.Records.{Record}
 use Rattle.dsec_spec.specs.Messages.{Question, rcode_of}
 use Rattle.dsec_spec.specs.Groups.{Group}
-use Rattle.dsec_spec.specs.Islands.{island}
+use Rattle.dsec_spec.specs.Islands.{looked_for_at, island}
 use Rattle.dsec_spec.specs.Chain.{Link}
 use Rattle.dsec_spec.proofs.AnsweringLemmas.{at_question}
 use Rattle.dsec_spec.proofs.NamesBelow.{below_trans}
@@ -34,7 +34,7 @@ use Rattle.dsec_nodes.specs.SoundHashes.{IsLeftOpenBy}
 use Rattle.dsec_nodes.specs.SoundOutcomes.{IsRead, EndsThere, IsSecureWay, IsAnswered, HasSoa, Decides, IsSound, IsJustified}
 use Rattle.dsec_nodes.proofs.Lists.{all_at, from_position}
 use Rattle.dsec_nodes.proofs.Signs.{mapped_at}
-use Rattle.dsec_nodes.proofs.SoaLaws.{soa_is}
+use Rattle.dsec_nodes.proofs.SoaLaws.{soa_is, soa_over}
 use Rattle.dsec_nodes.proofs.DenialLaws.{shown_group, under_signer, shown_itself, shown_from, expanded_under}
 use Rattle.dsec_nodes.proofs.DisproofLaws.{source, DisprovedBy, disproved_is, hash_disproved_is, opened_is}
 use Rattle.dsec_nodes.proofs.AliasWays.{secure_way_is}
@@ -42,7 +42,7 @@ use Rattle.dsec_nodes.proofs.WeakWays.{Means, ends_there, weak_is}
 use Rattle.dsec_nodes.proofs.RcodeLaws.{from_no_error, by_rcode_is, closer_is}
 
 module _ (w : World) (most : ℕ) (message : List ℕ) (asked : Question) (js beside : List Judged)
-    (read : IsRead message most asked (map (λ (j : Judged). j.group) js) (map (λ (j : Judged). j.group) beside))
+    (read : IsRead w.anchors message most asked (map (λ (j : Judged). j.group) js) (map (λ (j : Judged). j.group) beside))
     (founds : AllByRecursion (IsFound w) js) (other_founds : AllByRecursion (IsFound w) beside) (sure : AllByRecursion (λ (j : Judged). IsSure j.finding) js)
     (path : List (AliasStep Beside)) (maybe : State) (final : Labels) (is_path : IsPath (reply_to w asked js beside) most asked.name path maybe final) where
   abbrev question : Question
@@ -204,7 +204,8 @@ module _ (w : World) (most : ℕ) (message : List ℕ) (asked : Question) (js be
           → Means w most message (finished (on_conclusion beside j (denied_under w message question name beside j)))
       shown links last signature f =
           let is : IsShown w j = shown_group w j its links last signature f in
-          let below : IsAtOrBelow name j.signer = below_trans name (place j.group.owner) j.signer soa.over (under_signer w j is) in
+          let below : IsAtOrBelow name j.signer =
+          below_trans name (place j.group.owner) j.signer (soa_over w question j.group soa) (under_signer w j is) in
           let kind = by_rcode_is (limits_of w.bounds) (rcode_of message) (its_source j.signer) name question.rtype in
           conclusion_justified j.signer below j (denied_under w message question name beside j)
           (at_concludes (limits_of w.bounds) (its_source j.signer) name below (no_error_in (rcode_of message)) question.rtype)
@@ -225,14 +226,14 @@ module _ (w : World) (most : ℕ) (message : List ℕ) (asked : Question) (js be
 
   -- the outcome by a denial
   denial_justified : Means w most message (finished (by_denial w message question name beside))
-  denial_justified = by (soa_at (island w.anchors name question.rtype) name question.class (λ (x : Judged). x.group) beside) refl
+  denial_justified = by (soa_at (island w.anchors name question.rtype) (looked_for_at name question.rtype) question.class (λ (x : Judged). x.group) beside) refl
     where
-      at : (index : ℕ) → soa_at (island w.anchors name question.rtype) name question.class (λ (x : Judged). x.group) beside ≡ Some index
+      at : (index : ℕ) → soa_at (island w.anchors name question.rtype) (looked_for_at name question.rtype) question.class (λ (x : Judged). x.group) beside ≡ Some index
           → (o : Option Judged) → slice_get beside index ≡ o → Means w most message (finished (at_soa w message question name beside o))
       at index g None h = refl
       at index g (Some j) h = soa_justified index j h (soa_is w question beside index j g h)
 
-      by : (o : Option ℕ) → soa_at (island w.anchors name question.rtype) name question.class (λ (x : Judged). x.group) beside ≡ o
+      by : (o : Option ℕ) → soa_at (island w.anchors name question.rtype) (looked_for_at name question.rtype) question.class (λ (x : Judged). x.group) beside ≡ o
           → Means w most message (finished (by_soa w message question name beside o))
       by None g = refl
       by (Some index) g = at index g (slice_get beside index) refl
@@ -260,16 +261,16 @@ module _ (w : World) (most : ℕ) (message : List ℕ) (asked : Question) (js be
 -- The outcome of a message with one question is justified, where each judged group of its answer section and of its authority section is what
 -- was found of it, and none of the former is bogus (RFC 4033 5)
 pub end_justified : (w : World) (most : ℕ) (message : List ℕ) (question : Question) (answers authorities : List Group) (js beside : List Judged)
-    → IsRead message most question answers authorities → map (λ (j : Judged). j.group) js ≡ answers
+    → IsRead w.anchors message most question answers authorities → map (λ (j : Judged). j.group) js ≡ answers
     → map (λ (j : Judged). j.group) beside ≡ authorities → AllByRecursion (IsFound w) js → AllByRecursion (IsFound w) beside
     → AllByRecursion (λ (j : Judged). IsSure j.finding) js
     → Means w most message (at_end w message question js beside (alias_path w most question js beside))
 end_justified w most message question answers groups js beside read same others founds other_founds sure =
     by (alias_path w most question js beside) refl
   where
-    its_read : IsRead message most question (map (λ (j : Judged). j.group) js) (map (λ (j : Judged). j.group) beside)
-    its_read = subst (λ (gs : List Group). IsRead message most question gs (map (λ (j : Judged). j.group) beside)) (sym same)
-        (subst (λ (gs : List Group). IsRead message most question answers gs) (sym others) read)
+    its_read : IsRead w.anchors message most question (map (λ (j : Judged). j.group) js) (map (λ (j : Judged). j.group) beside)
+    its_read = subst (λ (gs : List Group). IsRead w.anchors message most question gs (map (λ (j : Judged). j.group) beside)) (sym same)
+        (subst (λ (gs : List Group). IsRead w.anchors message most question answers gs) (sym others) read)
 
     by : (end : AliasEnd Beside) → alias_path w most question js beside ≡ end → Means w most message (at_end w message question js beside end)
     by (ends_bogus reached_name cause) e = refl

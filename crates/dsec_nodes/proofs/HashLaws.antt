@@ -98,7 +98,6 @@ module _ (w : World) (zone : Node) (keys : List (List ℕ)) (name : Place) (grou
             hashed = hashed;
             covers = (between_decides owner_hash nsec3.next_owner (hash_by nsec3.hashing name)).0 found;
             with_opt_out = not_false (has_opt_out nsec3.hashing) opts_out;
-            below = n.below;
           }),
           λ _. refl,
           refl,
@@ -128,7 +127,6 @@ module _ (w : World) (zone : Node) (keys : List (List ℕ)) (name : Place) (grou
           is_nsec3 = one_nsec3;
           many = ltb-true w.bounds.iterations_insecure nsec3.hashing.iterations (sym (ap (λ (b : Bool). b || nat_lt w.bounds.iterations_insecure nsec3.hashing.iterations) (e ∙ few)) ∙ more);
           not_too_many = ltb-false w.bounds.iterations_bogus nsec3.hashing.iterations (e ∙ few);
-          below = n.below;
         }),
         λ _. refl,
         refl,

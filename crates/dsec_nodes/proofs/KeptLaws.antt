@@ -157,6 +157,7 @@ insecure_kept w zone keys name cause basis group p h g at classed below whole sh
         record {
           set = set_in group;
           holds = shown;
+          below = below;
           of_class = classed;
           signature = g.counts.signature;
           reads = g.counts.reads_signature;

@@ -1,5 +1,5 @@
 -- Each outcome is justified: a Secure one by links and what is denied beside them, an Insecure one by a signed cause.
-use Rattle.std.proofs.Common.{◌≡◌, ℕ, Bool, true, false, List, [], ◌∷◌, Option, Some, None, Ok, if◌then◌else◌, refl, sym, ap, ◌∙◌, subst}
+use Rattle.std.proofs.Common.{◌≡◌, ℕ, List, [], ◌∷◌, Option, Some, None, Ok, refl, sym, ap, ◌∙◌, subst}
 use Rattle.std.specs.List.{AllByRecursion}
 use Rattle.std.proofs.lemmas.Option.{same_Some}
 use Rattle.dsec_spec.specs.Names.{place}
@@ -64,10 +64,10 @@ all_sure w replies (g ∷ gs) js e =
     sure j is_indeterminate rest them h = tt
 
 -- what is read of a message with one question
-pub read_is : (most : ℕ) (message : List ℕ) (question : Question) (groups : List Group) (s : List Question × List Record × List Record)
-    → sections_of message ≡ Some s → s.0 ≡ question ∷ [] → moved most (groups_of s.1) ≡ Some groups
-    → IsRead message most question groups (groups_of s.2)
-read_is most message question groups s r q m =
+pub read_is : (anchors : List Record) (most : ℕ) (message : List ℕ) (question : Question) (groups : List Group) (s : List Question × List Record × List Record)
+    → sections_of message ≡ Some s → s.0 ≡ question ∷ [] → moved anchors most (groups_of s.1) ≡ Some groups
+    → IsRead anchors message most question groups (groups_of s.2)
+read_is anchors most message question groups s r q m =
     let authorities = from_bind (authorities_of message) _ s r in
     let answers = from_bind (answers_of message) _ s authorities.2 in
     let questions = from_bind (questions_of message) _ s answers.2 in
@@ -95,7 +95,7 @@ alone_justified w most replies message o e = by_sections (sections_of message) r
     bogus_is cause why same = subst (Means w most message) same refl
 
     by_questions : (s : List Question × List Record × List Record) → sections_of message ≡ Some s → (groups : List Group)
-        → moved most (groups_of s.1) ≡ Some groups → (js beside : List Judged) → judged_all w replies groups ≡ all js
+        → moved w.anchors most (groups_of s.1) ≡ Some groups → (js beside : List Judged) → judged_all w replies groups ≡ all js
         → judged_all w replies (groups_of s.2) ≡ all beside
         → (qs : List Question) → s.0 ≡ qs → on_questions w most message qs js beside ≡ Ok o → Means w most message o
     by_questions s r groups m js beside j k [] q g = absurd cc
@@ -103,19 +103,19 @@ alone_justified w most replies message o e = by_sections (sections_of message) r
     by_questions s r groups m js beside j k (question ∷ []) q g =
         let same : at_end w message question js beside (alias_path w most question js beside) ≡ o = cc in
         subst (Means w most message) same
-        (end_justified w most message question groups (groups_of s.2) js beside (read_is most message question groups s r q m)
+        (end_justified w most message question groups (groups_of s.2) js beside (read_is w.anchors most message question groups s r q m)
         (groups_same w replies groups js j) (groups_same w replies (groups_of s.2) beside k) (all_found w replies groups js j)
         (all_found w replies (groups_of s.2) beside k) (all_sure w replies groups js j))
 
     by_judged : (s : List Question × List Record × List Record) → sections_of message ≡ Some s → (groups : List Group)
-        → moved most (groups_of s.1) ≡ Some groups → (a b : AllJudged) → judged_all w replies groups ≡ a
+        → moved w.anchors most (groups_of s.1) ≡ Some groups → (a b : AllJudged) → judged_all w replies groups ≡ a
         → judged_all w replies (groups_of s.2) ≡ b → on_judged w most message s.0 a b ≡ Ok o → Means w most message o
     by_judged s r groups m (one_bogus cause links) b j k g = bogus_is cause (by_links links) cc
     by_judged s r groups m (all js) (one_bogus cause links) j k g = bogus_is cause (by_links links) cc
     by_judged s r groups m (all js) (all beside) j k g = by_questions s r groups m js beside j k s.0 refl g
 
     by_moved : (s : List Question × List Record × List Record) → sections_of message ≡ Some s → (m : Option (List Group))
-        → moved most (groups_of s.1) ≡ m → on_groups w most replies message s.0 m (groups_of s.2) ≡ Ok o → Means w most message o
+        → moved w.anchors most (groups_of s.1) ≡ m → on_groups w most replies message s.0 m (groups_of s.2) ≡ Ok o → Means w most message o
     by_moved s r None m g = bogus_is TooManyUnsignedCnames by_nothing cc
     by_moved s r (Some groups) m g = by_judged s r groups m (judged_all w replies groups) (judged_all w replies (groups_of s.2)) refl refl g
 
@@ -123,7 +123,7 @@ alone_justified w most replies message o e = by_sections (sections_of message) r
         → on_sections w most replies message x ≡ Ok o
         → Means w most message o
     by_sections None f g = absurd cc
-    by_sections (Some s) f g = by_moved s f (moved most (groups_of s.1)) refl g
+    by_sections (Some s) f g = by_moved s f (moved w.anchors most (groups_of s.1)) refl g
 
 -- a Secure outcome is sound (RFC 4033 5, RFC 4035 5)
 pub alone_sound : (w : World) (most : ℕ) (replies : Replies) (message : List ℕ) (o : Outcome) → alone w most replies message ≡ Ok o

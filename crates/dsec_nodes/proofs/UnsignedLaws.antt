@@ -2,7 +2,7 @@
 use Rattle.std.proofs.Common.{◌≡◌, ℕ, ◌-◌, ◌==◌, Bool, true, false, cond, List, [], ◌∷◌, length, Option, Some, None, refl, sym, ap, ◌∙◌, subst}
 use Rattle.std.proofs.lemmas.Bool.{eqb-true}
 use Rattle.std.proofs.lemmas.Option.{same_Some}
-use Rattle.dsec_spec.specs.Names.{Place, place}
+use Rattle.dsec_spec.specs.Names.{Place, place, IsStrictlyBelow}
 use Rattle.dsec_spec.specs.Records.{Record, Key}
 use Rattle.dsec_spec.specs.Groups.{Group}
 use Rattle.dsec_spec.specs.Islands.{island}
@@ -16,6 +16,7 @@ use Rattle.dsec_nodes.specs.Walk.{way, node_of}
 use Rattle.dsec_nodes.specs.Judging.{Finding, is_shown, is_insecure, is_bogus, has_no_set, is_indeterminate, found_by, found_at, target_of, by_island, judged_of}
 use Rattle.dsec_nodes.specs.SoundFindings.{IsShownInsecure}
 use Rattle.dsec_nodes.proofs.WalkLaws.{node_on_way}
+use Rattle.dsec_nodes.proofs.AmongLaws.{cause_below}
 use Rattle.dsec_nodes.proofs.ShownLaws.{target_between}
 
 -- what trying keys comes to is never Insecure, without a set, or Indeterminate
@@ -48,6 +49,9 @@ insecure_node w replies group top cause signed f e =
     let same : kept.0 ≡ rests.anchor = same_Some _ _ (sym kept.1 ∙ rests.its) in
     let holds : HoldsAt w.accepts n.bounds kept.0 n.name n.signer n.links (insecure cause signed) (moment w) =
     subst (λ (x : Standing). HoldsAt w.accepts n.bounds kept.0 n.name n.signer n.links x (moment w)) e (kept.2 w.now o.from o.to) in
+    let shown : IsSignedCause w.accepts w.bounds rests.anchor n.name signed (moment w) =
+    subst (λ (b : Bounds). IsSignedCause w.accepts b rests.anchor n.name signed (moment w)) o.node_bounds
+    (subst (λ (a : Record). IsSignedCause w.accepts n.bounds a n.name signed (moment w)) same holds) in
     record {
       top = top;
       is_island = i;
@@ -55,9 +59,9 @@ insecure_node w replies group top cause signed f e =
       is_listed = rests.is_listed;
       at = rests.at;
       name = n.name;
+      below_island = subst (IsStrictlyBelow n.name) rests.at (cause_below w.accepts w.bounds rests.anchor n.name signed (moment w) shown);
       over = o.over;
-      shows = subst (λ (b : Bounds). IsSignedCause w.accepts b rests.anchor n.name signed (moment w)) o.node_bounds
-          (subst (λ (a : Record). IsSignedCause w.accepts n.bounds a n.name signed (moment w)) same holds);
+      shows = shown;
     }
 
 no_records : (rs : List Record) → length rs ≡ 0 → rs ≡ []

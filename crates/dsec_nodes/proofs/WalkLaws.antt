@@ -49,7 +49,7 @@ zone_in w top name labels n keys e k =
     }
 
 -- a front of a name is at or above it
-front_over : (name : Place) (m : ℕ) → IsAtOrBelow name (take m name)
+pub front_over : (name : Place) (m : ℕ) → IsAtOrBelow name (take m name)
 front_over name m = record { under = drop m name; is = sym (take-append-drop m name) }
 
 -- what is reached with a node at or above the name is on the way

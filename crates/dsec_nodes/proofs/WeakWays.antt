@@ -4,29 +4,26 @@ use Rattle.std.specs.Prelude.{◌≢◌, Contains, filter_map, slice_get}
 use Rattle.std.specs.List.{AllByRecursion}
 use Rattle.dsec_spec.specs.Names.{Labels, Place, place, IsAtOrBelow}
 use Rattle.dsec_spec.specs.Numbers.{CNAME}
-use Rattle.dsec_spec.specs.Records.{Record}
 use Rattle.dsec_spec.specs.Messages.{Question}
 use Rattle.dsec_spec.specs.Groups.{Group}
-use Rattle.dsec_spec.specs.Islands.{island}
 use Rattle.dsec_spec.proofs.Members.{first_in}
 use Rattle.dsec_absence.specs.Answers.{Source}
 use Rattle.dsec_nsec3.specs.Conclusions.{Conclusion, proved, hash_proved, left_open, unproved, closer_denied}
 use Rattle.dsec_nsec3.proofs.ConclusionLaws.{Concludes}
-use Rattle.dsec_alias.specs.States.{State, secure, insecure, bogus, indeterminate}
-use Rattle.dsec_alias.specs.Candidates.{Candidate, opened, Reply}
+use Rattle.dsec_alias.specs.States.{State, secure, insecure}
+use Rattle.dsec_alias.specs.Candidates.{Candidate, opened}
 use Rattle.dsec_alias.specs.Following.{AliasStep}
-use Rattle.dsec_alias.specs.Paths.{LeadsOnTo, IsNextAlias, IsPath}
+use Rattle.dsec_alias.specs.Paths.{IsNextAlias, IsPath}
 use Rattle.dsec_alias.specs.SecurePaths.{Weakens, by_set, by_opening}
 use Rattle.dsec_alias.proofs.SecureLaws.{weak_path}
 use Rattle.dsec_nodes.specs.World.{World, limits_of}
-use Rattle.dsec_nodes.specs.Causes.{Cause}
 use Rattle.dsec_nodes.specs.Judging.{Finding, is_shown, has_no_set, is_insecure, is_bogus, is_indeterminate, Judged}
 use Rattle.dsec_nodes.specs.Outcomes.{Used, by_groups, Outcome}
 use Rattle.dsec_nodes.specs.ByDenial.{used_at}
 use Rattle.dsec_nodes.specs.Aliases.{state_in, expansion_in, candidate_of, Beside, as_denied, reply_to, reached, used_beside, aliases_on, denials_on}
 use Rattle.dsec_nodes.specs.Aliases as aliases
 use Rattle.dsec_nodes.specs.SoundFindings.{Justifies, IsFound, IsSure, IsShownFrom}
-use Rattle.dsec_nodes.specs.SoundOutcomes.{IsRead, EndsThere, HasInsecureAlias, HasOpenAlias, HasUnanchoredAlias, IsJustified}
+use Rattle.dsec_nodes.specs.SoundOutcomes.{IsRead, EndsThere, IsJustified}
 use Rattle.dsec_nodes.proofs.Lists.{all_at}
 use Rattle.dsec_nodes.proofs.DisproofLaws.{source, opened_is}
 use Rattle.dsec_nodes.proofs.WayLists.{in_filter_map, in_flat_map}
@@ -37,7 +34,7 @@ abbrev pub Means : World → ℕ → List ℕ → Outcome → Type 0
 Means w most message o = IsJustified w most message o o.state
 
 module _ (w : World) (most : ℕ) (message : List ℕ) (asked : Question) (js beside : List Judged)
-    (read : IsRead message most asked (map (λ (j : Judged). j.group) js) (map (λ (j : Judged). j.group) beside))
+    (read : IsRead w.anchors message most asked (map (λ (j : Judged). j.group) js) (map (λ (j : Judged). j.group) beside))
     (founds : AllByRecursion (IsFound w) js) (other_founds : AllByRecursion (IsFound w) beside) (sure : AllByRecursion (λ (j : Judged). IsSure j.finding) js)
     (path : List (AliasStep Beside)) (maybe : State) (final : Labels) (is_path : IsPath (reply_to w asked js beside) most asked.name path maybe final) where
   abbrev authorities : List Group
@@ -57,6 +54,7 @@ module _ (w : World) (most : ℕ) (message : List ℕ) (asked : Question) (js be
     beside = denials_on beside path;
     way = ways.way_is w asked js beside is_path;
     few = ways.few_is w asked js beside is_path;
+    from_above = ways.above_is w asked js beside is_path;
     no_alias = ways.final_is w asked js beside is_path;
   }
 

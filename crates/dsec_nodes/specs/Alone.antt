@@ -96,7 +96,7 @@ sections_of message = do
 -- the outcome by the sections, where they can be read; of bare CNAME records so many are followed, and so many aliases (RFC 6672 3.1)
 abbrev pub on_sections : World → ℕ → Replies → List ℕ → Option (List Question × List Record × List Record) → Result Outcome Refusal
 on_sections w most replies message None = Err unreadable
-on_sections w most replies message (Some s) = on_groups w most replies message s.0 (moved most (groups_of s.1)) (groups_of s.2)
+on_sections w most replies message (Some s) = on_groups w most replies message s.0 (moved w.anchors most (groups_of s.1)) (groups_of s.2)
 
 -- the outcome of a message by a table of replies, where so many bare CNAME records are followed, and so many aliases: what each way of asking
 -- comes to (RFC 4033 5, RFC 4035 5)

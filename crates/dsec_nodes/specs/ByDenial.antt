@@ -6,7 +6,7 @@ use Rattle.dsec_spec.specs.Records.{Record, rrsig_of}
 use Rattle.dsec_spec.specs.Messages.{Question, rcode_of}
 use Rattle.dsec_spec.specs.Groups.{Group}
 use Rattle.dsec_spec.specs.JudgedGroups.{encloser_in}
-use Rattle.dsec_spec.specs.Islands.{island}
+use Rattle.dsec_spec.specs.Islands.{looked_for_at, island}
 use Rattle.dsec_absence.specs.Denials.{Denial, used_in}
 use Rattle.dsec_absence.specs.Evidence.{Evidence}
 use Rattle.dsec_absence.specs.Answers.{Source}
@@ -101,11 +101,12 @@ at_soa w message question name authorities (Some soa) =
 
 abbrev pub by_soa : World → List ℕ → Question → Place → List Judged → Option ℕ → Outcome
 by_soa w message question name authorities None =
-    bogus_by (unwrap_or (no_soa_cause name question.class (λ j. j.group) authorities) MissingSoa) by_nothing
+    bogus_by (unwrap_or (no_soa_cause (looked_for_at name question.rtype) question.class (λ j. j.group) authorities) MissingSoa) by_nothing
 by_soa w message question name authorities (Some index) = at_soa w message question name authorities (slice_get authorities index)
 
--- the outcome by the first SOA set that counts, of a zone that the name may be in (RFC 2308 2.1, 2.2, RFC 4035 5.4)
+-- the outcome by the first SOA set that counts, of a zone that the set may be in: for DS, of one above the name (RFC 2308 2.1, 2.2,
+-- RFC 4035 2.4, 5.4)
 abbrev pub by_denial : World → List ℕ → Question → Place → List Judged → Outcome
 by_denial w message question name authorities =
     by_soa w message question name authorities
-    (soa_at (island w.anchors name question.rtype) name question.class (λ j. j.group) authorities)
+    (soa_at (island w.anchors name question.rtype) (looked_for_at name question.rtype) question.class (λ j. j.group) authorities)

@@ -5,7 +5,7 @@ use Rattle.std.proofs.Math.Bool.{not}
 use Rattle.dsec_spec.specs.Names.{Labels, Place, place, same_place}
 use Rattle.dsec_spec.specs.Numbers.{IN, NS, SOA, DS, NSEC3, DNAME}
 use Rattle.dsec_spec.specs.Records.{Record, Key}
-use Rattle.dsec_spec.specs.RecordViews.{Nsec3, nsec3_of}
+use Rattle.dsec_spec.specs.RecordViews.{Nsec3}
 use Rattle.dsec_spec.specs.TypeBitmaps.{has_type}
 use Rattle.dsec_spec.specs.Base32hex.{octets_in_base32hex}
 use Rattle.dsec_spec.specs.DenyingRecords.{hash_by}

@@ -89,33 +89,32 @@ pub record HasNoDsByHash (c zone : Place) (set : RecordSet) : Type 0 where
   pub no_ds : has_hashed (nsec3_at zone set hashed) DS ≡ false
   pub no_apex : has_hashed (nsec3_at zone set hashed) SOA ≡ false
 
--- an NSEC3 record with Opt-Out that covers the name, which is below its zone (RFC 5155 6, 8.9)
+-- an NSEC3 record with Opt-Out that covers the name (RFC 5155 6, 8.9)
 pub record OptsOut (c zone : Place) (set : RecordSet) : Type 0 where
   pub hashed : IsHashed zone set
   pub covers : CoversHash (nsec3_at zone set hashed) c
   pub with_opt_out : opts_out (nsec3_at zone set hashed) ≡ true
-  pub below : IsStrictlyBelow c zone
 
 -- an NSEC3 record of more iterations than are followed, and not of so many that it is bogus (RFC 9276 3.2)
-pub record Iterates (bounds : Bounds) (c zone : Place) (set : RecordSet) : Type 0 where
+pub record Iterates (bounds : Bounds) (zone : Place) (set : RecordSet) : Type 0 where
   pub is_nsec3 : IsNsec3 zone set
   pub many : bounds.iterations_insecure < is_nsec3.nsec3.hashing.iterations
   pub not_too_many : is_nsec3.nsec3.hashing.iterations ≤ bounds.iterations_bogus
-  pub below : IsStrictlyBelow c zone
 
 -- what a set of a zone shows of a name, by which of the five it is (RFC 4035 5.2, RFC 5155 8.9, RFC 9276 3.2)
 abbrev pub Shows : Bounds → Ground → Place → Place → RecordSet → Type 0
 Shows bounds nsec_without_ds c zone set = HasNoDs c set
 Shows bounds nsec3_without_ds c zone set = HasNoDsByHash c zone set
 Shows bounds nsec3_opts_out c zone set = OptsOut c zone set
-Shows bounds nsec3_iterates c zone set = Iterates bounds c zone set
+Shows bounds nsec3_iterates c zone set = Iterates bounds zone set
 Shows bounds ds_not_supported c zone set = IsUnusable c set
 
 -- a set of class IN, to which a chain from the anchor leads and which is no expansion of a wildcard, shows that no chain leads to the
--- name (RFC 4035 5.2, 5.3.4)
+-- name, which is strictly below the zone that signed the set (RFC 4035 2.4, 5.2, 5.3.4)
 pub record IsSignedCause (accepts : Accepts) (bounds : Bounds) (anchor : Record) (c : Place) (cause : SignedCause) (t : ℕ) : Type 0 where
   pub set : RecordSet
   pub holds : Holds accepts (anchor ∷ []) cause.links set t
+  pub below : IsStrictlyBelow c holds.zone
   pub of_class : set.class ≡ IN
   pub signature : Rrsig
   pub reads : rrsig_of holds.last.rrsig ≡ Some signature

@@ -1,8 +1,8 @@
 -- The way of names from a message's question to the name where judging ends, and what a Secure one means (RFC 1034 3.6.2, RFC 4035 5.3.4,
 -- RFC 6672 2.2, 5.3).
-use Rattle.std.specs.Prelude.{◌≡◌, ◌⊎◌, ℕ, ◌<◌, ◌≤◌, List, [], ◌∷◌, ◌++◌, Contains, slice_get, Some}
+use Rattle.std.specs.Prelude.{◌≡◌, ◌⊎◌, ℕ, ◌<◌, ◌≤◌, List, [], ◌∷◌, ◌++◌, slice_get, Some}
 use Rattle.dsec_spec.specs.Names.{Labels, Place, place, wire_length}
-use Rattle.dsec_spec.specs.Numbers.{CNAME, DNAME}
+use Rattle.dsec_spec.specs.Numbers.{CNAME, DNAME, DS}
 use Rattle.dsec_spec.specs.Records.{Record}
 use Rattle.dsec_spec.specs.Messages.{Question}
 use Rattle.dsec_spec.specs.Groups.{Group}
@@ -10,7 +10,8 @@ use Rattle.dsec_alias.specs.Paths.{LeadsOnTo, IsReplaced}
 use Rattle.dsec_nodes.specs.World.{World}
 use Rattle.dsec_nodes.specs.Judging.{Judged}
 use Rattle.dsec_nodes.specs.Outcomes.{Used}
-use Rattle.dsec_nodes.specs.Aliases.{reached}
+use Rattle.dsec_alias.specs.States.{secure, insecure}
+use Rattle.dsec_nodes.specs.Aliases.{state_in, reached}
 use Rattle.dsec_nodes.specs.SoundFindings.{IsShownItself, IsShownFrom}
 use Rattle.dsec_nodes.specs.SoundProofs.{Disproof, disproof_used, IsDeniedBy, IsOfCloser}
 
@@ -35,6 +36,12 @@ pub data AreAliases (anchors : List Record) (answers : List Group) (asked : Ques
   no_alias : {name : Labels} → AreAliases anchors answers asked name [] name
   one_alias : {name onto final : Labels} {group : Group} {others : List Group} → IsAliasOnto anchors answers (reached asked name) group onto
       → AreAliases anchors answers asked onto others final → AreAliases anchors answers asked name (group ∷ others) final
+
+-- an alias on the way, where a DS set is asked for: a CNAME record that is Secure or Insecure isn't of the zone that begins at its own name, for
+-- the set stands in the zone above (RFC 4035 2.4)
+abbrev pub IsFromAbove : Question → Judged → Type 0
+IsFromAbove asked j =
+    asked.rtype ≡ DS → j.group.rtype ≡ CNAME → (state_in j.finding ≡ secure) ⊎ (state_in j.finding ≡ insecure) → j.signer ≡ place j.group.owner → ⊥
 
 -- links show the alias's set, which is no expansion of a wildcard (RFC 4033 5, RFC 4035 5.3)
 pub record IsAliasItself (w : World) (j : Judged) (used : List Used) : Type 0 where

@@ -4,7 +4,7 @@ use Rattle.dsec_spec.specs.Names.{Place, place, IsAtOrBelow, IsStrictlyBelow}
 use Rattle.dsec_spec.specs.Numbers.{SOA}
 use Rattle.dsec_spec.specs.Messages.{Question}
 use Rattle.dsec_spec.specs.Groups.{Group}
-use Rattle.dsec_spec.specs.Sound.{IsIsland}
+use Rattle.dsec_spec.specs.Sound.{IsLookedForAt, IsIsland}
 use Rattle.dsec_spec.specs.DenyingRecords.{NsecAt}
 use Rattle.dsec_absence.specs.Denials.{Denial, no_type, no_name, no_type_by_wildcard, no_closer, IsDenial}
 use Rattle.dsec_absence.specs.Evidence.{Counts}
@@ -13,12 +13,15 @@ use Rattle.dsec_nodes.specs.Outcomes.{Used}
 use Rattle.dsec_nodes.specs.ByDenial.{evidence_of}
 use Rattle.dsec_nodes.specs.SoundFindings.{IsShownItself}
 
--- the group is the SOA set of a zone that the question's name may be in, and that may be trusted from its island: of the question's class, at
--- or above the name, and not above the island (RFC 2308 2.1, RFC 4033 2)
+-- the group is the SOA set of a zone that a set of the question's name and type may be in, and that may be trusted from its island: of the
+-- question's class, at or above where the set is looked for, so strictly above the name for DS, and not above the island (RFC 2308 2.1,
+-- RFC 4033 2, RFC 4035 2.4)
 pub record IsSoaFor (w : World) (question : Question) (group : Group) : Type 0 where
   pub of_type : group.rtype ≡ SOA
   pub of_class : group.class ≡ question.class
-  pub over : IsAtOrBelow (place question.name) (place group.owner)
+  pub from : Place
+  pub looked_for : IsLookedForAt (place question.name) question.rtype from
+  pub over : IsAtOrBelow from (place group.owner)
   pub in_island : (top : Place) → IsIsland w.anchors (place question.name) question.rtype top → IsStrictlyBelow top (place group.owner) → ⊥
 
 -- A group that a denial uses, as this record: the authority section's at this index, one NSEC record of the class, which the zone has

@@ -1,7 +1,7 @@
 -- What is found of a message's groups is so: links show a set, a signed record shows that no chain leads to its zone, or no anchor stands
 -- above it (RFC 4033 2, 5, RFC 4035 5).
 use Rattle.std.specs.Prelude.{◌≡◌, ◌≢◌, List, [], ◌∷◌, ◌++◌, Contains, Some, None}
-use Rattle.dsec_spec.specs.Names.{Place, place, IsAtOrBelow}
+use Rattle.dsec_spec.specs.Names.{Place, place, IsAtOrBelow, IsStrictlyBelow}
 use Rattle.dsec_spec.specs.Records.{Record, Rrsig, rrsig_of}
 use Rattle.dsec_spec.specs.SignedBytes.{rightmost, IsExpansion}
 use Rattle.dsec_spec.specs.Groups.{Group, set_in}
@@ -32,8 +32,8 @@ pub record IsShownSet (w : World) (j : Judged) (links : List Link) (last : Link)
   pub beside : Contains j.group.signatures signature
   pub says : signature.rdata ≡ last.rrsig
 
--- a signed cause holds at the moment of judging, from an anchor at the group's island, of a name at or above the zone that is to have signed
--- the group (RFC 4035 5.2)
+-- a signed cause holds at the moment of judging, from an anchor at the group's island, of a name strictly below the island, and at or above
+-- the zone that is to have signed the group (RFC 4035 5.2)
 pub record IsShownInsecure (w : World) (group : Group) (signed : SignedCause) : Type 0 where
   pub top : Place
   pub is_island : IsIsland w.anchors (place group.owner) group.rtype top
@@ -41,6 +41,7 @@ pub record IsShownInsecure (w : World) (group : Group) (signed : SignedCause) : 
   pub is_listed : IsListed w.anchors anchor
   pub at : place anchor.owner ≡ top
   pub name : Place
+  pub below_island : IsStrictlyBelow name top
   pub over : IsAtOrBelow (target_of group (Some top)) name
   pub shows : IsSignedCause w.accepts w.bounds anchor name signed (moment w)
 

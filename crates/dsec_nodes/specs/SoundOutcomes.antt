@@ -1,5 +1,6 @@
 -- What each outcome of a message means: what was read, which group decides, what is shown of it, and what is denied (RFC 4033 5, RFC 4035 5).
 use Rattle.std.specs.Prelude.{◌≡◌, ◌⊎◌, ℕ, ◌≤◌, IsSome, List, [], ◌∷◌, ◌++◌, length, map, Contains, slice_get, Option, Some, None}
+use Rattle.std.specs.List.{AllByRecursion}
 use Rattle.dsec_spec.specs.Names.{Labels, Place, place}
 use Rattle.dsec_spec.specs.Records.{Record}
 use Rattle.dsec_spec.specs.Messages.{Question, questions_of, answers_of, authorities_of, rcode_of}
@@ -14,33 +15,34 @@ use Rattle.dsec_nodes.specs.Nodes.{SignedCause}
 use Rattle.dsec_nodes.specs.Judging.{is_insecure, Judged}
 use Rattle.dsec_nodes.specs.Outcomes.{State, secure, insecure, bogus, indeterminate, Used, by_groups, by_cause, Outcome}
 use Rattle.dsec_nodes.specs.Aliases.{reached}
-use Rattle.dsec_nodes.specs.SoundAliases.{AreAliases, AreSecureAliases}
+use Rattle.dsec_nodes.specs.SoundAliases.{AreAliases, IsFromAbove, AreSecureAliases}
 use Rattle.dsec_nodes.specs.SoundFindings.{IsShownInsecure, IsShown, IsShownItself, IsShownFrom}
 use Rattle.dsec_nodes.specs.SoundDenials.{IsSoaFor}
 use Rattle.dsec_nodes.specs.SoundHashes.{IsLeftOpenBy}
 use Rattle.dsec_nodes.specs.SoundProofs.{Disproof, disproof_used, IsDeniedBy, IsOfCloser, IsByRcode}
 
 -- the message has this one question, and these are the groups of its answer section, CNAME records that follow from a DNAME record moved to
--- it, and of its authority section (RFC 1035 4.1, RFC 6672 3.1)
-pub record IsRead (message : List ℕ) (most : ℕ) (question : Question) (answers authorities : List Group) : Type 0 where
+-- it where no anchor stands between the two, and of its authority section (RFC 1035 4.1, RFC 4033 2, RFC 6672 3.1)
+pub record IsRead (anchors : List Record) (message : List ℕ) (most : ℕ) (question : Question) (answers authorities : List Group) : Type 0 where
   pub questions_end : ℕ
   pub asked : questions_of message ≡ Some (question ∷ [], questions_end)
   pub answer_records : List Record
   pub answers_end : ℕ
   pub answers_read : answers_of message ≡ Some (answer_records, answers_end)
-  pub answers_are : moved most (groups_of answer_records) ≡ Some answers
+  pub answers_are : moved anchors most (groups_of answer_records) ≡ Some answers
   pub authority_records : List Record
   pub authorities_end : ℕ
   pub authorities_read : authorities_of message ≡ Some (authority_records, authorities_end)
   pub authorities_are : groups_of authority_records ≡ authorities
 
 -- Judging ends at the name to which aliases lead from the question's: by so many at most, the sets of these judged groups, and no other leads on from
--- there. The question is the message's, at that name; beside the aliases stand these groups of the authority section (RFC 1034 3.6.2).
+-- there. The question is the message's, at that name; where it is for DS, no CNAME record on the way is of the zone below its name; beside the
+-- aliases stand these groups of the authority section (RFC 1034 3.6.2, RFC 4035 2.4).
 pub record EndsThere (w : World) (most : ℕ) (message : List ℕ) : Type 0 where
   pub asked : Question
   pub answers : List Group
   pub authorities : List Group
-  pub read : IsRead message most asked answers authorities
+  pub read : IsRead w.anchors message most asked answers authorities
   pub final : Labels
   pub question : Question
   pub question_is : question ≡ reached asked final
@@ -48,6 +50,7 @@ pub record EndsThere (w : World) (most : ℕ) (message : List ℕ) : Type 0 wher
   pub beside : List Used
   pub way : AreAliases w.anchors answers asked asked.name (map (λ j. j.group) aliases) final
   pub few : length aliases ≤ most
+  pub from_above : AllByRecursion (IsFromAbove asked) aliases
   pub no_alias : (other : Group) → Contains answers other → (target : Labels) → LeadsOnTo w.anchors question other target → ⊥
 
 -- and each of the aliases is Secure, with what is denied beside it
