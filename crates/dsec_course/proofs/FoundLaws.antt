@@ -26,7 +26,7 @@ use Rattle.dsec_nodes.specs.Judging.{is_shown, found_by, found_at, by_node, targ
 use Rattle.dsec_nodes.specs.SoundFindings.{BeginsAt, IsShownSet, IsShownInsecure}
 use Rattle.dsec_nodes.proofs.Signs.{from_under}
 use Rattle.dsec_nodes.proofs.KeptLaws.{held}
-use Rattle.dsec_nodes.proofs.AmongLaws.{chain_among, chain_begins}
+use Rattle.dsec_nodes.proofs.AmongLaws.{cause_below, chain_among, chain_begins}
 use Rattle.dsec_nodes.proofs.ShownLaws.{ZoneOver, target_between}
 use Rattle.dsec_course.specs.Justified.{Justifies, IsFound}
 
@@ -113,6 +113,9 @@ insecure_by_node w group top labels r cause signed f o e =
     let same : kept.0 ≡ rests.anchor = same_Some _ _ (sym kept.1 ∙ rests.its) in
     let holds : HoldsAt w.accepts n.bounds kept.0 n.name n.signer n.links (insecure cause signed) (moment w) =
     subst (λ (x : Standing). HoldsAt w.accepts n.bounds kept.0 n.name n.signer n.links x (moment w)) e (kept.2 w.now o.from o.to) in
+    let shown : IsSignedCause w.accepts w.bounds rests.anchor n.name signed (moment w) =
+    subst (λ (b : Bounds). IsSignedCause w.accepts b rests.anchor n.name signed (moment w)) o.node_bounds
+    (subst (λ (a : Record). IsSignedCause w.accepts n.bounds a n.name signed (moment w)) same holds) in
     record {
       top = top;
       is_island = island_is w.anchors (place group.owner) group.rtype top f;
@@ -120,9 +123,9 @@ insecure_by_node w group top labels r cause signed f o e =
       is_listed = rests.is_listed;
       at = rests.at;
       name = n.name;
+      below_island = subst (IsStrictlyBelow n.name) rests.at (cause_below w.accepts w.bounds rests.anchor n.name signed (moment w) shown);
       over = o.over;
-      shows = subst (λ (b : Bounds). IsSignedCause w.accepts b rests.anchor n.name signed (moment w)) o.node_bounds
-          (subst (λ (a : Record). IsSignedCause w.accepts n.bounds a n.name signed (moment w)) same holds);
+      shows = shown;
     }
 
 -- what is found of a group by a node on the way from its island to the zone that is to have signed it is so (RFC 4033 5, RFC 4035 5)

@@ -145,26 +145,26 @@ groups_named section h = by (firsts of_one_group section) (all_firsts (λ (x : R
     by (r ∷ rs) g = (group_named r (filter (of_one_group r) section) g.0 (all_filter (λ (x : Record). IsName x.owner) (of_one_group r) section h), by rs g.1)
 
 -- and stay so where bare aliases are moved
-staying_named : (groups : List Group) (n : ℕ) (gs : List Group) → AllByRecursion (λ (g : Group). IsName g.owner) gs
-    → AllByRecursion (λ (g : Group). IsName g.owner) (staying_from groups n gs)
+staying_named : (anchors : List Record) (groups : List Group) (n : ℕ) (gs : List Group) → AllByRecursion (λ (g : Group). IsName g.owner) gs
+    → AllByRecursion (λ (g : Group). IsName g.owner) (staying_from anchors groups n gs)
 unfolding staying_from
-staying_named groups n [] h = tt
-staying_named groups n (g ∷ gs) h =
-    all_both (λ (x : Group). IsName x.owner) (stays groups n g) (staying_from groups (suc n) gs) (by (is_some (followed groups g))) (staying_named groups (suc n) gs h.1)
+staying_named anchors groups n [] h = tt
+staying_named anchors groups n (g ∷ gs) h =
+    all_both (λ (x : Group). IsName x.owner) (stays anchors groups n g) (staying_from anchors groups (suc n) gs) (by (is_some (followed anchors groups g))) (staying_named anchors groups (suc n) gs h.1)
   where
-    by : (b : Bool) → AllByRecursion (λ (x : Group). IsName x.owner) (cond b [] (redirection.with_followers g (redirection.followers groups n) ∷ []))
+    by : (b : Bool) → AllByRecursion (λ (x : Group). IsName x.owner) (cond b [] (redirection.with_followers g (redirection.followers anchors groups n) ∷ []))
     by true = tt
     by false = (h.0, tt)
 
-moved_named : (most : ℕ) (groups answers : List Group) → moved most groups ≡ Some answers → AllByRecursion (λ (g : Group). IsName g.owner) groups
+moved_named : (anchors : List Record) (most : ℕ) (groups answers : List Group) → moved anchors most groups ≡ Some answers → AllByRecursion (λ (g : Group). IsName g.owner) groups
     → AllByRecursion (λ (g : Group). IsName g.owner) answers
-moved_named most groups answers e h =
-    let u = unrefused (has_too_many most groups) (Some (staying_from groups 0 groups)) answers e in
-    subst (AllByRecursion (λ (g : Group). IsName g.owner)) (same_Some (staying_from groups 0 groups) answers u.1) (staying_named groups 0 groups h)
+moved_named anchors most groups answers e h =
+    let u = unrefused (has_too_many most groups) (Some (staying_from anchors groups 0 groups)) answers e in
+    subst (AllByRecursion (λ (g : Group). IsName g.owner)) (same_Some (staying_from anchors groups 0 groups) answers u.1) (staying_named anchors groups 0 groups h)
 
 -- the owners of a message's groups are names
-pub begun_named : (most : ℕ) (message : List ℕ) (c : Course) → begun most message ≡ Ok c → AllByRecursion (λ (g : Group). IsName g.owner) c.left
-begun_named most message c e = by_sections (sections_of message) refl e
+pub begun_named : (anchors : List Record) (most : ℕ) (message : List ℕ) (c : Course) → begun anchors most message ≡ Ok c → AllByRecursion (λ (g : Group). IsName g.owner) c.left
+begun_named anchors most message c e = by_sections (sections_of message) refl e
   where
     Sections : Type 0
     Sections = List Question × List Record × List Record
@@ -172,7 +172,7 @@ begun_named most message c e = by_sections (sections_of message) refl e
     Named : Course → Type 0
     Named d = AllByRecursion (λ (g : Group). IsName g.owner) d.left
 
-    by_moved : (s : Sections) → sections_of message ≡ Some s → (m : Option (List Group)) → moved most (groups_of s.1) ≡ m
+    by_moved : (s : Sections) → sections_of message ≡ Some s → (m : Option (List Group)) → moved anchors most (groups_of s.1) ≡ m
         → Named (begun_with most message s.0 m (groups_of s.2))
     by_moved s f None g = tt
     by_moved s f (Some answers) g =
@@ -181,11 +181,11 @@ begun_named most message c e = by_sections (sections_of message) refl e
         let questions = from_bind (questions_of message) _ s answered.2 in
         let parts : (questions.0.0, answered.0.0, authorities.0.0) ≡ s = same_Some _ _ questions.2 in
         all_both (λ (x : Group). IsName x.owner) answers (groups_of s.2)
-        (moved_named most (groups_of s.1) answers g (subst (λ (x : Sections). AllByRecursion (λ (y : Group). IsName y.owner) (groups_of x.1)) parts (groups_named answered.0.0 (answers_named message answered.0 answered.1))))
+        (moved_named anchors most (groups_of s.1) answers g (subst (λ (x : Sections). AllByRecursion (λ (y : Group). IsName y.owner) (groups_of x.1)) parts (groups_named answered.0.0 (answers_named message answered.0 answered.1))))
         (subst (λ (x : Sections). AllByRecursion (λ (y : Group). IsName y.owner) (groups_of x.2)) parts (groups_named authorities.0.0 (authorities_named message authorities.0 authorities.1)))
 
-    by_sections : (x : Option Sections) → sections_of message ≡ x → begun_by most message x ≡ Ok c → Named c
+    by_sections : (x : Option Sections) → sections_of message ≡ x → begun_by anchors most message x ≡ Ok c → Named c
     by_sections None f g = absurd cc
     by_sections (Some s) f g =
-        let same : begun_with most message s.0 (moved most (groups_of s.1)) (groups_of s.2) ≡ c = cc in
-        subst Named same (by_moved s f (moved most (groups_of s.1)) refl)
+        let same : begun_with most message s.0 (moved anchors most (groups_of s.1)) (groups_of s.2) ≡ c = cc in
+        subst Named same (by_moved s f (moved anchors most (groups_of s.1)) refl)

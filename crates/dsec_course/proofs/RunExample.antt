@@ -57,7 +57,7 @@ w = record {
 abbrev pub c : Course
 c = beginning 11 message (record { name = example; rtype = 1; class = 1 } ∷ []) 1 (group ∷ []) to_begin
 
-pub it_begins : begun 11 message ≡ Ok c
+pub it_begins : begun w.anchors 11 message ≡ Ok c
 unfolding questions_of answers_of authorities_of many_of question_at record_at data_at parts_at name_at name_within firsts redirection.staying_from
 it_begins = refl
 

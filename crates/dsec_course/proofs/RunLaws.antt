@@ -82,14 +82,14 @@ run_goes_on w most message held r input kept h a from = run_on w most message he
 
 -- a message begins a run
 pub run_begins : (w : World) (most : ℕ) (message : List ℕ) (held : Node → Type 0) (c : Course) → ((n : Node) → held n → Kept w.accepts n)
-    → begun most message ≡ Ok c → HoldsRun w most message held (first_run w c)
+    → begun w.anchors most message ≡ Ok c → HoldsRun w most message held (first_run w c)
 run_begins w most message held c kept e =
-    let n = begun_waits most message c e in
+    let n = begun_waits w.anchors most message c e in
     run_on w most message held (record { course = c; step = get_node []; puts = [] }) begin kept (begun_sound w most message c e) (begun_in_step w most message c e) (record {
       given = subst (AllByRecursion (Trace w held [])) (sym n.no_walks) tt;
       kept = λ x there. absurd (not_in_none x there);
       of_table = λ replies h asked x there. absurd (not_in_none x there);
-    }) (subst (AllByRecursion (λ (g : Group). IsName g.owner)) (sym n.groups_are) (begun_named most message c e)) n.begins tt
+    }) (subst (AllByRecursion (λ (g : Group). IsName g.owner)) (sym n.groups_are) (begun_named w.anchors most message c e)) n.begins tt
 
 -- a run asks at most 255 questions for each group of its message (RFC 1035 2.3.4, RFC 4035 5.2)
 pub run_asks : (w : World) (most : ℕ) (message : List ℕ) (held : Node → Type 0) (r : Run) → HoldsRun w most message held r
@@ -177,7 +177,7 @@ after_more w (j ∷ inputs) r i = after_more w inputs (ran_on w r j) i
 -- From empty caches: whatever a message was given is what it has put, so by each table that agrees with its replies it ends with the outcome of
 -- the recursion (RFC 4033 5)
 pub ends_from_nothing : (w : World) (most : ℕ) (message : List ℕ) (c : Course) (inputs : List Input) (x : Result Outcome Refusal)
-    → begun most message ≡ Ok c → AreHeard w (λ (n : Node). ⊥) (first_run w c) inputs
+    → begun w.anchors most message ≡ Ok c → AreHeard w (λ (n : Node). ⊥) (first_run w c) inputs
     → (after_heard w (first_run w c) inputs).step ≡ end_with x
     → (replies : Replies) → AskedOf replies (asked_in (after_heard w (first_run w c) inputs).course) → x ≡ alone w most replies message
 ends_from_nothing w most message c inputs x e heard ends replies asked =

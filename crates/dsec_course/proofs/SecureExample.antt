@@ -78,7 +78,7 @@ address = record {
 abbrev pub c : Course
 c = beginning 11 message (record { name = parent; rtype = 1; class = 1 } ∷ []) 1 (address ∷ []) to_begin
 
-pub it_begins : begun 11 message ≡ Ok c
+pub it_begins : begun w.anchors 11 message ≡ Ok c
 unfolding questions_of answers_of authorities_of many_of question_at record_at data_at parts_at name_at name_within firsts redirection.staying_from
 it_begins = refl
 

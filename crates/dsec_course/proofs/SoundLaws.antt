@@ -53,10 +53,10 @@ pub more_groups : (js : List Judged) (j : Judged) (group : Group) → j.group �
 more_groups js j group e = map-append (λ (x : Judged). x.group) js (j ∷ []) ∙ ap (λ (g : Group). map (λ (x : Judged). x.group) js ++ g ∷ []) e
 
 -- one more group of the message is judged
-more_open : (most : ℕ) (message : List ℕ) (c : Course) (s : List Walking) (group : Group) (groups : List Group) (j : Judged) → j.group ≡ group
-    → IsOpen most message c (group ∷ groups)
-    → IsOpen most message (record { message = c.message; questions = c.questions; most = c.most; answers = c.answers; left = c.left; judged = c.judged ++ j ∷ []; walks = s; waits = c.waits }) groups
-more_open most message c s group groups j e o = record {
+more_open : (anchors : List Record) (most : ℕ) (message : List ℕ) (c : Course) (s : List Walking) (group : Group) (groups : List Group) (j : Judged) → j.group ≡ group
+    → IsOpen anchors most message c (group ∷ groups)
+    → IsOpen anchors most message (record { message = c.message; questions = c.questions; most = c.most; answers = c.answers; left = c.left; judged = c.judged ++ j ∷ []; walks = s; waits = c.waits }) groups
+more_open anchors most message c s group groups j e o = record {
   answers = o.answers;
   authorities = o.authorities;
   read = o.read;
@@ -94,7 +94,7 @@ once_so_far w most message c group groups j e once h = record {
         ∙ left_out (route_of w) (map (λ (x : Judged). x.group) c.judged) group (ap (route_by group) e));
     counted = h.paced.counted;
   };
-  opened = more_open most message c c.walks group groups j once.its h.opened;
+  opened = more_open w.anchors most message c c.walks group groups j once.its h.opened;
 }
 
 -- what is judged of one whose walk has ended is so, and asked no more than it may
@@ -118,7 +118,7 @@ walked_so_far w most message c group groups s n f counted found sure h = record 
   found = all_both (IsFound w) c.judged (by_node w group n ∷ []) h.found (found, tt);
   sure = all_both (λ (x : Judged). IsSure x.finding) c.judged (by_node w group n ∷ []) h.sure (sure, tt);
   paced = walked_paced w most message c group groups s n f counted h;
-  opened = more_open most message c (c.walks ++ s ∷ []) group groups (by_node w group n) refl h.opened;
+  opened = more_open w.anchors most message c (c.walks ++ s ∷ []) group groups (by_node w group n) refl h.opened;
 }
 
 -- what has been judged doesn't depend on what is waited for
@@ -168,7 +168,7 @@ last_is w most message c h = by c.questions refl
     beside : List Judged
     beside = drop c.answers c.judged
 
-    o : IsOpen most message c []
+    o : IsOpen w.anchors most message c []
     o = h.opened
 
     in_order : map (λ (x : Judged). x.group) c.judged ≡ o.answers ++ o.authorities
@@ -200,8 +200,8 @@ last_is w most message c h = by c.questions refl
       λ question rest f. two_are_one first other question more (same_questions (first ∷ other ∷ more, (asks (first ∷ other ∷ more) e).0) (question ∷ [], rest) (sym (asks (first ∷ other ∷ more) e).1 ∙ f)),
     )
     by (question ∷ []) e =
-        let read = subst (IsRead message most question o.answers) o.read.authorities_are
-        (read_is most message question o.answers o.read.sections o.read.read (sym o.read.asks ∙ e) o.read.answers_are) in
+        let read = subst (IsRead w.anchors message most question o.answers) o.read.authorities_are
+        (read_is w.anchors most message question o.answers o.read.sections o.read.read (sym o.read.asks ∙ e) o.read.answers_are) in
         subst (Means w most message)
         (ap (λ (m : List ℕ). at_end w m question js beside (alias_path w most question js beside)) (sym h.same_message)
         ∙ ap (λ (k : ℕ). at_end w c.message question js beside (alias_path w k question js beside)) (sym h.same_most))

@@ -32,14 +32,14 @@ begun_with most message questions None authorities = beginning most message ques
 begun_with most message questions (Some answers) authorities = beginning most message questions (length answers) (answers ++ authorities) to_begin
 
 -- the beginning by the sections, where they can be read
-abbrev pub begun_by : ℕ → List ℕ → Option (List Question × List Record × List Record) → Result Course Refusal
-begun_by most message None = Err unreadable
-begun_by most message (Some s) = Ok (begun_with most message s.0 (moved most (groups_of s.1)) (groups_of s.2))
+abbrev pub begun_by : List Record → ℕ → List ℕ → Option (List Question × List Record × List Record) → Result Course Refusal
+begun_by anchors most message None = Err unreadable
+begun_by anchors most message (Some s) = Ok (begun_with most message s.0 (moved anchors most (groups_of s.1)) (groups_of s.2))
 
--- what judging a message begins with, where so many bare CNAME records are followed, and so many aliases; nothing is asked where it can't be read
--- (RFC 1035 4.1)
-abbrev pub begun : ℕ → List ℕ → Result Course Refusal
-begun most message = begun_by most message (sections_of message)
+-- what judging a message from these anchors begins with, where so many bare CNAME records are followed, and so many aliases; nothing is asked
+-- where it can't be read (RFC 1035 4.1)
+abbrev pub begun : List Record → ℕ → List ℕ → Result Course Refusal
+begun anchors most message = begun_by anchors most message (sections_of message)
 
 -- the same course, waiting for this, with these groups after it
 abbrev pub waiting : Course → List Group → Waiting → Course

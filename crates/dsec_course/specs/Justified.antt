@@ -44,20 +44,20 @@ pub record IsPaced (w : World) (c : Course) : Type 0 where
   pub routes : map route c.walks ≡ filter_map (route_of w) (map (λ j. j.group) c.judged)
   pub counted : AllByRecursion (λ s. length s.asked ≤ most_on (route s)) c.walks
 
--- the questions of a message, and the groups of its answer section, CNAME records that follow from a DNAME record moved to it, and of its
--- authority section (RFC 1035 4.1, RFC 6672 3.1)
-pub record AreRead (most : ℕ) (message : List ℕ) (questions : List Question) (answers authorities : List Group) : Type 0 where
+-- the questions of a message, and the groups of its answer section, CNAME records that follow from a DNAME record moved to it, where none of
+-- the anchors stands between, and of its authority section (RFC 1035 4.1, RFC 6672 3.1)
+pub record AreRead (anchors : List Record) (most : ℕ) (message : List ℕ) (questions : List Question) (answers authorities : List Group) : Type 0 where
   pub sections : List Question × List Record × List Record
   pub read : sections_of message ≡ Some sections
   pub asks : questions ≡ sections.0
-  pub answers_are : moved most (groups_of sections.1) ≡ Some answers
+  pub answers_are : moved anchors most (groups_of sections.1) ≡ Some answers
   pub authorities_are : groups_of sections.2 ≡ authorities
 
 -- the judged groups and these after them are the groups of the message, in order, so many of them the answer section's
-pub record IsOpen (most : ℕ) (message : List ℕ) (c : Course) (groups : List Group) : Type 0 where
+pub record IsOpen (anchors : List Record) (most : ℕ) (message : List ℕ) (c : Course) (groups : List Group) : Type 0 where
   pub answers : List Group
   pub authorities : List Group
-  pub read : AreRead most message c.questions answers authorities
+  pub read : AreRead anchors most message c.questions answers authorities
   pub split : c.answers ≡ length answers
   pub in_order : map (λ j. j.group) c.judged ++ groups ≡ answers ++ authorities
 
@@ -68,7 +68,7 @@ pub record SoundSoFar (w : World) (most : ℕ) (message : List ℕ) (c : Course)
   pub found : AllByRecursion (IsFound w) c.judged
   pub sure : AllByRecursion (λ j. IsSure j.finding) c.judged
   pub paced : IsPaced w c
-  pub opened : IsOpen most message c groups
+  pub opened : IsOpen w.anchors most message c groups
 
 -- a course that is sound, by what it waits for
 abbrev pub SoundCourseAt : World → ℕ → List ℕ → Course → Waiting → Type 0

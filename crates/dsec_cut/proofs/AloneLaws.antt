@@ -174,7 +174,7 @@ step_leads w most message c input h l a = by c.waits input h l a
     by for_nothing i g m b = absurd b
 
 -- and so does its beginning
-pub begun_leads : (w : World) (most : ℕ) (message : List ℕ) (c : Course) → begun most message ≡ Ok c → LeadsAt w most message c c.waits
+pub begun_leads : (w : World) (most : ℕ) (message : List ℕ) (c : Course) → begun w.anchors most message ≡ Ok c → LeadsAt w most message c c.waits
 begun_leads w most message c e = by_sections (sections_of message) refl e
   where
     Sections : Type 0
@@ -184,10 +184,10 @@ begun_leads w most message c e = by_sections (sections_of message) refl e
     by_answers replies authorities answers = answers >>= λ gs. both_of (judged_all w replies gs) (judged_all w replies authorities)
 
     known : (s : Sections) (replies : Replies) → sections_of message ≡ Some s
-        → judged_alone w most replies message ≡ by_answers replies (groups_of s.2) (moved most (groups_of s.1))
-    known s replies f = ap (λ (o : Option Sections). o >>= λ x. by_answers replies (groups_of x.2) (moved most (groups_of x.1))) f
+        → judged_alone w most replies message ≡ by_answers replies (groups_of s.2) (moved w.anchors most (groups_of s.1))
+    known s replies f = ap (λ (o : Option Sections). o >>= λ x. by_answers replies (groups_of x.2) (moved w.anchors most (groups_of x.1))) f
 
-    by_moved : (s : Sections) → sections_of message ≡ Some s → (m : Option (List Group)) → moved most (groups_of s.1) ≡ m
+    by_moved : (s : Sections) → sections_of message ≡ Some s → (m : Option (List Group)) → moved w.anchors most (groups_of s.1) ≡ m
         → LeadsAt w most message (begun_with most message s.0 m (groups_of s.2)) (begun_with most message s.0 m (groups_of s.2)).waits
     by_moved s f None g = (λ replies. known s replies f ∙ ap (by_answers replies (groups_of s.2)) g, refl)
     by_moved s f (Some answers) g = record {
@@ -203,8 +203,8 @@ begun_leads w most message c e = by_sections (sections_of message) refl e
         first_of (all js) = refl
         first_of (one_bogus cause links) = refl
 
-    by_sections : (x : Option Sections) → sections_of message ≡ x → begun_by most message x ≡ Ok c → LeadsAt w most message c c.waits
+    by_sections : (x : Option Sections) → sections_of message ≡ x → begun_by w.anchors most message x ≡ Ok c → LeadsAt w most message c c.waits
     by_sections None f g = absurd cc
     by_sections (Some s) f g =
-        let same : begun_with most message s.0 (moved most (groups_of s.1)) (groups_of s.2) ≡ c = cc in
-        subst (λ (d : Course). LeadsAt w most message d d.waits) same (by_moved s f (moved most (groups_of s.1)) refl)
+        let same : begun_with most message s.0 (moved w.anchors most (groups_of s.1)) (groups_of s.2) ≡ c = cc in
+        subst (λ (d : Course). LeadsAt w most message d d.waits) same (by_moved s f (moved w.anchors most (groups_of s.1)) refl)

@@ -42,7 +42,7 @@ none_while_waiting t c waits = by c.waits refl
 
 -- Whatever a message has heard, the groups by which it is rewritten are all its groups, each of them sound, none bogus (RFC 4033 5)
 pub rewriting_judged : (w : World) (most : ℕ) (message : List ℕ) (held : Node → Type 0) (c : Course) (inputs : List Input) (both : Both)
-    → ((n : Node) → held n → Kept w.accepts n) → begun most message ≡ Ok c → AreHeard w held (first_run w c) inputs
+    → ((n : Node) → held n → Kept w.accepts n) → begun w.anchors most message ≡ Ok c → AreHeard w held (first_run w c) inputs
     → to_rewrite (moment w) (after_heard w (first_run w c) inputs).course ≡ Some both → AreJudged w most message both
 rewriting_judged w most message held c inputs both kept e heard is =
     let d = (after_heard w (first_run w c) inputs).course in
@@ -51,7 +51,7 @@ rewriting_judged w most message held c inputs both kept e heard is =
 
 -- and where all that it has heard is of a table, they are those of the recursion
 pub rewriting_alone : (w : World) (most : ℕ) (message : List ℕ) (held : Node → Type 0) (c : Course) (inputs : List Input)
-    → ((n : Node) → held n → Kept w.accepts n) → begun most message ≡ Ok c → AreHeard w held (first_run w c) inputs
+    → ((n : Node) → held n → Kept w.accepts n) → begun w.anchors most message ≡ Ok c → AreHeard w held (first_run w c) inputs
     → HoldsRun w most message held (after_heard w (first_run w c) inputs) → (after_heard w (first_run w c) inputs).course.waits ≡ for_nothing
     → (replies : Replies) → ((n : Node) → held n → IsOfTable w replies n)
     → AskedOf replies (asked_in (after_heard w (first_run w c) inputs).course)

@@ -20,9 +20,9 @@ pub record HoldsJudged (w : World) (most : ℕ) (message : List ℕ) (c : Course
   pub judged : EndsJudged w most message c
   pub leads : LeadsTo w most message c
 
-first_judged : (w : World) (most : ℕ) (message : List ℕ) (c : Course) → begun most message ≡ Ok c → HoldsJudged w most message (first_run w c).course
+first_judged : (w : World) (most : ℕ) (message : List ℕ) (c : Course) → begun w.anchors most message ≡ Ok c → HoldsJudged w most message (first_run w c).course
 first_judged w most message c e =
-    let waits = (begun_waits most message c e).begins in
+    let waits = (begun_waits w.anchors most message c e).begins in
     record {
       judged = step_ends_judged w most message c begin (begun_sound w most message c e) waits tt;
       leads = step_leads w most message c begin (begun_in_step w most message c e) (begun_leads w most message c e) waits;
@@ -40,14 +40,14 @@ heard_judged w most message held (i ∷ inputs) r kept h j a =
 
 -- Whatever a message has heard, at its end its judged groups are all those of the message, each of them sound
 pub run_judged : (w : World) (most : ℕ) (message : List ℕ) (held : Node → Type 0) (c : Course) (inputs : List Input)
-    → ((n : Node) → held n → Kept w.accepts n) → begun most message ≡ Ok c → AreHeard w held (first_run w c) inputs
+    → ((n : Node) → held n → Kept w.accepts n) → begun w.anchors most message ≡ Ok c → AreHeard w held (first_run w c) inputs
     → EndsJudged w most message (after_heard w (first_run w c) inputs).course
 run_judged w most message held c inputs kept e heard =
     (heard_judged w most message held inputs (first_run w c) kept (run_begins w most message held c kept e) (first_judged w most message c e) heard).judged
 
 -- and where all that it has heard is of a table, they are those of the recursion
 pub run_judged_alone : (w : World) (most : ℕ) (message : List ℕ) (held : Node → Type 0) (c : Course) (inputs : List Input)
-    → ((n : Node) → held n → Kept w.accepts n) → begun most message ≡ Ok c → AreHeard w held (first_run w c) inputs
+    → ((n : Node) → held n → Kept w.accepts n) → begun w.anchors most message ≡ Ok c → AreHeard w held (first_run w c) inputs
     → HoldsRun w most message held (after_heard w (first_run w c) inputs) → (after_heard w (first_run w c) inputs).course.waits ≡ for_nothing
     → (test : Both → Bool) → SaysNoOfNone test → (replies : Replies) → ((n : Node) → held n → IsOfTable w replies n)
     → AskedOf replies (asked_in (after_heard w (first_run w c) inputs).course)

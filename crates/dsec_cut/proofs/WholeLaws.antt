@@ -4,6 +4,7 @@ use Rattle.std.specs.Prelude.{◌≢◌, ◌||◌}
 use Rattle.std.specs.List.{AllByRecursion, list_any}
 use Rattle.std.proofs.Math.Seq.{take-append_seam, drop-append_seam}
 use Rattle.std.proofs.lemmas.List.{take-map, drop-map, take-append-drop}
+use Rattle.dsec_spec.specs.Records.{Record}
 use Rattle.dsec_spec.specs.Groups.{Group}
 use Rattle.dsec_nodes.specs.World.{World}
 use Rattle.dsec_nodes.specs.Machine.{Walking, Step, Input, begin, node, stored, reply, advanced, node_get, node_put, ask, done}
@@ -57,15 +58,15 @@ all_sure (j ∷ js) e = by (is_found_bogus j.finding) refl (all_sure js) e
     by false f later g = (sure_one j.finding f, later g)
 
 -- what the groups of a message are doesn't depend on what is waited for, nor on walks
-open_same : (most : ℕ) (message : List ℕ) (c : Course) (groups left : List Group) (walks : List Walking) (waits : Waiting) → IsOpen most message c groups
-    → IsOpen most message (record { message = c.message; questions = c.questions; most = c.most; answers = c.answers; left = left; judged = c.judged; walks = walks; waits = waits }) groups
-open_same most message c groups left walks waits o =
+open_same : (anchors : List Record) (most : ℕ) (message : List ℕ) (c : Course) (groups left : List Group) (walks : List Walking) (waits : Waiting) → IsOpen anchors most message c groups
+    → IsOpen anchors most message (record { message = c.message; questions = c.questions; most = c.most; answers = c.answers; left = left; judged = c.judged; walks = walks; waits = waits }) groups
+open_same anchors most message c groups left walks waits o =
     record { answers = o.answers; authorities = o.authorities; read = o.read; split = o.split; in_order = o.in_order }
 
 -- one more of them is judged
-open_more : (most : ℕ) (message : List ℕ) (c : Course) (group : Group) (groups : List Group) (j : Judged) → j.group ≡ group
-    → IsOpen most message c (group ∷ groups) → IsOpen most message (with_judged c j) groups
-open_more most message c group groups j e o = record {
+open_more : (anchors : List Record) (most : ℕ) (message : List ℕ) (c : Course) (group : Group) (groups : List Group) (j : Judged) → j.group ≡ group
+    → IsOpen anchors most message c (group ∷ groups) → IsOpen anchors most message (with_judged c j) groups
+open_more anchors most message c group groups j e o = record {
   answers = o.answers;
   authorities = o.authorities;
   read = o.read;
@@ -75,20 +76,20 @@ open_more most message c group groups j e o = record {
 }
 
 -- judging that goes on to the end has judged all groups of the message
-going_open : (w : World) (most : ℕ) (message : List ℕ) (groups : List Group) (c : Course) → IsOpen most message c groups
-    → IsWhole (going_on w groups c).0 → IsOpen most message (going_on w groups c).0 []
+going_open : (w : World) (most : ℕ) (message : List ℕ) (groups : List Group) (c : Course) → IsOpen w.anchors most message c groups
+    → IsWhole (going_on w groups c).0 → IsOpen w.anchors most message (going_on w groups c).0 []
 unfolding going_on
-going_open w most message [] c o x = open_same most message c [] [] c.walks for_nothing o
+going_open w most message [] c o x = open_same w.anchors most message c [] [] c.walks for_nothing o
 going_open w most message (g ∷ gs) c o x = by (going_open w most message gs) (way_of w g) (way_is w g) x
   where
-    by : ((d : Course) → IsOpen most message d gs → IsWhole (going_on w gs d).0 → IsOpen most message (going_on w gs d).0 []) → (y : Way) → WayIs w g y
-        → IsWhole (by_way g gs y (going_on w gs) c).0 → IsOpen most message (by_way g gs y (going_on w gs) c).0 []
-    by later (at_once j) once z = later (with_judged c j) (open_more most message c g gs j once.its o) z
+    by : ((d : Course) → IsOpen w.anchors most message d gs → IsWhole (going_on w gs d).0 → IsOpen w.anchors most message (going_on w gs d).0 []) → (y : Way) → WayIs w g y
+        → IsWhole (by_way g gs y (going_on w gs) c).0 → IsOpen w.anchors most message (by_way g gs y (going_on w gs) c).0 []
+    by later (at_once j) once z = later (with_judged c j) (open_more w.anchors most message c g gs j once.its o) z
     by later (by_walk top) needs z = let over = z.over in absurd cc
 
 -- so has one after a step of a walk for a group
-step_open : (w : World) (most : ℕ) (message : List ℕ) (c : Course) (group : Group) (s : Walking) (x : Step) → IsOpen most message c (group ∷ c.left)
-    → IsWhole (by_step w c group s x).0 → IsOpen most message (by_step w c group s x).0 []
+step_open : (w : World) (most : ℕ) (message : List ℕ) (c : Course) (group : Group) (s : Walking) (x : Step) → IsOpen w.anchors most message c (group ∷ c.left)
+    → IsWhole (by_step w c group s x).0 → IsOpen w.anchors most message (by_step w c group s x).0 []
 step_open w most message c group s (node_get name) o x = let over = x.over in absurd cc
 step_open w most message c group s (node_put name n) o x = let over = x.over in absurd cc
 step_open w most message c group s (ask name rtype) o x = let over = x.over in absurd cc
@@ -97,10 +98,10 @@ step_open w most message c group s (done n) o x = by (by_node w group n).finding
     d : Course
     d = with_judged (with_walk c s) (by_node w group n)
 
-    more : IsOpen most message d c.left
-    more = open_more most message (with_walk c s) group c.left (by_node w group n) refl (open_same most message c (group ∷ c.left) c.left (c.walks ++ s ∷ []) c.waits o)
+    more : IsOpen w.anchors most message d c.left
+    more = open_more w.anchors most message (with_walk c s) group c.left (by_node w group n) refl (open_same w.anchors most message c (group ∷ c.left) c.left (c.walks ++ s ∷ []) c.waits o)
 
-    by : (f : Finding) → (by_node w group n).finding ≡ f → IsWhole (by_found w d f).0 → IsOpen most message (by_found w d f).0 []
+    by : (f : Finding) → (by_node w group n).finding ≡ f → IsWhole (by_found w d f).0 → IsOpen w.anchors most message (by_found w d f).0 []
     by (is_bogus cause links) e y = absurd (last_bogus c.judged (by_node w group n) (ap is_found_bogus e) y.none_bogus)
     by (is_shown links last signature) e y = going_open w most message c.left d more y
     by has_no_set e y = going_open w most message c.left d more y
@@ -109,11 +110,11 @@ step_open w most message c group s (done n) o x = by (by_node w group n).finding
 
 -- Where a step comes to the end with every group, the judged groups are the message's
 whole_open : (w : World) (most : ℕ) (message : List ℕ) (c : Course) (input : Input) → SoundCourse w most message c → CourseAnswers c.waits input
-    → IsWhole (course_advanced w c input).0 → IsOpen most message (course_advanced w c input).0 []
+    → IsWhole (course_advanced w c input).0 → IsOpen w.anchors most message (course_advanced w c input).0 []
 whole_open w most message c input h a x = by c.waits input h a x
   where
     by : (y : Waiting) (i : Input) → SoundCourseAt w most message c y → CourseAnswers y i → IsWhole (by_waiting w c i y).0
-        → IsOpen most message (by_waiting w c i y).0 []
+        → IsOpen w.anchors most message (by_waiting w c i y).0 []
     by to_begin begin g b z = going_open w most message c.left c g.opened z
     by (to_end o) begin g b z = absurd (z.some g.1)
     by (for_walk group s) i g b z = step_open w most message c group (advanced w s i).0 (advanced w s i).1 g.0.opened z
@@ -126,7 +127,7 @@ whole_open w most message c input h a x = by c.waits input h a x
     by for_nothing i g b z = absurd b
 
 -- all judged groups of a message, in its two sections
-both_judged : (w : World) (most : ℕ) (message : List ℕ) (c : Course) → IsOpen most message c [] → AllByRecursion (IsFound w) c.judged
+both_judged : (w : World) (most : ℕ) (message : List ℕ) (c : Course) → IsOpen w.anchors most message c [] → AllByRecursion (IsFound w) c.judged
     → list_any (λ (j : Judged). is_found_bogus j.finding) c.judged ≡ false → AreJudged w most message (both_in c)
 both_judged w most message c o found none = record {
   questions = c.questions;

@@ -53,7 +53,7 @@ only_where test (Some both) = if test both then Some both else None
 -- authority section. What was found of each is so, and none is bogus (RFC 1035 4.1, RFC 4033 5, RFC 6672 3.1)
 pub record AreJudged (w : World) (most : ℕ) (message : List ℕ) (both : Both) : Type 0 where
   pub questions : List Question
-  pub read : AreRead most message questions (map (λ j. j.group) both.0) (map (λ j. j.group) both.1)
+  pub read : AreRead w.anchors most message questions (map (λ j. j.group) both.0) (map (λ j. j.group) both.1)
   pub found : AllByRecursion (IsFound w) (both.0 ++ both.1)
   pub sure : AllByRecursion (λ j. IsSure j.finding) (both.0 ++ both.1)
 
@@ -67,5 +67,5 @@ both_of _ _ = None
 abbrev pub judged_alone : World → ℕ → Replies → List ℕ → Option Both
 judged_alone w most replies message = do
   sections ← sections_of message
-  answers ← moved most (groups_of sections.1)
+  answers ← moved w.anchors most (groups_of sections.1)
   both_of (judged_all w replies answers) (judged_all w replies (groups_of sections.2))

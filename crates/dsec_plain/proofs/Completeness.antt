@@ -67,12 +67,12 @@ with_none g =
     }) (no_false g.had_duplicate)
 
 -- it stays as it is (RFC 6672 3.1)
-alone_stays : (most : ℕ) (g : Group) → bare_alias g ≡ None → moved most (g ∷ []) ≡ Some (g ∷ [])
+alone_stays : (anchors : List Record) (most : ℕ) (g : Group) → bare_alias g ≡ None → moved anchors most (g ∷ []) ≡ Some (g ∷ [])
 unfolding staying_from
-alone_stays most g e = by (bare_alias g) e
+alone_stays anchors most g e = by (bare_alias g) e
   where
     index : Option Record → Option ℕ
-    index o = o >>= λ cname. followed_from cname 0 (g ∷ [])
+    index o = o >>= λ cname. followed_from anchors cname 0 (g ∷ [])
 
     by : (o : Option Record) → o ≡ None
         → cond {A = Option (List Group)} (nat_lt most (0 + cond (is_some o) 1 0)) None (Some (cond (is_some (index o)) [] (with_followers g (cond (is_index 0 (index o)) (g ∷ []) []) ∷ []) ++ [])) ≡ Some (g ∷ [])
@@ -155,8 +155,8 @@ module _ (w : World) (replies : Replies) (message : List ℕ) (a : IsPlainAnswer
       by ss e true (r ∷ []) = ap (bare_record (r ∷ [])) e
 
   -- so the answer section's groups stay as they are
-  stays_same : (most : ℕ) → moved most (a.group ∷ []) ≡ Some (a.group ∷ [])
-  stays_same most = alone_stays most a.group no_alias_record
+  stays_same : (most : ℕ) → moved w.anchors most (a.group ∷ []) ≡ Some (a.group ∷ [])
+  stays_same most = alone_stays w.anchors most a.group no_alias_record
 
   -- ---- and of the message
 
@@ -235,7 +235,7 @@ module _ (w : World) (replies : Replies) (message : List ℕ) (a : IsPlainAnswer
     outcome = plain_outcome;
     comes_to =
         ap (on_sections w most replies message) a.read
-        ∙ (ap (λ (gs : List Group). on_groups w most replies message (a.question ∷ []) (moved most gs) (groups_of [])) a.one_group
+        ∙ (ap (λ (gs : List Group). on_groups w most replies message (a.question ∷ []) (moved w.anchors most gs) (groups_of [])) a.one_group
         ∙ (ap (λ (m : Option (List Group)). on_groups w most replies message (a.question ∷ []) m (groups_of [])) (stays_same most)
         ∙ (ap (λ (gs : List Group). on_judged w most message (a.question ∷ []) (judged_all w replies (a.group ∷ [])) (judged_all w replies gs)) no_groups
         ∙ judged_so most some)));

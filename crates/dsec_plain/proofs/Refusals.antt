@@ -18,7 +18,7 @@ Sections = List Question × List Record × List Record
 readable_has : (w : World) (most : ℕ) (replies : Replies) (message : List ℕ) (s : Sections) (Has : Result Outcome Refusal → Type 0)
     → ((o : Outcome) → o.state ≡ bogus → Has (Ok o)) → (length s.0 ≡ 1 → (o : Outcome) → Has (Ok o))
     → ((length s.0 ≡ 1 → ⊥) → Has (Err not_one_question)) → Has (on_sections w most replies message (Some s))
-readable_has w most replies message s Has bad ended refused = by_moved (moved most (groups_of s.1))
+readable_has w most replies message s Has bad ended refused = by_moved (moved w.anchors most (groups_of s.1))
   where
     by_questions : (qs : List Question) → s.0 ≡ qs → (js beside : List Judged) → Has (on_questions w most message qs js beside)
     by_questions [] e js beside = refused (λ one. let z : 0 ≡ 1 = sym (ap length e) ∙ one in omega (arith, z))
