@@ -18,15 +18,16 @@ pub fn island_owner<'a>(anchors: &'a [Record], name: &Name, rtype: Rtype) -> Opt
     while index > 0 {
         index -= 1;
         let owner = anchors[index].owner();
-        if is_over(owner, name, rtype) {
+        if is_over_sets(owner, name, rtype) {
             best = Some(longer(owner, best));
         }
     }
     best
 }
 
-/// Whether an owner is at or above where sets of the type are looked for: for DS above the name, but at the root.
-fn is_over(owner: &Name, name: &Name, rtype: Rtype) -> bool
+/// Whether an owner is at or above where sets of the type are looked for: for DS strictly above the name, unless this is the root
+/// (RFC 4035 2.4).
+pub fn is_over_sets(owner: &Name, name: &Name, rtype: Rtype) -> bool
     ensures { result ≡ is_below (looked_for_at (place name.now) rtype) (place owner.now) }
 {
     if rtype == Rtype::DS && !name.is_root() {

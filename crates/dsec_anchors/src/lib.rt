@@ -8,5 +8,5 @@ mod text;
 
 pub use anchors::{AnchorRecords, TrustAnchor, TrustAnchors};
 pub use error::AnchorError;
-pub use island::island_owner;
+pub use island::{is_over_sets, island_owner};
 pub use text::read_anchors;

@@ -8,11 +8,11 @@ use Rattle.dsec_anchors.proofs.island.island_owner.Goals as goal
 pub loop-index-init : goal.loop-index-init
 loop-index-init c = (none_yet c.args.anchors.now (looked_for_at (place c.args.name.now) c.args.rtype) (length c.args.anchors.now) (omega arith), omega arith)
 
-pub loop-index-preserved-then-is_over : goal.loop-index-preserved-then-is_over
-loop-index-preserved-then-is_over c =
+pub loop-index-preserved-then-is_over_sets : goal.loop-index-preserved-then-is_over_sets
+loop-index-preserved-then-is_over_sets c =
     let some = c.loop-index-test.true in
     let within = c.loop-index.invariant.1 in
-    let yes_below = ap (λ (n : Labels). is_below (looked_for_at (place c.args.name.now) c.args.rtype) (place n)) (sym c.owner-owner.ensures) ∙ (sym c.is_over.ensures ∙ c.if-is_over.true) in
+    let yes_below = ap (λ (n : Labels). is_below (looked_for_at (place c.args.name.now) c.args.rtype) (place n)) (sym c.owner-owner.ensures) ∙ (sym c.is_over_sets.ensures ∙ c.if-is_over_sets.true) in
     let named = ap (λ (n : Labels). longer (place n) (option_map (λ owner. place owner.now) c.loop-index.best)) c.owner-owner.ensures in (
       ap (λ (p : Place). Some p) (c.longer.ensures ∙ named)
           ∙ one_longer c.args.anchors.now (looked_for_at (place c.args.name.now) c.args.rtype) (c.loop-index.index - 1) c.loop-index.index c.index-anchors-index.result _ (omega (arith, some)) (omega (arith, some, within))
@@ -24,7 +24,7 @@ pub loop-index-preserved : goal.loop-index-preserved
 loop-index-preserved c =
     let some = c.loop-index-test.true in
     let within = c.loop-index.invariant.1 in
-    let not_below = ap (λ (n : Labels). is_below (looked_for_at (place c.args.name.now) c.args.rtype) (place n)) (sym c.owner-owner.ensures) ∙ (sym c.is_over.ensures ∙ c.if-is_over.false) in (
+    let not_below = ap (λ (n : Labels). is_below (looked_for_at (place c.args.name.now) c.args.rtype) (place n)) (sym c.owner-owner.ensures) ∙ (sym c.is_over_sets.ensures ∙ c.if-is_over_sets.false) in (
       one_skipped c.args.anchors.now (looked_for_at (place c.args.name.now) c.args.rtype) (c.loop-index.index - 1) c.loop-index.index c.index-anchors-index.result _ (omega (arith, some)) (omega (arith, some, within))
           c.index-anchors-index.is not_below c.loop-index.invariant.0,
       omega (arith, within),
