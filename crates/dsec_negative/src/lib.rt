@@ -17,6 +17,7 @@ mod used;
 
 pub use answer::Answer;
 pub use answers::{nsec_closer_answer, nsec_name_answer, nsec_type_answer};
+pub use dsec_found::JudgedGroup;
 pub use encloser::star_closest_encloser;
 pub use missing::nsec_for_not_exists;
 pub use nodata::nsec_for_nodata;
