@@ -11,6 +11,7 @@ use Rattle.dsec_nsec3.specs.Conclusions.{Conclusion, proved, hash_proved, left_o
 use Rattle.dsec_nsec3.specs.HashedAnswers.{Hashed, disproved, opened, broken, unshown}
 use Rattle.dsec_nsec3.specs.HashedDenials.{HashedDenial, hashed_used_in}
 use Rattle.dsec_nsec3.specs.Walks.{Walk, gone, barred, halted, exhausted, unfound}
+pub use Rattle.dsec_negative.specs.Told.{index_in, answer_index_in, HasState, HasStateAndCause}
 use Rattle.dsec_nsec3_calls.specs.Tellings.{opening_index}
 use Rattle.dsec_nsec3_calls.specs.Walked.{shown_by}
 use Rattle.dsec_nsec3_calls.specs.declared.state.Nsec3State.{Nsec3State}

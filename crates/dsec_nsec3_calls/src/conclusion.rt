@@ -19,10 +19,11 @@ use crate::source::Source;
 use dsec_cause::Cause;
 use dsec_chain::is_below;
 use dsec_crypto::Verifier;
-use dsec_found::JudgedGroup;
 use dsec_group::{Limits, Memo};
 use dsec_name::{Name, NoMemory};
-use dsec_negative::{Answer, Used, nsec_closer_answer, nsec_name_answer, nsec_type_answer};
+use dsec_negative::{
+    Answer, JudgedGroup, Used, nsec_closer_answer, nsec_name_answer, nsec_type_answer,
+};
 use dsec_number::{Class, Rtype};
 use std::alloc::Global;
 

@@ -24,6 +24,7 @@ mod wildcard;
 
 pub use conclusion::{Conclusion, closer_denied, denied_at};
 pub use covering::nsec3_for_not_exists_no_ce;
+pub use dsec_negative::{Used, get_answer_state, get_soa_state, map_maybe_secure};
 pub use missing::nsec3_for_not_exists;
 pub use nodata::{nsec3_for_nodata, nsec3_for_nodata_wildcard};
 pub use nxdomain::nsec3_for_nxdomain;

@@ -14,8 +14,8 @@ use crate::by_record::by_record;
 use crate::sighting::{End, Sighting, sighted};
 use crate::source::Source;
 use dsec_crypto::Verifier;
-use dsec_found::JudgedGroup;
 use dsec_group::Memo;
+use dsec_negative::JudgedGroup;
 
 /// What groups show of a name, by the group at an index.
 #[derive(Clone, Copy)]

@@ -23,10 +23,9 @@ use crate::step::Walk;
 use crate::walk::walk;
 use dsec_cause::Cause;
 use dsec_crypto::Verifier;
-use dsec_found::JudgedGroup;
 use dsec_group::{Limits, Memo};
 use dsec_name::{Name, NoMemory};
-use dsec_negative::{Used, star_at};
+use dsec_negative::{JudgedGroup, Used, star_at};
 use dsec_number::Class;
 use std::alloc::Global;
 

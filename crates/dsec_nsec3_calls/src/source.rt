@@ -1,9 +1,9 @@
 //! Where denials by hashes are looked for.
 
 use dsec_crypto::Verifier;
-use dsec_found::JudgedGroup;
 use dsec_group::Limits;
 use dsec_name::Name;
+use dsec_negative::JudgedGroup;
 use dsec_number::Class;
 
 /// The judged groups of a reply; of which class, and signed by which zone, those are that may deny; and how far hashes are followed.

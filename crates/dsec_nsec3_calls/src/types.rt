@@ -19,9 +19,9 @@ use crate::told::{Told, told_by_end};
 use crate::walk::walk;
 use dsec_cause::Cause;
 use dsec_crypto::Verifier;
-use dsec_found::JudgedGroup;
 use dsec_group::Memo;
 use dsec_name::Name;
+use dsec_negative::JudgedGroup;
 use dsec_number::Rtype;
 
 /// What is told of a type at the target. Of DS it is told by the target's closest encloser first: a missing name is denied none, and with

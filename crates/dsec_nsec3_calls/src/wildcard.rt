@@ -10,10 +10,9 @@ ghost use Rattle.dsec_spec.specs.Names.{place};
 use crate::conclusion::{Conclusion, closer_denied};
 use dsec_cause::Cause;
 use dsec_crypto::Verifier;
-use dsec_found::JudgedGroup;
 use dsec_group::{Limits, Memo, ValidationState};
 use dsec_name::{Name, NoMemory};
-use dsec_negative::Used;
+use dsec_negative::{JudgedGroup, Used};
 use dsec_number::Class;
 use std::alloc::Global;
 
