@@ -1,8 +1,9 @@
 -- What an alias comes to, by its type and whether it is an expansion of a wildcard.
-use Rattle.std.proofs.Common.{◌≡◌, ℕ, Bool, cond, List, Option, Some, None, refl, sym, ap, ◌∙◌}
+use Rattle.std.proofs.Common.{◌≡◌, ℕ, Bool, true, false, cond, List, Option, Some, None, refl, sym, ap, ◌∙◌}
 use Rattle.std.specs.Option.{is_some}
 use Rattle.std.proofs.lemmas.Bool.{eq-eqb, ne_eqb}
 use Rattle.dsec_cause.specs.declared.cause.Cause.{Cause}
+use Rattle.dsec_cause.specs.declared.cause.Cause.TheVariants.{CnameFromApexForDs}
 use Rattle.dsec_spec.specs.Names.{Labels, Place, place}
 use Rattle.dsec_spec.specs.Numbers.{DNAME}
 use Rattle.dsec_nsec3.specs.Counting.{HashLimits}
@@ -11,13 +12,13 @@ use Rattle.dsec_nsec3.specs.Conclusions.{Conclusion, proved, hash_proved, left_o
 use Rattle.dsec_nsec3_calls.specs.declared.conclusion.Conclusion.{Conclusion as CodeConclusion}
 use Rattle.dsec_nsec3_calls.specs.declared.conclusion.Conclusion.TheVariants.{Unproved}
 use Rattle.dsec_nsec3_calls.specs.Answers.{conclusion_of}
-use Rattle.dsec_negative.specs.Views.{source_of}
+use Rattle.dsec_nsec3_calls.specs.Views.{source_of}
 use Rattle.dsec_nodes.specs.Judging.{Judged}
 use Rattle.dsec_nodes.specs.ByDenial.{source_of as among}
 use Rattle.dsec_nodes.specs.Aliases.{Beside, as_denied, denying_in}
 use Rattle.dsec_alias.specs.States.{State}
 use Rattle.dsec_alias.specs.Candidates.{Candidate, Denied, unproved, Reply}
-use Rattle.dsec_alias.specs.Following.{by_denying, cname_turn, dname_turn, turn_to}
+use Rattle.dsec_alias.specs.Following.{fails_at, is_of_child, by_denying, cname_turn, cname_from, dname_turn, turn_to}
 use Rattle.dsec_follow.specs.Turns.{told_failed, turn_told, dname_by}
 
 dname_is : (name : Labels) (c : Candidate) (target : Labels) (o : Option Labels) → dname_turn {D = Beside} name c target o ≡ dname_by name c target (is_some o)
@@ -46,10 +47,22 @@ module _ (reply : Reply Beside) (name : Labels) (c : Candidate) (target : Labels
   -- of a DNAME record
   pub turn_of_dname : c.group.rtype ≡ DNAME → turn_to reply name c target ≡ dname_by name c target (is_some c.encloser)
   turn_of_dname e =
-      ap (λ (b : Bool). cond b (dname_turn name c target c.encloser) (cname_turn reply name c target c.encloser)) (eq-eqb c.group.rtype DNAME e)
+      ap (λ (b : Bool). cond b (dname_turn name c target c.encloser) (cname_from reply name c target)) (eq-eqb c.group.rtype DNAME e)
       ∙ dname_is name c target c.encloser
 
   -- of another
-  pub turn_of_cname : (c.group.rtype ≡ DNAME → ⊥) → turn_to reply name c target ≡ cname_turn reply name c target c.encloser
+  turn_of_cname : (c.group.rtype ≡ DNAME → ⊥) → turn_to reply name c target ≡ cname_from reply name c target
   turn_of_cname other =
-      ap (λ (b : Bool). cond b (dname_turn name c target c.encloser) (cname_turn reply name c target c.encloser)) (ne_eqb c.group.rtype DNAME other)
+      ap (λ (b : Bool). cond b (dname_turn name c target c.encloser) (cname_from reply name c target)) (ne_eqb c.group.rtype DNAME other)
+
+  by_zone : (b : Bool) → is_of_child reply name c ≡ b
+      → cname_from reply name c target ≡ cond b (fails_at name CnameFromApexForDs) (cname_turn reply name c target c.encloser)
+  by_zone b e = ap (λ (x : Bool). cond x (fails_at name CnameFromApexForDs) (cname_turn reply name c target c.encloser)) e
+
+  -- of a CNAME record of the zone below, for a question for DS
+  pub turn_of_child : (c.group.rtype ≡ DNAME → ⊥) → is_of_child reply name c ≡ true → turn_to reply name c target ≡ fails_at name CnameFromApexForDs
+  turn_of_child other e = turn_of_cname other ∙ by_zone true e
+
+  -- of another CNAME record
+  pub turn_of_own : (c.group.rtype ≡ DNAME → ⊥) → is_of_child reply name c ≡ false → turn_to reply name c target ≡ cname_turn reply name c target c.encloser
+  turn_of_own other e = turn_of_cname other ∙ by_zone false e

@@ -7,7 +7,7 @@ ghost use Rattle.dsec_found.specs.Outcomes.{state_view};
 use dsec_cause::Cause;
 use dsec_group::ValidationState;
 use dsec_name::Name;
-use dsec_negative::Used;
+use dsec_nsec3_calls::Used;
 use std::alloc::Global;
 use std::marker::Model;
 

@@ -18,7 +18,7 @@ use dsec_crypto::Verifier;
 use dsec_found::JudgedGroup;
 use dsec_group::{Limits, Memo, ValidationState};
 use dsec_name::{Name, NoMemory};
-use dsec_negative::{Used, map_maybe_secure};
+use dsec_nsec3_calls::{Used, map_maybe_secure};
 use dsec_number::{Class, Rtype};
 use dsec_wire::Record;
 use std::alloc::Global;

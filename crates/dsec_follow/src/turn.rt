@@ -1,7 +1,8 @@
-//! Where an alias leads (RFC 1034 3.6.2, RFC 4035 5.3.4, RFC 6672 2.2).
+//! Where an alias leads (RFC 1034 3.6.2, RFC 4035 2.4, 5.3.4, RFC 6672 2.2).
 
 ghost use Rattle.std.specs.Prelude.{◌≡◌, IfOk};
-ghost use Rattle.dsec_alias.specs.Following.{by_denying as denying_of, turn_to as turn_of};
+ghost use Rattle.dsec_alias.specs.Following.{by_denying as denying_of, is_known as known, is_of_child as of_child, turn_to as turn_of};
+ghost use Rattle.dsec_found.specs.Outcomes.{state_view};
 ghost use Rattle.dsec_nodes.specs.Aliases.{candidate_of, denying_in};
 ghost use Rattle.dsec_follow.specs.Replies.{reply_view};
 ghost use Rattle.dsec_nsec3_calls.specs.Views.{hash_limits};
@@ -14,8 +15,7 @@ use dsec_crypto::Verifier;
 use dsec_found::JudgedGroup;
 use dsec_group::{Memo, ValidationState, map_dname};
 use dsec_name::{Name, NoMemory, PushNameError};
-use dsec_negative::{Used, map_maybe_secure};
-use dsec_nsec3_calls::{Conclusion, closer_denied};
+use dsec_nsec3_calls::{Conclusion, Used, closer_denied, map_maybe_secure};
 use dsec_number::Rtype;
 use std::alloc::Global;
 
@@ -43,9 +43,29 @@ pub(crate) fn turn_to<V: Verifier>(
     if alias.group().rtype() == Rtype::DNAME {
         return dname_turn(alloc, name, alias, &target, encloser.is_some());
     }
+    if is_of_child(reply, name, alias) {
+        return Ok(Turn::FailsAt(copy_of(name)?, Cause::CnameFromApexForDs));
+    }
     match encloser {
         Some(encloser) => by_denying::<V>(alloc, reply, name, alias, target, &encloser, memo),
         None => Ok(Turn::GoesTo(target, alias.state(), Used::none())),
+    }
+}
+
+/// Whether DS is asked for, and an alias at the name is of the zone that begins there: the DS set stands in the zone above (RFC 4035 2.4).
+fn is_of_child<V: Verifier>(reply: &Reply<'_, V>, name: &Name, alias: &JudgedGroup<V>) -> bool
+    ensures { result ≡ of_child (reply_view reply.now) name.now (candidate_of alias.now) }
+{
+    reply.rtype == Rtype::DS && alias.is_signed_by(name) && is_known(alias.state())
+}
+
+/// Whether it is known which zone a group of this state is of.
+fn is_known(state: ValidationState) -> bool
+    ensures { result ≡ known (state_view state) }
+{
+    match state {
+        ValidationState::Secure | ValidationState::Insecure => true,
+        ValidationState::Bogus | ValidationState::Indeterminate => false,
     }
 }
 
