@@ -9,13 +9,13 @@ use Rattle.dsec_group.specs.declared.state.ValidationState.{ValidationState}
 use Rattle.dsec_spec.specs.Names.{Labels, Place, place}
 use Rattle.dsec_spec.specs.Records.{Record}
 use Rattle.dsec_spec.specs.Messages.{Question, rcode_of}
-use Rattle.dsec_spec.specs.Islands.{island}
+use Rattle.dsec_spec.specs.Islands.{looked_for_at, island}
 use Rattle.dsec_spec.specs.Numbers.{ANY}
 use Rattle.dsec_absence.specs.Replies.{soa_at, soa_cause, no_soa_cause, answer_at}
 use Rattle.dsec_nsec3.specs.Counting.{HashLimits}
 use Rattle.dsec_nsec3.specs.Conclusions.{denied_at, closer_denied}
-use Rattle.dsec_negative.specs.Views.{source_of}
-use Rattle.dsec_negative.specs.Told.{index_in, answer_index_in}
+use Rattle.dsec_nsec3_calls.specs.Views.{source_of}
+use Rattle.dsec_nsec3_calls.specs.Told.{index_in, answer_index_in}
 use Rattle.dsec_nodes.specs.World.{World, limits_of}
 use Rattle.dsec_nodes.specs.Judging.{Judged}
 use Rattle.dsec_nodes.specs.Outcomes.{Outcome, by_nothing, bogus_by}
@@ -32,10 +32,10 @@ there_is js i x j e is = e ∙ ap (λ (y : Judged). Some y) (sym (is ∙ get_or_
 module _ (anchors : List Record) (question : Question) (groups : List Judged) (asked : Labels) (rtype class : ℕ) (same_name : asked ≡ question.name)
     (same_class : class ≡ question.class) (same_type : rtype ≡ question.rtype) where
   abbrev soa_for : Labels → ℕ → ℕ → Option ℕ
-  soa_for n q c = soa_at (island anchors (place n) q) (place n) c (λ (j : Judged). j.group) groups
+  soa_for n q c = soa_at (island anchors (place n) q) (looked_for_at (place n) q) c (λ (j : Judged). j.group) groups
 
-  abbrev why_none : Labels → ℕ → Option Cause
-  why_none n c = no_soa_cause (place n) c (λ (j : Judged). j.group) groups
+  abbrev why_none : Labels → ℕ → ℕ → Option Cause
+  why_none n q c = no_soa_cause (looked_for_at (place n) q) c (λ (j : Judged). j.group) groups
 
   pub soa_asked : (found at : Option (ℕ × ValidationState)) → option_map index_in found ≡ soa_for asked rtype class → found ≡ at
       → option_map index_in at ≡ soa_for question.name question.rtype question.class
@@ -43,11 +43,11 @@ module _ (anchors : List Record) (question : Question) (groups : List Judged) (a
       sym (ap (option_map index_in) e)
       ∙ (is ∙ (ap (λ (n : Labels). soa_for n rtype class) same_name ∙ (ap (λ (q : ℕ). soa_for question.name q class) same_type ∙ ap (soa_for question.name question.rtype) same_class)))
 
-  pub why_asked : (found : Option (ℕ × ValidationState)) (cause : Option Cause) → cause ≡ soa_cause (place asked) class (λ (j : Judged). j.group) groups (option_map index_in found)
-      → found ≡ None → cause ≡ why_none question.name question.class
+  pub why_asked : (found : Option (ℕ × ValidationState)) (cause : Option Cause) → cause ≡ soa_cause (looked_for_at (place asked) rtype) class (λ (j : Judged). j.group) groups (option_map index_in found)
+      → found ≡ None → cause ≡ why_none question.name question.rtype question.class
   why_asked found cause is e =
-      is ∙ (ap (λ (o : Option (ℕ × ValidationState)). soa_cause (place asked) class (λ (j : Judged). j.group) groups (option_map index_in o)) e
-      ∙ (ap (λ (n : Labels). why_none n class) same_name ∙ ap (why_none question.name) same_class))
+      is ∙ (ap (λ (o : Option (ℕ × ValidationState)). soa_cause (looked_for_at (place asked) rtype) class (λ (j : Judged). j.group) groups (option_map index_in o)) e
+      ∙ (ap (λ (n : Labels). why_none n rtype class) same_name ∙ (ap (λ (q : ℕ). why_none question.name q class) same_type ∙ ap (why_none question.name question.rtype) same_class)))
 
   abbrev set_for : Labels → ℕ → ℕ → Option ℕ
   set_for n q c = answer_at (place n) c q (λ (j : Judged). j.group) groups
@@ -83,15 +83,15 @@ closer_asked w limits question authorities j signer asked encloser class within 
 
 -- the SOA set at the index where the first one that counts is
 pub soa_decides : (w : World) (message : List ℕ) (question : Question) (name : Place) (authorities : List Judged) (index : ℕ) (soa : Judged) (o : Outcome)
-    → Some index ≡ soa_at (island w.anchors name question.rtype) name question.class (λ (j : Judged). j.group) authorities → slice_get authorities index ≡ Some soa
+    → Some index ≡ soa_at (island w.anchors name question.rtype) (looked_for_at name question.rtype) question.class (λ (j : Judged). j.group) authorities → slice_get authorities index ≡ Some soa
     → o ≡ at_soa w message question name authorities (Some soa) → o ≡ by_denial w message question name authorities
 soa_decides w message question name authorities index soa o at there is =
     is ∙ (sym (ap (at_soa w message question name authorities) there) ∙ ap (by_soa w message question name authorities) at)
 
 -- where none counts
 pub no_soa : (w : World) (message : List ℕ) (question : Question) (name : Place) (authorities : List Judged) (cause : Option Cause) (o : Outcome)
-    → None ≡ soa_at (island w.anchors name question.rtype) name question.class (λ (j : Judged). j.group) authorities
-    → cause ≡ no_soa_cause name question.class (λ (j : Judged). j.group) authorities → o ≡ bogus_by (unwrap_or cause MissingSoa) by_nothing
+    → None ≡ soa_at (island w.anchors name question.rtype) (looked_for_at name question.rtype) question.class (λ (j : Judged). j.group) authorities
+    → cause ≡ no_soa_cause (looked_for_at name question.rtype) question.class (λ (j : Judged). j.group) authorities → o ≡ bogus_by (unwrap_or cause MissingSoa) by_nothing
     → o ≡ by_denial w message question name authorities
 no_soa w message question name authorities cause o at why is =
     is ∙ (ap (λ (c : Option Cause). bogus_by (unwrap_or c MissingSoa) by_nothing) why ∙ ap (by_soa w message question name authorities) at)

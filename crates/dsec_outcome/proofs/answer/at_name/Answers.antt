@@ -5,7 +5,7 @@ use Rattle.dsec_group.specs.declared.state.ValidationState.{ValidationState}
 use Rattle.dsec_spec.specs.Names.{place}
 use Rattle.dsec_node.specs.Views.{bounds_of, world_of}
 use Rattle.dsec_found.proofs.FoundSteps.{if_ok}
-use Rattle.dsec_negative.specs.Told.{HasStateAndCause}
+use Rattle.dsec_nsec3_calls.specs.Told.{HasStateAndCause}
 use Rattle.dsec_outcome.proofs.DenialSteps.{answer_asked, answer_decides, none_answers, not_due, there_is}
 use Rattle.dsec_outcome.proofs.answer.at_name.Goals as goal
 

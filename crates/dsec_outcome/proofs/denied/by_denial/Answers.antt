@@ -6,7 +6,7 @@ use Rattle.dsec_spec.specs.Names.{place}
 use Rattle.dsec_node.specs.Views.{bounds_of, world_of}
 use Rattle.dsec_nodes.specs.Outcomes.{bogus_by, by_nothing}
 use Rattle.dsec_found.proofs.FoundSteps.{if_ok}
-use Rattle.dsec_negative.specs.Told.{HasState}
+use Rattle.dsec_nsec3_calls.specs.Told.{HasState}
 use Rattle.dsec_outcome.proofs.DenialSteps.{no_soa, soa_asked, soa_decides, there_is, why_asked}
 use Rattle.dsec_outcome.proofs.denied.by_denial.Goals as goal
 
