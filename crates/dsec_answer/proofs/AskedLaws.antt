@@ -11,12 +11,12 @@ use Rattle.dsec_course.specs.Advancing.{begun}
 use Rattle.dsec_course.specs.Hearing.{first_run, after_heard, IsOfTable}
 use Rattle.dsec_course.proofs.BeginningLaws.{refused_alone}
 use Rattle.dsec_found.specs.declared.error.Error.{Error}
-use Rattle.dsec_serve.specs.Verdicts.{Verdict}
-use Rattle.dsec_serve.specs.Outside.{Outside, WasHeld, HoldsTable, replies_of}
-use Rattle.dsec_serve.specs.Judgements.{Judgement, HandsOn, IsJudging}
-use Rattle.dsec_serve.specs.Calls.{IsAnswer, most_questions}
-use Rattle.dsec_serve.proofs.CallLaws.{heard_few}
-use Rattle.dsec_serve.proofs.JudgementLaws.{groups_sound}
+use Rattle.dsec_context.specs.Verdicts.{Verdict}
+use Rattle.dsec_context.specs.Outside.{Outside, WasHeld, HoldsTable, replies_of}
+use Rattle.dsec_context.specs.Judgements.{Judgement, HandsOn, IsJudging}
+use Rattle.dsec_context.specs.Calls.{IsAnswer, most_questions}
+use Rattle.dsec_context.proofs.CallLaws.{heard_few}
+use Rattle.dsec_context.proofs.JudgementLaws.{groups_sound}
 use Rattle.dsec_context.specs.Calls.{IsHandling}
 use Rattle.dsec_context.proofs.ComingLaws.{comes, of_verdict}
 use Rattle.dsec_answer.specs.Asked.{WereAsked}
@@ -55,7 +55,7 @@ pub call_asked : (w : World) (most : ℕ) (message left : List ℕ) (table : Tab
     → IsHandling w most message (Some table) before after answer left → HoldsTable w (replies_of table) before.held
     → IfOk answer (λ v. WereAsked w most message (replies_of table) v.questions)
 call_asked w most message left table before after answer h holds =
-    of_verdict (λ (v : Verdict). WereAsked w most message (replies_of table) v.questions) most message h.judgement.answer answer
+    of_verdict (λ (v : Verdict). WereAsked w most message (replies_of table) v.questions) w.anchors most message h.judgement.answer answer
     (judged_asked w most message table before after h.judgement h.judging holds)
     (comes w most _ message h.judgement.answer answer left h.judgement.groups (groups_sound w most message (Some table) before after h.judgement h.judging) h.handed)
 
@@ -63,13 +63,13 @@ call_asked w most message left table before after answer h holds =
 pub record TakesSome (w : World) (most : ℕ) (replies : Replies) (message : List ℕ) : Type 0 where
   pub number : ℕ
   pub asked : WereAsked w most message replies number
-  pub few : number ≤ most_questions most message
+  pub few : number ≤ most_questions w.anchors most message
 
 pub alone_asked : (w : World) (most : ℕ) (replies : Replies) (message : List ℕ) (o : Outcome) → alone w most replies message ≡ Ok o
     → TakesSome w most replies message
-alone_asked w most replies message o e = by (begun most message) refl
+alone_asked w most replies message o e = by (begun w.anchors most message) refl
   where
-    by : (x : Result Course Refusal) → begun most message ≡ x → TakesSome w most replies message
+    by : (x : Result Course Refusal) → begun w.anchors most message ≡ x → TakesSome w most replies message
     by (Err r) f = absurd (two_ways (alone w most replies message) (refused_alone w most replies message r f) e)
       where
         two_ways : (x : Result Outcome Refusal) → x ≡ Err r → x ≡ Ok o → ⊥

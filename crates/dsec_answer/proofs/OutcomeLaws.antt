@@ -24,9 +24,9 @@ use Rattle.dsec_node.specs.Configs.{Settings, default_settings}
 use Rattle.dsec_rewrite.specs.declared.error.RewriteError.TheVariants as rewriting
 use Rattle.dsec_found.specs.declared.error.Error.{Error}
 use Rattle.dsec_found.specs.declared.error.Error.TheVariants as errors
-use Rattle.dsec_serve.specs.Verdicts.{Verdict}
-use Rattle.dsec_serve.specs.Outside.{Outside, replies_of, HoldsTable}
-use Rattle.dsec_serve.specs.Calls.{most_questions}
+use Rattle.dsec_context.specs.Verdicts.{Verdict}
+use Rattle.dsec_context.specs.Outside.{Outside, replies_of, HoldsTable}
+use Rattle.dsec_context.specs.Calls.{most_questions}
 use Rattle.dsec_context.specs.Calls.{IsByTable, SaysOf, outcome_in}
 use Rattle.dsec_context.specs.Leaving.{handed_alone}
 use Rattle.dsec_context.specs.Setting.{world_at}
@@ -67,32 +67,32 @@ with_header accepts anchors table seconds octets long =
     (le-ltb (length octets) 12 long)
 
 -- an outcome that comes to Secure is so; or the message can't be rewritten
-told_secure : (o : outcomes.Outcome) (message : List ℕ) (outcome : Outcome) → Some (without_questions outcome) ≡ Some (Ok o) → o.state ≡ outcomes.secure
-    → IsSecureOutcome message outcome
-told_secure o message (Ok v) e s = let same : v.outcome ≡ o = cc in ap (λ (x : outcomes.Outcome). x.state) same ∙ s
-told_secure o message (Err why) e s = absurd cc
+told_secure : (anchors : List Record) (o : outcomes.Outcome) (message : List ℕ) (outcome : Outcome) → Some (without_questions outcome) ≡ Some (Ok o) → o.state ≡ outcomes.secure
+    → IsSecureOutcome anchors message outcome
+told_secure anchors o message (Ok v) e s = let same : v.outcome ≡ o = cc in ap (λ (x : outcomes.Outcome). x.state) same ∙ s
+told_secure anchors o message (Err why) e s = absurd cc
 
-told_unread : (message : List ℕ) (outcome : Outcome) → Some (without_questions outcome) ≡ Some (Err ParseError) → additionals_of message ≡ None
-    → IsSecureOutcome message outcome
-told_unread message (Ok v) e c = absurd cc
-told_unread message (Err ParseError) e c = c
-told_unread message (Err PushError) e c = absurd cc
-told_unread message (Err FormError) e c = absurd cc
-told_unread message (Err ShortMessage) e c = absurd cc
+told_unread : (anchors : List Record) (message : List ℕ) (outcome : Outcome) → Some (without_questions outcome) ≡ Some (Err ParseError) → additionals_of message ≡ None
+    → IsSecureOutcome anchors message outcome
+told_unread anchors message (Ok v) e c = absurd cc
+told_unread anchors message (Err ParseError) e c = c
+told_unread anchors message (Err PushError) e c = absurd cc
+told_unread anchors message (Err FormError) e c = absurd cc
+told_unread anchors message (Err ShortMessage) e c = absurd cc
 
-told_long : (message : List ℕ) (outcome : Outcome) → Some (without_questions outcome) ≡ Some (Err PushError)
-    → CannotBeRewritten default_settings.max_cname_dname message rewriting.PushError → IsSecureOutcome message outcome
-told_long message (Ok v) e c = absurd cc
-told_long message (Err ParseError) e c = absurd cc
-told_long message (Err PushError) e c = c
-told_long message (Err FormError) e c = absurd cc
-told_long message (Err ShortMessage) e c = absurd cc
+told_long : (anchors : List Record) (message : List ℕ) (outcome : Outcome) → Some (without_questions outcome) ≡ Some (Err PushError)
+    → CannotBeRewritten anchors default_settings.max_cname_dname message rewriting.PushError → IsSecureOutcome anchors message outcome
+told_long anchors message (Ok v) e c = absurd cc
+told_long anchors message (Err ParseError) e c = absurd cc
+told_long anchors message (Err PushError) e c = c
+told_long anchors message (Err FormError) e c = absurd cc
+told_long anchors message (Err ShortMessage) e c = absurd cc
 
 -- what is so of an outcome makes it the message's; an ordinary reply is then Secure, if it can be rewritten
 pub is_outcome : (accepts : Accepts) (anchors : List Record) (table : Table) (item : Item) (outcome : Outcome)
     → outcome_of accepts anchors table item.seconds item.octets ≡ Some (without_questions outcome)
     → IfOk outcome (λ v. IsJustified (world_of_script accepts anchors item.seconds) default_settings.max_cname_dname item.octets v.outcome v.outcome.state)
-    → IfOk outcome (λ v. v.questions ≤ most_questions default_settings.max_cname_dname item.octets)
+    → IfOk outcome (λ v. v.questions ≤ most_questions anchors default_settings.max_cname_dname item.octets)
     → IfOk outcome (λ v. WereAsked (world_of_script accepts anchors item.seconds) default_settings.max_cname_dname item.octets (replies_of table) v.questions)
     → IsOutcome accepts anchors table item outcome
 is_outcome accepts anchors table item outcome e j f a = record { exact = e; sound = j; complete = secure_by; few = f; asked = a }
@@ -103,7 +103,7 @@ is_outcome accepts anchors table item outcome e j f a = record { exact = e; soun
     most : ℕ
     most = default_settings.max_cname_dname
 
-    secure_by : IsPlainAnswer w (replies_of table) item.octets → IsSecureOutcome item.octets outcome
+    secure_by : IsPlainAnswer w (replies_of table) item.octets → IsSecureOutcome anchors item.octets outcome
     secure_by a = by (comes_alone w most (replies_of table) item.octets)
       where
         so : IsSecureBy w most (replies_of table) item.octets a.group
@@ -118,12 +118,12 @@ is_outcome accepts anchors table item outcome e j f a = record { exact = e; soun
         not_refused : (x : Refusal) (r : Result outcomes.Outcome Refusal) → r ≡ Err x → r ≡ Ok so.outcome → ⊥
         not_refused x r y z = cc
 
-        by : ComesAlone w most (replies_of table) item.octets → IsSecureOutcome item.octets outcome
-        by (an_outcome o c h) = told_secure o item.octets outcome (told ∙ ap told_by h)
+        by : ComesAlone w most (replies_of table) item.octets → IsSecureOutcome anchors item.octets outcome
+        by (an_outcome o c h) = told_secure anchors o item.octets outcome (told ∙ ap told_by h)
             (ap (λ (x : outcomes.Outcome). x.state) (same o (alone w most (replies_of table) item.octets) c so.comes_to) ∙ so.is_secure)
         by (a_refusal x c h) = absurd (not_refused x (alone w most (replies_of table) item.octets) c so.comes_to)
-        by (cannot_read c h) = told_unread item.octets outcome (told ∙ ap told_by h) c
-        by (too_long c h) = told_long item.octets outcome (told ∙ ap told_by h) c
+        by (cannot_read c h) = told_unread anchors item.octets outcome (told ∙ ap told_by h) c
+        by (too_long c h) = told_long anchors item.octets outcome (told ∙ ap told_by h) c
 
 -- what is told of an answer is the outcome
 abbrev pub HasOutcome : Accepts → List Record → Table → Item → Result Verdict Error → Type 0
@@ -168,23 +168,23 @@ told_verdict Holds (Err errors.ReadError) outcome e h = absurd cc
 told_verdict Holds (Err errors.ShortMessage) outcome e h = absurd cc
 
 -- an answer that says of the message what it is can be told
-pub says_told : (most : ℕ) (message : List ℕ) (answer : Result Verdict Error) → SaysOf most message answer → CanBeTold answer
-says_told most message (Ok v) s = tt
-says_told most message (Err errors.FormError) s = tt
-says_told most message (Err errors.ParseError) s = tt
-says_told most message (Err errors.PushError) s = tt
-says_told most message (Err errors.NoMemory) s = tt
-says_told most message (Err (errors.InplaceError x)) s = absurd s
-says_told most message (Err errors.OctetsConversion) s = absurd s
-says_told most message (Err errors.PushNameError) s = absurd s
-says_told most message (Err errors.ReadError) s = absurd s
-says_told most message (Err errors.ShortMessage) s = absurd s
+pub says_told : (anchors : List Record) (most : ℕ) (message : List ℕ) (answer : Result Verdict Error) → SaysOf anchors most message answer → CanBeTold answer
+says_told anchors most message (Ok v) s = tt
+says_told anchors most message (Err errors.FormError) s = tt
+says_told anchors most message (Err errors.ParseError) s = tt
+says_told anchors most message (Err errors.PushError) s = tt
+says_told anchors most message (Err errors.NoMemory) s = tt
+says_told anchors most message (Err (errors.InplaceError x)) s = absurd s
+says_told anchors most message (Err errors.OctetsConversion) s = absurd s
+says_told anchors most message (Err errors.PushNameError) s = absurd s
+says_told anchors most message (Err errors.ReadError) s = absurd s
+says_told anchors most message (Err errors.ShortMessage) s = absurd s
 
 -- what a call says of a message over nodes of the table
 pub record IsItemHandled (w : World) (most : ℕ) (message : List ℕ) (table : Table) (after : Outside) (answer : Result Verdict Error) (left : List ℕ) : Type 0 where
   pub by_table : IsByTable w most message after answer left (replies_of table)
   pub sound : IfOk answer (λ v. IsJustified w most message v.outcome v.outcome.state)
-  pub few : IfOk answer (λ v. v.questions ≤ most_questions most message)
+  pub few : IfOk answer (λ v. v.questions ≤ most_questions w.anchors most message)
   pub asked : IfOk answer (λ v. WereAsked w most message (replies_of table) v.questions)
 
 pub item_judged : (accepts : Accepts) (anchors : List Record) (config : Settings) (table : Table) (item : Item) (message left : List ℕ) (held : Option Held) (after : Outside)
@@ -196,7 +196,7 @@ pub item_judged : (accepts : Accepts) (anchors : List Record) (config : Settings
 item_judged accepts anchors config table item message left held after answer e same long holds handled = record {
   outcome = λ outcome f. is_outcome accepts anchors table item outcome (told ∙ exact outcome f)
       (told_verdict (λ v. IsJustified w most item.octets v.outcome v.outcome.state) answer outcome f called.sound)
-      (told_verdict (λ v. v.questions ≤ most_questions most item.octets) answer outcome f called.few)
+      (told_verdict (λ v. v.questions ≤ most_questions w.anchors most item.octets) answer outcome f called.few)
       (told_verdict (λ v. WereAsked w most item.octets (replies_of table) v.questions) answer outcome f called.asked);
   holds = called.by_table.holds;
 }

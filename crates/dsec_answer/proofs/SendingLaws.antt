@@ -13,7 +13,7 @@ use Rattle.dsec_nodes.proofs.OutcomeLaws.{alone_justified}
 use Rattle.dsec_node.specs.Configs.{default_settings}
 use Rattle.dsec_found.specs.declared.error.Error.{Error}
 use Rattle.dsec_found.specs.declared.error.Error.TheVariants as errors
-use Rattle.dsec_serve.specs.Outside.{replies_of}
+use Rattle.dsec_context.specs.Outside.{replies_of}
 use Rattle.dsec_context.specs.Leaving.{handed_alone}
 use Rattle.dsec_context.proofs.AloneLaws.{ComesAlone, an_outcome, a_refusal, cannot_read, too_long, comes_alone}
 use Rattle.dsec_answer.specs.declared.outcome.Unjudged.{Unjudged}

@@ -70,9 +70,9 @@ module _ (w : World) (most : ℕ) (message : List ℕ) (replies : Replies) where
   none_by for_nothing = refl
 
   -- a message that begins can be judged to its end
-  pub whole_run : (c : Course) → begun most message ≡ Ok c → IsWhole w replies (first_run w c)
+  pub whole_run : (c : Course) → begun w.anchors most message ≡ Ok c → IsWhole w replies (first_run w c)
   whole_run c e =
-      let n = begun_waits most message c e in
+      let n = begun_waits w.anchors most message c e in
       let none : asked_in (first_run w c).course ≡ [] =
       asked_grows w most message c begin (begun_sound w most message c e) n.begins
       ∙ (ap (λ (qs : List Asked). asked_in c ++ qs) (none_by c.waits) ∙ ap (λ (ss : List Walking). flat_map (λ (s : Walking). s.asked) ss ++ []) n.no_walks) in

@@ -4,7 +4,7 @@ use Rattle.dsec_nodes.specs.World.{World, Replies}
 use Rattle.dsec_nodes.specs.Machine.{Question as Asked}
 use Rattle.dsec_nodes.specs.InStep.{AskedOf}
 use Rattle.dsec_course.specs.Hearing.{IsOfTable}
-use Rattle.dsec_serve.specs.Calls.{WereHeard}
+use Rattle.dsec_context.specs.Calls.{WereHeard}
 
 -- so many questions were asked for a message: those of the message judged a step at a time over nodes of a table, each with the table's reply
 -- (RFC 4035 4.3, 4.5)

@@ -11,8 +11,8 @@ use Rattle.dsec_node.specs.Configs.{default_settings}
 use Rattle.dsec_rewrite.specs.declared.error.RewriteError.TheVariants as rewriting
 use Rattle.dsec_found.specs.declared.error.Error.{Error}
 use Rattle.dsec_found.specs.declared.error.Error.TheVariants as errors
-use Rattle.dsec_serve.specs.Outside.{replies_of}
-use Rattle.dsec_serve.specs.Calls.{most_questions}
+use Rattle.dsec_context.specs.Outside.{replies_of}
+use Rattle.dsec_context.specs.Calls.{most_questions}
 use Rattle.dsec_context.specs.Setting.{world_at}
 use Rattle.dsec_context.specs.Leaving.{handed_alone}
 use Rattle.dsec_context.specs.Writing.{CannotBeRewritten}
@@ -50,11 +50,11 @@ outcome_of accepts anchors table seconds message =
     else told_by (handed_alone (world_of_script accepts anchors seconds) default_settings.max_cname_dname (replies_of table) message).0
 
 -- an outcome is the verdict Secure; or the message can't be rewritten, and so it is said
-abbrev pub IsSecureOutcome : List ℕ → Outcome → Type 0
-IsSecureOutcome message (Ok v) = v.outcome.state ≡ outcomes.secure
-IsSecureOutcome message (Err ParseError) = CannotBeRewritten default_settings.max_cname_dname message rewriting.ParseError
-IsSecureOutcome message (Err PushError) = CannotBeRewritten default_settings.max_cname_dname message rewriting.PushError
-IsSecureOutcome message (Err _) = ⊥
+abbrev pub IsSecureOutcome : List Record → List ℕ → Outcome → Type 0
+IsSecureOutcome anchors message (Ok v) = v.outcome.state ≡ outcomes.secure
+IsSecureOutcome anchors message (Err ParseError) = CannotBeRewritten anchors default_settings.max_cname_dname message rewriting.ParseError
+IsSecureOutcome anchors message (Err PushError) = CannotBeRewritten anchors default_settings.max_cname_dname message rewriting.PushError
+IsSecureOutcome anchors message (Err _) = ⊥
 
 -- What the outcome of a message is: exactly what the recursion answers, its state, its cause and why; it is justified; it is Secure where the
 -- message is an ordinary reply from the zone at the anchor, if it can be rewritten; it took no more questions than a message of its groups may, and
@@ -62,8 +62,8 @@ IsSecureOutcome message (Err _) = ⊥
 pub record IsOutcome (accepts : Accepts) (anchors : List Record) (table : Table) (item : Item) (outcome : Outcome) : Type 0 where
   pub exact : outcome_of accepts anchors table item.seconds item.octets ≡ Some (without_questions outcome)
   pub sound : IfOk outcome (λ v. IsJustified (world_of_script accepts anchors item.seconds) default_settings.max_cname_dname item.octets v.outcome v.outcome.state)
-  pub complete : IsPlainAnswer (world_of_script accepts anchors item.seconds) (replies_of table) item.octets → IsSecureOutcome item.octets outcome
-  pub few : IfOk outcome (λ v. v.questions ≤ most_questions default_settings.max_cname_dname item.octets)
+  pub complete : IsPlainAnswer (world_of_script accepts anchors item.seconds) (replies_of table) item.octets → IsSecureOutcome anchors item.octets outcome
+  pub few : IfOk outcome (λ v. v.questions ≤ most_questions anchors default_settings.max_cname_dname item.octets)
   pub asked : IfOk outcome (λ v. WereAsked (world_of_script accepts anchors item.seconds) default_settings.max_cname_dname item.octets (replies_of table) v.questions)
 
 -- one outcome for each message, in order

@@ -2,7 +2,7 @@
 use Rattle.std.specs.Prelude.{Option, Some, None, Result, Ok, Err}
 use Rattle.dsec_found.specs.declared.error.Error.{Error}
 use Rattle.dsec_found.specs.declared.error.Error.TheVariants as errors
-use Rattle.dsec_serve.specs.Verdicts.{Verdict}
+use Rattle.dsec_context.specs.Verdicts.{Verdict}
 use Rattle.dsec_answer.specs.declared.outcome.Unjudged.{Unjudged}
 use Rattle.dsec_answer.specs.declared.outcome.Unjudged.TheVariants.{FormError, ParseError, PushError}
 

@@ -7,7 +7,7 @@ ghost use Rattle.dsec_nodes.specs.World.{Replies};
 ghost use Rattle.dsec_node.specs.Caches.{held_in};
 ghost use Rattle.dsec_node.specs.Configs.{default_settings};
 ghost use Rattle.dsec_outside.specs.Faults.{CountsWrites};
-ghost use Rattle.dsec_serve.specs.Outside.{replies_of, HoldsTable};
+ghost use Rattle.dsec_context.specs.Outside.{replies_of, HoldsTable};
 ghost use Rattle.dsec_answer.specs.Outcomes.{IsOutcome, IsText, world_of_script};
 ghost use Rattle.dsec_answer.specs.Texts.{outcome_text};
 ghost use Rattle.dsec_answer.specs.Told as outcomes;

@@ -10,7 +10,7 @@ mod used_texts;
 mod validating;
 
 pub use command::{run, run_by};
-pub use dsec_context::{Error, ValidationContext, Verdict, validate_in};
+pub use dsec_context::{Error, ValidationContext, Verdict, Why, validate_in};
 pub use outcome::{Outcome, Unjudged};
 pub use texts::text;
 pub use validating::validate;

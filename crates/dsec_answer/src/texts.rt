@@ -4,19 +4,18 @@ ghost use Rattle.std.specs.Prelude.{◌≡◌, ◌++◌, ◌∷◌, [], IfOk, On
 ghost use Rattle.std.specs.List.{flat_map};
 ghost use Rattle.dsec_found.specs.Outcomes.{state_view};
 ghost use Rattle.dsec_link.specs.LinkTexts.{link_line};
-ghost use Rattle.dsec_outcome.specs.Outcomes.{why_view};
+ghost use Rattle.dsec_context.specs.Outcomes.{why_view};
 ghost use Rattle.dsec_answer.specs.Texts.{cause_text, error_line, error_text, group_lines, lines_by, outcome_text, state_text, status_text, verdict_line, why_lines};
 
 use crate::outcome::{Outcome, Unjudged};
 use crate::used_texts::push_used_groups;
 use dsec_cause::Cause;
-use dsec_context::Verdict;
+use dsec_context::{Verdict, Why};
 use dsec_crypto::Verifier;
 use dsec_found::JudgedGroup;
 use dsec_group::ValidationState;
 use dsec_link::{Link, push_link};
 use dsec_name::NoMemory;
-use dsec_outcome::Why;
 use dsec_word::push_number;
 use std::alloc::Global;
 

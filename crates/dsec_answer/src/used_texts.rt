@@ -6,11 +6,11 @@ ghost use Rattle.dsec_link.specs.LinkTexts.{link_line};
 ghost use Rattle.dsec_answer.specs.Texts.{first_lines, is_among as among, used_groups_lines, used_line, used_lines};
 
 use crate::texts::push_links;
+use dsec_context::UsedGroup;
 use dsec_crypto::Verifier;
 use dsec_found::JudgedGroup;
 use dsec_link::{Link, push_link};
 use dsec_name::NoMemory;
-use dsec_outcome::UsedGroup;
 use std::alloc::Global;
 
 /// How many octets a line's first word has.

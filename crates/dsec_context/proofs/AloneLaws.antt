@@ -30,14 +30,14 @@ pub data ComesAlone (w : World) (most : ℕ) (replies : Replies) (message : List
   an_outcome : (o : Outcome) → alone w most replies message ≡ Ok o → (handed_alone w most replies message).0 ≡ Ok o → ComesAlone w most replies message
   a_refusal : (e : Refusal) → alone w most replies message ≡ Err e → (handed_alone w most replies message).0 ≡ answer_of (Err e) → ComesAlone w most replies message
   cannot_read : additionals_of message ≡ None → (handed_alone w most replies message).0 ≡ Err errors.ParseError → ComesAlone w most replies message
-  too_long : sent (written_out most message) ≡ Err refusals.PushError → (handed_alone w most replies message).0 ≡ Err errors.PushError → ComesAlone w most replies message
+  too_long : sent (written_out w.anchors most message) ≡ Err refusals.PushError → (handed_alone w most replies message).0 ≡ Err errors.PushError → ComesAlone w most replies message
 
 -- the judged groups of the recursion are the message's
-pub record Reads (most : ℕ) (message : List ℕ) (both : Both) : Type 0 where
+pub record Reads (anchors : List Record) (most : ℕ) (message : List ℕ) (both : Both) : Type 0 where
   pub questions : List Question
-  pub read : AreRead most message questions (map (λ j. j.group) both.0) (map (λ j. j.group) both.1)
+  pub read : AreRead anchors most message questions (map (λ j. j.group) both.0) (map (λ j. j.group) both.1)
 
-judged_reads : (w : World) (most : ℕ) (replies : Replies) (message : List ℕ) (both : Both) → judged_alone w most replies message ≡ Some both → Reads most message both
+judged_reads : (w : World) (most : ℕ) (replies : Replies) (message : List ℕ) (both : Both) → judged_alone w most replies message ≡ Some both → Reads w.anchors most message both
 judged_reads w most replies message both = by_sections (sections_of message) refl
   where
     Sections : Type 0
@@ -47,8 +47,8 @@ judged_reads w most replies message both = by_sections (sections_of message) ref
     of_both authorities None = None
     of_both authorities (Some answers) = both_of (judged_all w replies answers) (judged_all w replies authorities)
 
-    by_judged : (s : Sections) → sections_of message ≡ Some s → (answers : List Group) → moved most (groups_of s.1) ≡ Some answers → (a b : AllJudged)
-        → judged_all w replies answers ≡ a → judged_all w replies (groups_of s.2) ≡ b → both_of a b ≡ Some both → Reads most message both
+    by_judged : (s : Sections) → sections_of message ≡ Some s → (answers : List Group) → moved w.anchors most (groups_of s.1) ≡ Some answers → (a b : AllJudged)
+        → judged_all w replies answers ≡ a → judged_all w replies (groups_of s.2) ≡ b → both_of a b ≡ Some both → Reads w.anchors most message both
     by_judged s f answers g (one_bogus cause links) b h i e = absurd cc
     by_judged s f answers g (all js) (one_bogus cause links) h i e = absurd cc
     by_judged s f answers g (all js) (all beside) h i e =
@@ -64,19 +64,19 @@ judged_reads w most replies message both = by_sections (sections_of message) ref
           };
         }
 
-    by_moved : (s : Sections) → sections_of message ≡ Some s → (m : Option (List Group)) → moved most (groups_of s.1) ≡ m → of_both (groups_of s.2) m ≡ Some both
-        → Reads most message both
+    by_moved : (s : Sections) → sections_of message ≡ Some s → (m : Option (List Group)) → moved w.anchors most (groups_of s.1) ≡ m → of_both (groups_of s.2) m ≡ Some both
+        → Reads w.anchors most message both
     by_moved s f None g e = absurd cc
     by_moved s f (Some answers) g e = by_judged s f answers g (judged_all w replies answers) (judged_all w replies (groups_of s.2)) refl refl e
 
-    by_sections : (x : Option Sections) → sections_of message ≡ x → judged_alone w most replies message ≡ Some both → Reads most message both
+    by_sections : (x : Option Sections) → sections_of message ≡ x → judged_alone w most replies message ≡ Some both → Reads w.anchors most message both
     by_sections None f e = absurd (none_there (judged_alone w most replies message) (rw f refl) e)
       where
         none_there : (o : Option Both) → o ≡ None → o ≡ Some both → ⊥
         none_there o x y = cc
     by_sections (Some s) f e =
-        let known : judged_alone w most replies message ≡ of_both (groups_of s.2) (moved most (groups_of s.1)) = rw f (of_moved (groups_of s.2) (moved most (groups_of s.1))) in
-        by_moved s f (moved most (groups_of s.1)) refl (sym known ∙ e)
+        let known : judged_alone w most replies message ≡ of_both (groups_of s.2) (moved w.anchors most (groups_of s.1)) = rw f (of_moved (groups_of s.2) (moved w.anchors most (groups_of s.1))) in
+        by_moved s f (moved w.anchors most (groups_of s.1)) refl (sym known ∙ e)
       where
         of_moved : (authorities : List Group) (m : Option (List Group)) → (m >>= λ answers. both_of (judged_all w replies answers) (judged_all w replies authorities)) ≡ of_both authorities m
         of_moved authorities None = refl
@@ -124,13 +124,13 @@ comes_alone w most replies message = by_groups (to_rewrite_alone w most replies 
             ≡ (by_rewriting message (answer_of (alone w most replies message)) (rewriting message (map (bounded_at t) both.0) (map (bounded_at t) both.1))).0
         its = ap (λ (g : Option Both). (handed_on t message (answer_of (alone w most replies message)) g).0) e
 
-        reads : Reads most message both
+        reads : Reads w.anchors most message both
         reads = judged_reads w most replies message both (of_judged both e)
 
         by : (r : Result (List ℕ) RewriteError) → rewriting message (map (bounded_at t) both.0) (map (bounded_at t) both.1) ≡ r → ComesAlone w most replies message
         by (Ok made) f = as_alone (its ∙ ap (λ (r : Result (List ℕ) RewriteError). (by_rewriting message (answer_of (alone w most replies message)) r).0) f)
         by (Err refusals.ParseError) f = cannot_read (kept_unread message (map (bounded_at t) both.0) (map (bounded_at t) both.1) f)
             (its ∙ ap (λ (r : Result (List ℕ) RewriteError). (by_rewriting message (answer_of (alone w most replies message)) r).0) f)
-        by (Err refusals.PushError) f = too_long (long_out most t message reads.questions both.0 both.1 reads.read f)
+        by (Err refusals.PushError) f = too_long (long_out w.anchors most t message reads.questions both.0 both.1 reads.read f)
             (its ∙ ap (λ (r : Result (List ℕ) RewriteError). (by_rewriting message (answer_of (alone w most replies message)) r).0) f)
         by (Err refusals.NoMemory) f = absurd (not_lost (rewritten message (map (bounded_at t) both.0) (map (bounded_at t) both.1)) f)

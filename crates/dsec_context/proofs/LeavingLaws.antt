@@ -48,13 +48,13 @@ are_due_so w most message held asked (Err ShortMessage) (Some both) h = absurd c
 
 -- a message that was rewritten by its judged groups is one that was rewritten by its groups
 rewritten_so : (w : World) (most t : ℕ) (message left : List ℕ) (both : Both) → AreJudged w most message both → are_due t both ≡ true
-    → IsRewrittenBy t message both left → IsRewritten most message left
+    → IsRewrittenBy t message both left → IsRewritten w.anchors most message left
 rewritten_so w most t message left both j due made = record {
   questions = j.questions;
   answers = map (bounded_at t) both.0;
   authorities = map (bounded_at t) both.1;
-  groups = subst (λ (gs : List Group). AreRead most message j.questions gs (map (λ (b : Bounded). b.group) (map (bounded_at t) both.1))) (sym (its_groups t both.0))
-      (subst (λ (gs : List Group). AreRead most message j.questions (map (λ (x : Judged). x.group) both.0) gs) (sym (its_groups t both.1)) j.read);
+  groups = subst (λ (gs : List Group). AreRead w.anchors most message j.questions gs (map (λ (b : Bounded). b.group) (map (bounded_at t) both.1))) (sym (its_groups t both.0))
+      (subst (λ (gs : List Group). AreRead w.anchors most message j.questions (map (λ (x : Judged). x.group) both.0) gs) (sym (its_groups t both.1)) j.read);
   due = due;
   made = made;
 }
@@ -94,18 +94,18 @@ stays w most t message left held asked judged (Some both) e o h (inl same) = by 
 pub leaves : (w : World) (most : ℕ) (message left : List ℕ) (held : Node → Type 0) (asked : List Asked) (judged answer : Result Verdict Error) (groups : Option Both)
     → HandsOn w most message held asked judged groups → IfSome groups (λ both. AreJudged w most message both)
     → IsHanded message (handed_on (moment w) message judged groups) answer left
-    → OnEnd answer (IfSome groups (λ both. IsRewrittenBy (moment w) message both left)) → LeavesWith most answer message left
+    → OnEnd answer (IfSome groups (λ both. IsRewrittenBy (moment w) message both left)) → LeavesWith w.anchors most answer message left
 leaves w most message left held asked judged answer groups h sound handed made = by answer handed made
   where
     at_end : (x : Result Verdict Error) (g : Option Both) → IfSome g (λ both. AreJudged w most message both) → IfSome g (λ both. are_due (moment w) both ≡ true)
         → IsHanded message (handed_on (moment w) message judged g) x left → IfSome g (λ both. IsRewrittenBy (moment w) message both left)
-        → (left ≡ message) ⊎ IsRewritten most message left
+        → (left ≡ message) ⊎ IsRewritten w.anchors most message left
     at_end x None s d (inl same) m = inl same.1
     at_end x None s d (inr none) m = inl none.1
     at_end x (Some both) s d a m = inr (rewritten_so w most (moment w) message left both s d m)
 
     by : (x : Result Verdict Error) → IsHanded message (handed_on (moment w) message judged groups) x left
-        → OnEnd x (IfSome groups (λ both. IsRewrittenBy (moment w) message both left)) → LeavesWith most x message left
+        → OnEnd x (IfSome groups (λ both. IsRewrittenBy (moment w) message both left)) → LeavesWith w.anchors most x message left
     by (Ok v) a m = at_end (Ok v) groups sound (are_due_so w most message held asked judged groups h) a m
     by (Err FormError) a m = at_end (Err FormError) groups sound (are_due_so w most message held asked judged groups h) a m
     by (Err ParseError) a m = stays w most (moment w) message left held asked judged groups ParseError tt h a

@@ -3,3 +3,5 @@ pub mod ComingLaws
 pub mod LeavingLaws
 pub mod TableLaws
 pub mod AloneLaws
+pub use Rattle.dsec_serve.proofs.CallLaws
+pub use Rattle.dsec_serve.proofs.JudgementLaws

@@ -2,6 +2,7 @@
 use Rattle.std.specs.Prelude.{◌≡◌, ◌⊎◌, ℕ, List, map, Option, Result, Ok, Err, IfSome, true}
 use Rattle.dsec_spec.specs.Messages.{Question}
 use Rattle.dsec_spec.specs.Outside.{Table}
+use Rattle.dsec_spec.specs.Records.{Record}
 use Rattle.dsec_nodes.specs.World.{World, Replies, moment}
 use Rattle.dsec_nodes.specs.Outcomes.{Outcome, bogus}
 use Rattle.dsec_plain.specs.Coming.{IsReadable, HasNotOneQuestion}
@@ -13,6 +14,7 @@ use Rattle.dsec_cut.specs.Ended.{Both}
 use Rattle.dsec_cut.specs.Cuts.{bounded_at}
 use Rattle.dsec_found.specs.declared.error.Error.{Error}
 use Rattle.dsec_found.specs.declared.error.Error.TheVariants.{FormError, ParseError, PushError, NoMemory}
+pub use Rattle.dsec_serve.specs.Calls.{WereHeard, IsAnswer, most_questions}
 use Rattle.dsec_serve.specs.Verdicts.{Verdict}
 use Rattle.dsec_serve.specs.Outside.{Outside, HoldsTable}
 use Rattle.dsec_serve.specs.Judgements.{Judgement, IsJudging}
@@ -49,45 +51,45 @@ pub record IsByTable (w : World) (most : ℕ) (message : List ℕ) (after : Outs
   pub holds : HoldsTable w replies after.held
 
 -- the error says that the message can't be rewritten, and so it is
-abbrev pub SaysCannot : ℕ → List ℕ → Error → Type 0
-SaysCannot most message ParseError = CannotBeRewritten most message rewriting.ParseError
-SaysCannot most message PushError = CannotBeRewritten most message rewriting.PushError
-SaysCannot most message _ = ⊥
+abbrev pub SaysCannot : List Record → ℕ → List ℕ → Error → Type 0
+SaysCannot anchors most message ParseError = CannotBeRewritten anchors most message rewriting.ParseError
+SaysCannot anchors most message PushError = CannotBeRewritten anchors most message rewriting.PushError
+SaysCannot anchors most message _ = ⊥
 
 -- What an answer says of the message: with a verdict its sections can be read; with FormError too, and there isn't one question; with ParseError a
 -- record can't, be it of the additional section alone; with PushError it is too long to be rewritten; no other error comes (RFC 1035 4.1, 4.2.2)
-abbrev pub SaysOf : ℕ → List ℕ → Result Verdict Error → Type 0
-SaysOf most message (Ok v) = IsReadable message
-SaysOf most message (Err FormError) = HasNotOneQuestion message
-SaysOf most message (Err NoMemory) = Unit {0}
-SaysOf most message (Err e) = SaysCannot most message e
+abbrev pub SaysOf : List Record → ℕ → List ℕ → Result Verdict Error → Type 0
+SaysOf anchors most message (Ok v) = IsReadable message
+SaysOf anchors most message (Err FormError) = HasNotOneQuestion message
+SaysOf anchors most message (Err NoMemory) = Unit {0}
+SaysOf anchors most message (Err e) = SaysCannot anchors most message e
 
 -- a verdict of this kind; or want of memory; or the message can't be rewritten, and so it is said
-abbrev pub IsVerdict : (Verdict → Type 0) → ℕ → List ℕ → Result Verdict Error → Type 0
-IsVerdict Holds most message (Ok v) = Holds v
-IsVerdict Holds most message (Err NoMemory) = Unit {0}
-IsVerdict Holds most message (Err e) = SaysCannot most message e
+abbrev pub IsVerdict : (Verdict → Type 0) → List Record → ℕ → List ℕ → Result Verdict Error → Type 0
+IsVerdict Holds anchors most message (Ok v) = Holds v
+IsVerdict Holds anchors most message (Err NoMemory) = Unit {0}
+IsVerdict Holds anchors most message (Err e) = SaysCannot anchors most message e
 
 -- a refusal since there isn't one question, or a bogus verdict; or want of memory; or the message can't be rewritten, and so it is said
-abbrev pub IsRefusal : ℕ → List ℕ → Result Verdict Error → Type 0
-IsRefusal most message (Ok v) = v.outcome.state ≡ bogus
-IsRefusal most message (Err FormError) = Unit {0}
-IsRefusal most message (Err NoMemory) = Unit {0}
-IsRefusal most message (Err e) = SaysCannot most message e
+abbrev pub IsRefusal : List Record → ℕ → List ℕ → Result Verdict Error → Type 0
+IsRefusal anchors most message (Ok v) = v.outcome.state ≡ bogus
+IsRefusal anchors most message (Err FormError) = Unit {0}
+IsRefusal anchors most message (Err NoMemory) = Unit {0}
+IsRefusal anchors most message (Err e) = SaysCannot anchors most message e
 
 -- The second message is a rewriting of the first by its own groups, CNAME records that follow from a DNAME record moved to it: their duplicates are
 -- dropped and their TTLs cut, where one of these is due, and it reads back so (RFC 2181 5, RFC 4035 5.3.3, RFC 6672 3.1)
-pub record IsRewritten (most : ℕ) (message left : List ℕ) : Type 0 where
+pub record IsRewritten (anchors : List Record) (most : ℕ) (message left : List ℕ) : Type 0 where
   pub questions : List Question
   pub answers : List Bounded
   pub authorities : List Bounded
-  pub groups : AreRead most message questions (map (λ b. b.group) answers) (map (λ b. b.group) authorities)
+  pub groups : AreRead anchors most message questions (map (λ b. b.group) answers) (map (λ b. b.group) authorities)
   pub due : is_due answers authorities ≡ true
   pub made : IsRewriting message answers authorities left
 
 -- the message that is left with an answer: where judging went on to its end it is as it came, or rewritten; after any other error it is as it came
 -- (RFC 4035 5.3.3)
-abbrev pub LeavesWith : ℕ → Result Verdict Error → List ℕ → List ℕ → Type 0
-LeavesWith most (Ok v) message left = (left ≡ message) ⊎ IsRewritten most message left
-LeavesWith most (Err FormError) message left = (left ≡ message) ⊎ IsRewritten most message left
-LeavesWith most (Err _) message left = left ≡ message
+abbrev pub LeavesWith : List Record → ℕ → Result Verdict Error → List ℕ → List ℕ → Type 0
+LeavesWith anchors most (Ok v) message left = (left ≡ message) ⊎ IsRewritten anchors most message left
+LeavesWith anchors most (Err FormError) message left = (left ≡ message) ⊎ IsRewritten anchors most message left
+LeavesWith anchors most (Err _) message left = left ≡ message

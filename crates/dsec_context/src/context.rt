@@ -86,13 +86,13 @@ impl<V: Verifier> ValidationContext<V> {
             (record { held = Some (held_in self.new.nodes); asked = U.asked upstream.new; faults = U.faults upstream.new }) result message.new (replies_of t)) }
         ensures complete { IfSome (U.table upstream.old) (λ t. HoldsTable (world_at V.accepts self.old.anchors self.old.config now) (replies_of t) (Some (held_in self.old.nodes))
             → IsPlainAnswer (world_at V.accepts self.old.anchors self.old.config now) (replies_of t) message.old
-            → IsVerdict (λ v. v.outcome.state ≡ secure) self.old.config.max_cname_dname message.old result) }
-        ensures readable { (read : IsReadable message.old) → length read.questions ≡ 1 → IsVerdict (λ v. ⊤) self.old.config.max_cname_dname message.old result }
+            → IsVerdict (λ v. v.outcome.state ≡ secure) self.old.anchors self.old.config.max_cname_dname message.old result) }
+        ensures readable { (read : IsReadable message.old) → length read.questions ≡ 1 → IsVerdict (λ v. ⊤) self.old.anchors self.old.config.max_cname_dname message.old result }
         ensures unreadable { sections_of message.old ≡ None → RefusedOrNoMemory ParseError result }
-        ensures not_one { HasNotOneQuestion message.old → IsRefusal self.old.config.max_cname_dname message.old result }
-        ensures says { SaysOf self.old.config.max_cname_dname message.old result }
-        ensures leaves { LeavesWith self.old.config.max_cname_dname result message.old message.new }
-        ensures few { IfOk result (λ v. v.questions ≤ most_questions self.old.config.max_cname_dname message.old) }
+        ensures not_one { HasNotOneQuestion message.old → IsRefusal self.old.anchors self.old.config.max_cname_dname message.old result }
+        ensures says { SaysOf self.old.anchors self.old.config.max_cname_dname message.old result }
+        ensures leaves { LeavesWith self.old.anchors self.old.config.max_cname_dname result message.old message.new }
+        ensures few { IfOk result (λ v. v.questions ≤ most_questions self.old.anchors self.old.config.max_cname_dname message.old) }
         ensures same_table { U.table upstream.new ≡ U.table upstream.old }
         ensures same_anchors { self.new.anchors ≡ self.old.anchors }
         ensures same_config { self.new.config ≡ self.old.config }

@@ -8,11 +8,10 @@ ghost use Rattle.dsec_rewrite.specs.Errors.{wants_memory};
 ghost use Rattle.dsec_context.specs.Calls.{IsRewrittenBy, OnEnd};
 ghost use Rattle.dsec_context.specs.Leaving.{error_by, handed_on, IsHanded};
 
-use dsec_core::all_bounded;
 use dsec_crypto::Verifier;
 use dsec_found::{Error, JudgedGroup};
 use dsec_rewrite::{RewriteError, rebuild_msg};
-use dsec_serve::{Judgement, Verdict};
+use dsec_serve::{Judgement, Verdict, all_bounded};
 use dsec_wire::Message;
 use std::alloc::Global;
 

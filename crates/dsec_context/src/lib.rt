@@ -6,5 +6,5 @@ mod handing;
 mod validating;
 
 pub use context::ValidationContext;
-pub use dsec_serve::{Error, Verdict};
+pub use dsec_serve::{Error, Outcome, UsedGroup, Verdict, Why};
 pub use validating::validate_in;

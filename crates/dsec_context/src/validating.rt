@@ -47,13 +47,13 @@ pub fn validate_in<V: Verifier, C: Caches<V>, M: Memo<V>, U: Upstream>(
         (record { held = C.held caches.new; asked = U.asked upstream.new; faults = U.faults upstream.new }) result message.new (replies_of t)) }
     ensures complete { IfSome (U.table upstream.old) (λ t. HoldsTable (world_of V.accepts anchors.now (bounds_of config.now) now) (replies_of t) (C.held caches.old)
         → IsPlainAnswer (world_of V.accepts anchors.now (bounds_of config.now) now) (replies_of t) message.old
-        → IsVerdict (λ v. v.outcome.state ≡ secure) config.now.max_cname_dname message.old result) }
-    ensures readable { (read : IsReadable message.old) → length read.questions ≡ 1 → IsVerdict (λ v. ⊤) config.now.max_cname_dname message.old result }
+        → IsVerdict (λ v. v.outcome.state ≡ secure) anchors.now config.now.max_cname_dname message.old result) }
+    ensures readable { (read : IsReadable message.old) → length read.questions ≡ 1 → IsVerdict (λ v. ⊤) anchors.now config.now.max_cname_dname message.old result }
     ensures unreadable { sections_of message.old ≡ None → RefusedOrNoMemory ParseError result }
-    ensures not_one { HasNotOneQuestion message.old → IsRefusal config.now.max_cname_dname message.old result }
-    ensures says { SaysOf config.now.max_cname_dname message.old result }
-    ensures leaves { LeavesWith config.now.max_cname_dname result message.old message.new }
-    ensures few { IfOk result (λ v. v.questions ≤ most_questions config.now.max_cname_dname message.old) }
+    ensures not_one { HasNotOneQuestion message.old → IsRefusal anchors.now config.now.max_cname_dname message.old result }
+    ensures says { SaysOf anchors.now config.now.max_cname_dname message.old result }
+    ensures leaves { LeavesWith anchors.now config.now.max_cname_dname result message.old message.new }
+    ensures few { IfOk result (λ v. v.questions ≤ most_questions anchors.now config.now.max_cname_dname message.old) }
     ensures same_table { U.table upstream.new ≡ U.table upstream.old }
 {
     let judgement = judge_in(alloc, anchors, config, caches, memo, message, upstream, now);

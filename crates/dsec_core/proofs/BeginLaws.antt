@@ -19,8 +19,8 @@ pub record BeginsSo (message : List ℕ) (c : Course) : Type 0 where
   pub same_message : c.message ≡ message
   pub in_zone : (w : World) → IsInZoneAt w c.waits
 
-pub begun_so : (most : ℕ) (message : List ℕ) (c : Course) → begun most message ≡ Ok c → BeginsSo message c
-begun_so most message c e = by_sections (sections_of message) e
+pub begun_so : (anchors : List Record) (most : ℕ) (message : List ℕ) (c : Course) → begun anchors most message ≡ Ok c → BeginsSo message c
+begun_so anchors most message c e = by_sections (sections_of message) e
   where
     Sections : Type 0
     Sections = List Question × List Record × List Record
@@ -29,18 +29,18 @@ begun_so most message c e = by_sections (sections_of message) e
     by_moved s None = record { same_message = refl; in_zone = λ w. tt }
     by_moved s (Some answers) = record { same_message = refl; in_zone = λ w. tt }
 
-    by_sections : (x : Option Sections) → begun_by most message x ≡ Ok c → BeginsSo message c
+    by_sections : (x : Option Sections) → begun_by anchors most message x ≡ Ok c → BeginsSo message c
     by_sections None g = absurd cc
     by_sections (Some s) g =
-        let same : begun_with most message s.0 (moved most (groups_of s.1)) (groups_of s.2) ≡ c = cc in
-        subst (BeginsSo message) same (by_moved s (moved most (groups_of s.1)))
+        let same : begun_with most message s.0 (moved anchors most (groups_of s.1)) (groups_of s.2) ≡ c = cc in
+        subst (BeginsSo message) same (by_moved s (moved anchors most (groups_of s.1)))
 
 -- so it is sound whatever it is judged by
 pub begun_sound_by : (accepts : Accepts) (anchors : List Record) (config : Settings) (moment : ℕ) (message : List ℕ) (c : Course)
-    → begun config.max_cname_dname message ≡ Ok c → IsSoundBy accepts (record { anchors = anchors; config = config; moment = moment; course = c })
+    → begun anchors config.max_cname_dname message ≡ Ok c → IsSoundBy accepts (record { anchors = anchors; config = config; moment = moment; course = c })
 begun_sound_by accepts anchors config moment message c e =
     let it : Validating = record { anchors = anchors; config = config; moment = moment; course = c } in
-    let so = begun_so config.max_cname_dname message c e in
+    let so = begun_so anchors config.max_cname_dname message c e in
     record {
       is_sound = subst (λ (m : List ℕ). SoundCourse (world_by accepts it) (most_of it) m c) (sym so.same_message) (begun_sound (world_by accepts it) (most_of it) message c e);
       in_zone = so.in_zone (world_by accepts it);

@@ -67,59 +67,66 @@ sections_same message = by (questions_of message) (answers_of message) (authorit
     by (Some q) (Some a) (Some r) = refl
 
 -- a message read is what it begins with
-pub begun_read : (most : ℕ) (message octets : List ℕ) (s : Sections) (c : Course) → octets ≡ message → wire.sections_of message ≡ Some s
-    → Ok c ≡ begun_by most octets (Some (parts s)) → read_as (begun most message) ≡ Ok c
-begun_read most message octets s c same read h =
-    ap read_as (ap (begun_by most message) (sections_same message ∙ ap (option_map parts) read)
-    ∙ (ap (λ (m : List ℕ). begun_by most m (Some (parts s))) (sym same) ∙ sym h))
+pub begun_read : (anchors : List Record) (most : ℕ) (message octets : List ℕ) (s : Sections) (c : Course) → octets ≡ message → wire.sections_of message ≡ Some s
+    → Ok c ≡ begun_by anchors most octets (Some (parts s)) → read_as (begun anchors most message) ≡ Ok c
+begun_read anchors most message octets s c same read h =
+    ap read_as (ap (begun_by anchors most message) (sections_same message ∙ ap (option_map parts) read)
+    ∙ (ap (λ (m : List ℕ). begun_by anchors most m (Some (parts s))) (sym same) ∙ sym h))
 
 -- a message that can't be read
-pub refused : (most : ℕ) (message : List ℕ) (e : MessageError) → OnFalse (read_wants_memory e) (groups_and_place message ≡ None) → OnFalse (wants_memory (error_of e)) (read_as (begun most message) ≡ Err (error_of e))
-refused most message NoMemory h = tt
-refused most message ParseError h =
+pub refused : (anchors : List Record) (most : ℕ) (message : List ℕ) (e : MessageError) → OnFalse (read_wants_memory e) (groups_and_place message ≡ None) → OnFalse (wants_memory (error_of e)) (read_as (begun anchors most message) ≡ Err (error_of e))
+refused anchors most message NoMemory h = tt
+refused anchors most message ParseError h =
     let none : wire.sections_of message ≡ None = ap by_name (no_groups message h) in
-    ap read_as (unreadable_refused most message (sections_same message ∙ ap (option_map parts) none))
+    ap read_as (unreadable_refused anchors most message (sections_same message ∙ ap (option_map parts) none))
 
 -- with the code's word for a refusal it is the same where there is none
 pub read_so : (r : Result Course Refusal) (c : Course) → read_as r ≡ Ok c → r ≡ Ok c
 read_so (Ok d) c e = let same : d ≡ c = cc in ap (λ (x : Course). Ok x) same
 read_so (Err refusal) c e = absurd cc
 
+-- the same by anchors and a limit that are these
+pub begun_here : (anchors its : List Record) (limit most : ℕ) (message : List ℕ) (c : Course) → its ≡ anchors → most ≡ limit
+    → read_as (begun its most message) ≡ Ok c → begun anchors limit message ≡ Ok c
+begun_here anchors its limit most message c same bound e =
+    read_so (begun anchors limit message) c
+    (subst (λ (x : List Record). read_as (begun x limit message) ≡ Ok c) same (subst (λ (n : ℕ). read_as (begun its n message) ≡ Ok c) bound e))
+
 -- groups are moved, or there are too many to move
-pub moves_or_ends : (most : ℕ) (before after : List Group) (cause : Option Cause)
-    → cause ≡ cond (has_too_many most before) (Some TooManyUnsignedCnames) None → after ≡ unwrap_or (moved most before) before
-    → MovesOrEnds most before after cause
-moves_or_ends most before after cause c m =
-    subst (MovesOrEnds most before after) (sym c) (by (has_too_many most before) refl m)
+pub moves_or_ends : (anchors : List Record) (most : ℕ) (before after : List Group) (cause : Option Cause)
+    → cause ≡ cond (has_too_many most before) (Some TooManyUnsignedCnames) None → after ≡ unwrap_or (moved anchors most before) before
+    → MovesOrEnds anchors most before after cause
+moves_or_ends anchors most before after cause c m =
+    subst (MovesOrEnds anchors most before after) (sym c) (by (has_too_many most before) refl m)
   where
-    begins : (o : Option (List Group)) → moved most before ≡ o → (message : List ℕ) (s : List Question × List Record × List Record) → groups_of s.1 ≡ before
-        → begun_by most message (Some s) ≡ Ok (begun_with most message s.0 o (groups_of s.2))
+    begins : (o : Option (List Group)) → moved anchors most before ≡ o → (message : List ℕ) (s : List Question × List Record × List Record) → groups_of s.1 ≡ before
+        → begun_by anchors most message (Some s) ≡ Ok (begun_with most message s.0 o (groups_of s.2))
     begins o f message s same =
-        ap (λ (x : Option (List Group)). Ok (begun_with most message s.0 x (groups_of s.2))) (ap (moved most) same ∙ f)
+        ap (λ (x : Option (List Group)). Ok (begun_with most message s.0 x (groups_of s.2))) (ap (moved anchors most) same ∙ f)
 
-    moved_if : (b : Bool) → has_too_many most before ≡ b → moved most before ≡ cond b None (Some (staying_from before 0 before))
-    moved_if b f = ap (λ (x : Bool). cond x None (Some (staying_from before 0 before))) f
+    moved_if : (b : Bool) → has_too_many most before ≡ b → moved anchors most before ≡ cond b None (Some (staying_from anchors before 0 before))
+    moved_if b f = ap (λ (x : Bool). cond x None (Some (staying_from anchors before 0 before))) f
 
-    by : (b : Bool) → has_too_many most before ≡ b → after ≡ unwrap_or (moved most before) before → MovesOrEnds most before after (cond b (Some TooManyUnsignedCnames) None)
+    by : (b : Bool) → has_too_many most before ≡ b → after ≡ unwrap_or (moved anchors most before) before → MovesOrEnds anchors most before after (cond b (Some TooManyUnsignedCnames) None)
     by true f h = begins None (moved_if true f)
     by false f h =
         begins (Some after) (moved_if false f ∙ ap (λ (gs : List Group). Some gs) (sym (h ∙ ap (λ (o : Option (List Group)). unwrap_or o before) (moved_if false f))))
 
 -- a message that ends at its beginning
-pub ends_so : (most : ℕ) (octets : List ℕ) (s : List Question × List Record × List Record) (before after : List Group) (cause : Cause) (c : Course)
-    (questions : List Question) (left : List Group) (o : Outcome) → MovesOrEnds most before after (Some cause) → before ≡ groups_of s.1
-    → c ≡ beginning most octets questions 0 left (to_end o) → questions ≡ s.0 → left ≡ [] → o ≡ bogus_by cause by_nothing → Ok c ≡ begun_by most octets (Some s)
-ends_so most octets s before after cause c questions left o h same is qs ls os =
+pub ends_so : (anchors : List Record) (most : ℕ) (octets : List ℕ) (s : List Question × List Record × List Record) (before after : List Group) (cause : Cause) (c : Course)
+    (questions : List Question) (left : List Group) (o : Outcome) → MovesOrEnds anchors most before after (Some cause) → before ≡ groups_of s.1
+    → c ≡ beginning most octets questions 0 left (to_end o) → questions ≡ s.0 → left ≡ [] → o ≡ bogus_by cause by_nothing → Ok c ≡ begun_by anchors most octets (Some s)
+ends_so anchors most octets s before after cause c questions left o h same is qs ls os =
     ap (λ (x : Course). Ok x)
     (is ∙ (ap (λ (q : List Question). beginning most octets q 0 left (to_end o)) qs
     ∙ (ap (λ (l : List Group). beginning most octets s.0 0 l (to_end o)) ls ∙ ap (λ (x : Outcome). beginning most octets s.0 0 [] (to_end x)) os)))
     ∙ sym (h octets s (sym same))
 
 -- one that begins
-pub begins_so : (most : ℕ) (octets : List ℕ) (s : List Question × List Record × List Record) (before after : List Group) (c : Course)
-    (questions : List Question) (count : ℕ) (left : List Group) → MovesOrEnds most before after None → before ≡ groups_of s.1
-    → c ≡ beginning most octets questions count left to_begin → questions ≡ s.0 → count ≡ length after → left ≡ after ++ groups_of s.2 → Ok c ≡ begun_by most octets (Some s)
-begins_so most octets s before after c questions count left h same is qs ns ls =
+pub begins_so : (anchors : List Record) (most : ℕ) (octets : List ℕ) (s : List Question × List Record × List Record) (before after : List Group) (c : Course)
+    (questions : List Question) (count : ℕ) (left : List Group) → MovesOrEnds anchors most before after None → before ≡ groups_of s.1
+    → c ≡ beginning most octets questions count left to_begin → questions ≡ s.0 → count ≡ length after → left ≡ after ++ groups_of s.2 → Ok c ≡ begun_by anchors most octets (Some s)
+begins_so anchors most octets s before after c questions count left h same is qs ns ls =
     ap (λ (x : Course). Ok x)
     (is ∙ (ap (λ (q : List Question). beginning most octets q count left to_begin) qs
     ∙ (ap (λ (n : ℕ). beginning most octets s.0 n left to_begin) ns ∙ ap (λ (l : List Group). beginning most octets s.0 (length after) l to_begin) ls)))

@@ -1,3 +1,4 @@
 pub mod Views
 pub mod Validating
 pub mod Progress
+pub use Rattle.dsec_outcome.specs.Outcomes

@@ -58,12 +58,12 @@ abbrev pub read_as : Result Course Refusal → Result Course Error
 read_as (Ok course) = Ok course
 read_as (Err refusal) = Err (refusal_of refusal)
 
--- the answer section's groups are moved, or the message ends at its beginning with this cause (RFC 6672 3.1)
-abbrev pub MovesOrEnds : ℕ → List Group → List Group → Option Cause → Type 0
-MovesOrEnds most before after (Some cause) = (message : List ℕ) (s : List Question × List Record × List Record) → groups_of s.1 ≡ before
-    → begun_by most message (Some s) ≡ Ok (beginning most message s.0 0 [] (courses.to_end (bogus_by cause by_nothing)))
-MovesOrEnds most before after None = (message : List ℕ) (s : List Question × List Record × List Record) → groups_of s.1 ≡ before
-    → begun_by most message (Some s) ≡ Ok (beginning most message s.0 (length after) (after ++ groups_of s.2) courses.to_begin)
+-- the answer section's groups are moved, by these anchors, or the message ends at its beginning with this cause (RFC 6672 3.1)
+abbrev pub MovesOrEnds : List Record → ℕ → List Group → List Group → Option Cause → Type 0
+MovesOrEnds anchors most before after (Some cause) = (message : List ℕ) (s : List Question × List Record × List Record) → groups_of s.1 ≡ before
+    → begun_by anchors most message (Some s) ≡ Ok (beginning most message s.0 0 [] (courses.to_end (bogus_by cause by_nothing)))
+MovesOrEnds anchors most before after None = (message : List ℕ) (s : List Question × List Record × List Record) → groups_of s.1 ≡ before
+    → begun_by anchors most message (Some s) ≡ Ok (beginning most message s.0 (length after) (after ++ groups_of s.2) courses.to_begin)
 
 -- a message that isn't judged any further
 abbrev pub given_up : Course → Course

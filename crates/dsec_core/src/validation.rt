@@ -58,11 +58,11 @@ impl<V: Verifier> Validation<V> {
         message: &Message,
         now: u64,
     ) -> Result<Validation<V>, Error>
-        ensures exact { Gives wants_memory (λ it. it) result (begun_as anchors config now (begun_of config.max_cname_dname message.now)) }
+        ensures exact { Gives wants_memory (λ it. it) result (begun_as anchors config now (begun_of anchors config.max_cname_dname message.now)) }
         ensures in_step { IfOk result (λ it. CourseInStep (world_by V.accepts it) (most_of it) message.now it.course) }
         ensures sound { IfOk result (λ it. SoundCourse (world_by V.accepts it) (most_of it) message.now it.course) }
     {
-        let course = begun(alloc, config.max_cname_dname(), message)?;
+        let course = begun(alloc, anchors.as_slice(), config.max_cname_dname(), message)?;
         Ok(Validation {
             anchors,
             config,

@@ -63,7 +63,7 @@ turned_asked w most message table before now next old new step i (Ok x) (r, at, 
 
 -- there is room for one question more, where a step asks one
 pub room_left : (w : World) (most : ℕ) (message : List ℕ) (table : Option Table) (before now : Outside) (course : Course) (step : CourseStep)
-    → IsAt w most message table before now course step → length (asked_in course) + asks step ≤ most_questions most message
+    → IsAt w most message table before now course step → length (asked_in course) + asks step ≤ most_questions w.anchors most message
 room_left w most message table before now course step (r, at, its, s) = by step its
   where
     held : Node → Type 0
@@ -72,10 +72,10 @@ room_left w most message table before now course step (r, at, its, s) = by step 
     same : length (asked_in r.course) ≡ length (asked_in course)
     same = ap (λ (c : Course). length (asked_in c)) at
 
-    few : length (asked_in r.course) ≤ most_questions most message
+    few : length (asked_in r.course) ≤ most_questions w.anchors most message
     few = heard_few w most message held (asked_in r.course) (λ n x. x.0) (were_heard w most message table before now r s)
 
-    one_more : (name : Place) (rtype : ℕ) → r.step ≡ ask_for name rtype → length (asked_in course) + 1 ≤ most_questions most message
+    one_more : (name : Place) (rtype : ℕ) → r.step ≡ ask_for name rtype → length (asked_in course) + 1 ≤ most_questions w.anchors most message
     one_more name rtype e =
         let h = serving_holds w most message table before now r s in
         let first : Run = first_run w s.course in
@@ -92,14 +92,14 @@ room_left w most message table before now course step (r, at, its, s) = by step 
         let m = length-append (asked_in r.course) (record { name = name; rtype = rtype; reply = None } ∷ []) in
         omega (arith, heard_few w most message held (asked_in (ran_on w r i).course) (λ n x. x.0) heard, l, m, same)
 
-    by : (y : CourseStep) → r.step ≡ y → length (asked_in course) + asks y ≤ most_questions most message
+    by : (y : CourseStep) → r.step ≡ y → length (asked_in course) + asks y ≤ most_questions w.anchors most message
     by (get_node name) e = omega (arith, few, same)
     by (put_node name n) e = omega (arith, few, same)
     by (ask_for name rtype) e = one_more name rtype e
     by (end_with x) e = omega (arith, few, same)
 
 -- at the beginning nothing has been asked
-pub first_unasked : {V : Type 0} (w : World) (most : ℕ) (message : List ℕ) (old new : Course) (step : Step V) → begun most message ≡ Ok old
+pub first_unasked : {V : Type 0} (w : World) (most : ℕ) (message : List ℕ) (old new : Course) (step : Step V) → begun w.anchors most message ≡ Ok old
     → AdvancesTo (course_advanced w old begin) new (Ok step) → length (asked_in new) ≡ 0
 first_unasked w most message old new step e a =
     ap (λ (p : Course × CourseStep). length (asked_in p.0)) a ∙ ap length (begins_unasked w most message old e)

@@ -87,7 +87,7 @@ ends_ok w most message table before now r o s e =
       counted = s.counted;
       few = refl;
       in_turn = inr (were_heard w most message table before now r s);
-      so = (refl, sound_end w most message table before now r (Ok o) s e, begun_reads most message s.course s.begins);
+      so = (refl, sound_end w most message table before now r (Ok o) s e, begun_reads w.anchors most message s.course s.begins);
       agrees = λ replies h asked. record {
         says = sym (end_so w most message table before now r replies (Ok o) s e h asked);
         holds = held_so w most message table before now r replies s h asked;
@@ -106,7 +106,7 @@ ends_refused w most message table before now r s e =
       counted = s.counted;
       few = refl;
       in_turn = inr (were_heard w most message table before now r s);
-      so = (begun_reads most message s.course s.begins, (sound_end w most message table before now r (Err not_one_question) s e).1);
+      so = (begun_reads w.anchors most message s.course s.begins, (sound_end w most message table before now r (Err not_one_question) s e).1);
       agrees = λ replies h asked. record {
         says = ap answer_of (sym (end_so w most message table before now r replies (Err not_one_question) s e h asked));
         holds = held_so w most message table before now r replies s h asked;
@@ -149,7 +149,7 @@ ends_at_a_question w most message table before now next r course s same a f wait
     record { call = call; hands_on = none_while_waiting (moment w) course waits }
 
 -- a message that can't be read
-pub ends_unread : (w : World) (most : ℕ) (message : List ℕ) (table : Option Table) (before : Outside) → begun most message ≡ Err unreadable
+pub ends_unread : (w : World) (most : ℕ) (message : List ℕ) (table : Option Table) (before : Outside) → begun w.anchors most message ≡ Err unreadable
     → IsJudging w most message table before before (record { answer = Err ParseError; groups = None })
 ends_unread w most message table before e =
     let call : IsCall w most message table before before (Err ParseError) = record {
@@ -158,7 +158,7 @@ ends_unread w most message table before e =
       counted = counted_none table before;
       few = refl;
       in_turn = inl refl;
-      so = ((begun_refused most message unreadable e).none, refl);
+      so = ((begun_refused w.anchors most message unreadable e).none, refl);
       agrees = λ replies h asked. record { says = ap answer_of (refused_alone w most replies message unreadable e); holds = h };
     } in
     record { call = call; hands_on = refl }
@@ -186,20 +186,20 @@ groups_after w held (i ∷ inputs) r h = groups_after w held inputs (ran_on w r 
 
 -- the questions that a message has heard are at most 255 for each of its groups
 pub heard_few : (w : World) (most : ℕ) (message : List ℕ) (held : Node → Type 0) (asked : List Asked) → ((n : Node) → held n → Kept w.accepts n)
-    → WereHeard w most message held asked → length asked ≤ most_questions most message
+    → WereHeard w most message held asked → length asked ≤ most_questions w.anchors most message
 heard_few w most message held asked kept t =
     let r = after_heard w (first_run w t.course) t.inputs in
     let h : HoldsRun w most message held r = heard_holds w most message held t.inputs (first_run w t.course) kept (run_begins w most message held t.course kept t.begins) t.heard in
     let same : groups_in r.course ≡ groups_in t.course =
-    groups_after w held t.inputs (first_run w t.course) t.heard ∙ groups_stay w t.course begin (begun_waits most message t.course t.begins).begins in
+    groups_after w held t.inputs (first_run w t.course) t.heard ∙ groups_stay w t.course begin (begun_waits w.anchors most message t.course t.begins).begins in
     let lengths : length (groups_in r.course) ≡ length (groups_in t.course) = ap length same in
-    let counts : count_of (begun most message) ≡ length (groups_in t.course) = ap count_of t.begins in
+    let counts : count_of (begun w.anchors most message) ≡ length (groups_in t.course) = ap count_of t.begins in
     let are : length asked ≡ length (asked_in r.course) = ap length t.are in
     omega (arith, run_asks w most message held r h, lengths, counts, are)
 
 -- A verdict's questions are at most 255 for each group of its message
 pub call_few : (w : World) (most : ℕ) (message : List ℕ) (table : Option Table) (before after : Outside) (answer : Result Verdict Error)
-    → IsCall w most message table before after answer → IfOk answer (λ v. v.questions ≤ most_questions most message)
+    → IsCall w most message table before after answer → IfOk answer (λ v. v.questions ≤ most_questions w.anchors most message)
 call_few w most message table before after (Err e) c = tt
 call_few w most message table before after (Ok v) c = elim c.in_turn [
   | inl none ↦ let l : length c.asked ≡ 0 = ap length none in omega (arith, l, c.so.0)

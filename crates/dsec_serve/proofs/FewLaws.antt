@@ -60,34 +60,34 @@ groups_few section =
     let l = length-map (firsts of_one_group section) (λ first. Rattle.dsec_spec.specs.Groups.group_of first (filter (of_one_group first) section)) in
     omega (arith, l, firsts_few of_one_group section)
 
-staying_few : (groups gs : List Group) (n : ℕ) → length (staying_from groups n gs) ≤ length gs
+staying_few : (anchors : List Record) (groups gs : List Group) (n : ℕ) → length (staying_from anchors groups n gs) ≤ length gs
 unfolding staying_from
-staying_few groups [] n = omega arith
-staying_few groups (g ∷ gs) n = by (is_some (followed groups g)) (staying_few groups gs (suc n))
+staying_few anchors groups [] n = omega arith
+staying_few anchors groups (g ∷ gs) n = by (is_some (followed anchors groups g)) (staying_few anchors groups gs (suc n))
   where
-    by : (b : Bool) → length (staying_from groups (suc n) gs) ≤ length gs
-        → length (cond {A = List Group} b [] (with_followers g (followers groups n) ∷ []) ++ staying_from groups (suc n) gs) ≤ suc (length gs)
+    by : (b : Bool) → length (staying_from anchors groups (suc n) gs) ≤ length gs
+        → length (cond {A = List Group} b [] (with_followers g (followers anchors groups n) ∷ []) ++ staying_from anchors groups (suc n) gs) ≤ suc (length gs)
     by true h = omega (arith, h)
     by false h = omega (arith, h)
 
-moved_few : (most : ℕ) (groups answers : List Group) → moved most groups ≡ Some answers → length answers ≤ length groups
-moved_few most groups answers e = by (has_too_many most groups) e
+moved_few : (anchors : List Record) (most : ℕ) (groups answers : List Group) → moved anchors most groups ≡ Some answers → length answers ≤ length groups
+moved_few anchors most groups answers e = by (has_too_many most groups) e
   where
-    by : (b : Bool) → cond {A = Option (List Group)} b None (Some (staying_from groups 0 groups)) ≡ Some answers → length answers ≤ length groups
+    by : (b : Bool) → cond {A = Option (List Group)} b None (Some (staying_from anchors groups 0 groups)) ≡ Some answers → length answers ≤ length groups
     by true f = absurd cc
     by false f =
-        let same : staying_from groups 0 groups ≡ answers = cc in
-        subst (λ (gs : List Group). length gs ≤ length groups) same (staying_few groups groups 0)
+        let same : staying_from anchors groups 0 groups ≡ answers = cc in
+        subst (λ (gs : List Group). length gs ≤ length groups) same (staying_few anchors groups groups 0)
 
 abbrev begins : Course → Result Course Refusal
 begins c = Ok c
 
 -- no more groups are to be judged than the sections have records
-left_few : (most : ℕ) (message : List ℕ) (s : List Question × List Record × List Record) (c : Course) → begun_by most message (Some s) ≡ Ok c
+left_few : (anchors : List Record) (most : ℕ) (message : List ℕ) (s : List Question × List Record × List Record) (c : Course) → begun_by anchors most message (Some s) ≡ Ok c
     → length c.left ≤ length s.1 + length s.2
-left_few most message s c e = by_moved (moved most (groups_of s.1)) refl e
+left_few anchors most message s c e = by_moved (moved anchors most (groups_of s.1)) refl e
   where
-    by_moved : (o : Option (List Group)) → moved most (groups_of s.1) ≡ o → begins (begun_with most message s.0 o (groups_of s.2)) ≡ Ok c
+    by_moved : (o : Option (List Group)) → moved anchors most (groups_of s.1) ≡ o → begins (begun_with most message s.0 o (groups_of s.2)) ≡ Ok c
         → length c.left ≤ length s.1 + length s.2
     by_moved None m f =
         let same : begun_with most message s.0 None (groups_of s.2) ≡ c = cc in
@@ -97,14 +97,14 @@ left_few most message s c e = by_moved (moved most (groups_of s.1)) refl e
         let same : begun_with most message s.0 (Some answers) (groups_of s.2) ≡ c = cc in
         let l = ap (λ (x : Course). length x.left) same in
         let parts = length-append answers (groups_of s.2) in
-        omega (arith, l, parts, moved_few most (groups_of s.1) answers m, groups_few s.1, groups_few s.2)
+        omega (arith, l, parts, moved_few anchors most (groups_of s.1) answers m, groups_few s.1, groups_few s.2)
 
 -- A message has no more groups than its header says records of both sections
-pub groups_counted : (most : ℕ) (message : List ℕ) (h : Header) → header_of message ≡ Some h → count_of (begun most message) ≤ h.answers + h.authorities
-groups_counted most message h is = by (begun most message) refl
+pub groups_counted : (anchors : List Record) (most : ℕ) (message : List ℕ) (h : Header) → header_of message ≡ Some h → count_of (begun anchors most message) ≤ h.answers + h.authorities
+groups_counted anchors most message h is = by (begun anchors most message) refl
   where
-    by_sections : (c : Course) → begun most message ≡ Ok c → (o : Option (List Question × List Record × List Record)) → sections_of message ≡ o
-        → begun_by most message o ≡ Ok c → length c.left ≤ h.answers + h.authorities
+    by_sections : (c : Course) → begun anchors most message ≡ Ok c → (o : Option (List Question × List Record × List Record)) → sections_of message ≡ o
+        → begun_by anchors most message o ≡ Ok c → length c.left ≤ h.answers + h.authorities
     by_sections c e None f g = absurd cc
     by_sections c e (Some s) f g =
         let authorities = from_bind (authorities_of message) _ s f in
@@ -113,10 +113,10 @@ groups_counted most message h is = by (begun most message) refl
         let same : (questions.0.0, answers.0.0, authorities.0.0) ≡ s = cc in
         let a = ap (λ (x : List Question × List Record × List Record). length x.1) same in
         let b = ap (λ (x : List Question × List Record × List Record). length x.2) same in
-        omega (arith, left_few most message s c g, a, b, answers_few message h answers.0 is answers.1, authorities_few message h authorities.0 is authorities.1)
+        omega (arith, left_few anchors most message s c g, a, b, answers_few message h answers.0 is answers.1, authorities_few message h authorities.0 is authorities.1)
 
-    by : (r : Result Course Refusal) → begun most message ≡ r → count_of r ≤ h.answers + h.authorities
+    by : (r : Result Course Refusal) → begun anchors most message ≡ r → count_of r ≤ h.answers + h.authorities
     by (Err e) f = omega arith
     by (Ok c) f =
-        let l = ap length (begun_waits most message c f).groups_are in
+        let l = ap length (begun_waits anchors most message c f).groups_are in
         omega (arith, l, by_sections c f (sections_of message) refl f)

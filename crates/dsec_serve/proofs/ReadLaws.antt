@@ -17,10 +17,10 @@ abbrev Sections : Type 0
 Sections = List Question × List Record × List Record
 
 -- what has begun can be read
-pub begun_reads : (most : ℕ) (message : List ℕ) (c : Course) → begun most message ≡ Ok c → IsReadable message
-begun_reads most message c e = by (sections_of message) refl e
+pub begun_reads : (anchors : List Record) (most : ℕ) (message : List ℕ) (c : Course) → begun anchors most message ≡ Ok c → IsReadable message
+begun_reads anchors most message c e = by (sections_of message) refl e
   where
-    by : (x : Option Sections) → sections_of message ≡ x → begun_by most message x ≡ Ok c → IsReadable message
+    by : (x : Option Sections) → sections_of message ≡ x → begun_by anchors most message x ≡ Ok c → IsReadable message
     by None f g = absurd cc
     by (Some (questions, answers, authorities)) f g = record { questions = questions; answers = answers; authorities = authorities; read = f }
 

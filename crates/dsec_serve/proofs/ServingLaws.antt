@@ -49,15 +49,15 @@ unasked_begin (to_end x) = refl
 unasked_begin (for_walk group s) = refl
 unasked_begin for_nothing = refl
 
-pub begins_unasked : (w : World) (most : ℕ) (message : List ℕ) (c : Course) → begun most message ≡ Ok c → asked_in (first_run w c).course ≡ []
+pub begins_unasked : (w : World) (most : ℕ) (message : List ℕ) (c : Course) → begun w.anchors most message ≡ Ok c → asked_in (first_run w c).course ≡ []
 begins_unasked w most message c e =
-    let n = begun_waits most message c e in
+    let n = begun_waits w.anchors most message c e in
     asked_grows w most message c begin (begun_sound w most message c e) n.begins
     ∙ (ap (λ (qs : List Asked). asked_in c ++ qs) (unasked_begin c.waits)
     ∙ (append-nil (asked_in c) ∙ ap (λ (ws : List Walking). flat_map (λ (s : Walking). s.asked) ws) n.no_walks))
 
 -- a message begins
-pub serving_begins : (w : World) (most : ℕ) (message : List ℕ) (table : Option Table) (before : Outside) (c : Course) → begun most message ≡ Ok c
+pub serving_begins : (w : World) (most : ℕ) (message : List ℕ) (table : Option Table) (before : Outside) (c : Course) → begun w.anchors most message ≡ Ok c
     → IsServing w most message table before before (first_run w c)
 serving_begins w most message table before c e = record {
   course = c;

@@ -13,7 +13,7 @@ use Rattle.dsec_found.specs.declared.error.Error.TheVariants.{FormError, ParseEr
 use Rattle.dsec_found.specs.Errors.{wants_memory}
 use Rattle.dsec_course.specs.Course.{Course}
 use Rattle.dsec_course.specs.Advancing.{begun}
-use Rattle.dsec_course.proofs.BeginningLaws.{begun_refused}
+use Rattle.dsec_course.proofs.BeginningLaws.{begun_refused, unreadable_refused}
 use Rattle.dsec_cut.specs.Cuts.{to_rewrite}
 use Rattle.dsec_core.specs.Validating.{Validating, begun_as, most_of, with_course, world_by}
 use Rattle.dsec_serve.specs.Outside.{Outside}
@@ -23,16 +23,16 @@ use Rattle.dsec_serve.proofs.CallLaws.{ends_unread, ends_unbegun}
 
 -- what was started has these parts, and is begun
 pub record IsStarted (anchors : List Record) (config : Settings) (moment : ℕ) (message : List ℕ) (it : Validating) : Type 0 where
-  pub begins : begun config.max_cname_dname message ≡ Ok it.course
+  pub begins : begun anchors config.max_cname_dname message ≡ Ok it.course
   pub same_anchors : it.anchors ≡ anchors
   pub same_config : it.config ≡ config
   pub same_moment : it.moment ≡ moment
 
 pub started : (anchors : List Record) (config : Settings) (moment : ℕ) (message : List ℕ) (it : Validating)
-    → begun_as anchors config moment (begun config.max_cname_dname message) ≡ Ok it → IsStarted anchors config moment message it
-started anchors config moment message it e = by (begun config.max_cname_dname message) refl e
+    → begun_as anchors config moment (begun anchors config.max_cname_dname message) ≡ Ok it → IsStarted anchors config moment message it
+started anchors config moment message it e = by (begun anchors config.max_cname_dname message) refl e
   where
-    by : (r : Result Course Refusal) → begun config.max_cname_dname message ≡ r → begun_as anchors config moment r ≡ Ok it
+    by : (r : Result Course Refusal) → begun anchors config.max_cname_dname message ≡ r → begun_as anchors config moment r ≡ Ok it
         → IsStarted anchors config moment message it
     by (Err x) f g = absurd cc
     by (Ok c) f g =
@@ -73,46 +73,49 @@ started_judged accepts anchors config moment message it last table before after 
 pub started_from : (own anchors : List Record) (config : Settings) (moment : ℕ) (message : List ℕ) (it : Validating) → own ≡ anchors
     → IsStarted own config moment message it → IsStarted anchors config moment message it
 started_from own anchors config moment message it e s =
-    record { begins = s.begins; same_anchors = s.same_anchors ∙ e; same_config = s.same_config; same_moment = s.same_moment }
+    record { begins = subst (λ (x : List Record). begun x config.max_cname_dname message ≡ Ok it.course) e s.begins; same_anchors = s.same_anchors ∙ e; same_config = s.same_config; same_moment = s.same_moment }
 
 -- what was started has begun by its own settings
 pub started_begins : (anchors : List Record) (config : Settings) (moment : ℕ) (message : List ℕ) (it : Validating)
-    → IsStarted anchors config moment message it → begun (most_of it) message ≡ Ok it.course
+    → IsStarted anchors config moment message it → begun it.anchors (most_of it) message ≡ Ok it.course
 started_begins anchors config moment message it s =
-    subst (λ (x : Settings). begun x.max_cname_dname message ≡ Ok it.course) (sym s.same_config) s.begins
+    subst (λ (x : List Record). begun x (most_of it) message ≡ Ok it.course) (sym s.same_anchors)
+    (subst (λ (x : Settings). begun anchors x.max_cname_dname message ≡ Ok it.course) (sym s.same_config) s.begins)
 
 -- a message isn't started for no other reason than that it can't be read
 only_unreadable : (anchors : List Record) (config : Settings) (moment : ℕ) (message : List ℕ) (e : Error) → (ParseError ≡ e → ⊥) → (r : Result Course Refusal)
-    → begun config.max_cname_dname message ≡ r → begun_as anchors config moment r ≡ Err e → ⊥
+    → begun anchors config.max_cname_dname message ≡ r → begun_as anchors config moment r ≡ Err e → ⊥
 only_unreadable anchors config moment message e other (Ok c) f g = absurd cc
 only_unreadable anchors config moment message e other (Err unreadable) f g = other (let same : ParseError ≡ e = cc in same)
 only_unreadable anchors config moment message e other (Err not_one_question) f g =
-    let u = (begun_refused config.max_cname_dname message not_one_question f).refusal in absurd cc
+    let u = (begun_refused anchors config.max_cname_dname message not_one_question f).refusal in absurd cc
 
 -- a message that wasn't started
 pub unstarted : (w : World) (anchors : List Record) (config : Settings) (moment : ℕ) (message : List ℕ) (table : Option Table) (before : Outside) (e : Error)
-    → OnFalse (wants_memory e) (begun_as anchors config moment (begun config.max_cname_dname message) ≡ Err e)
+    → OnFalse (wants_memory e) (begun_as anchors config moment (begun anchors config.max_cname_dname message) ≡ Err e)
     → IsJudging w config.max_cname_dname message table before before (record { answer = Err e; groups = None })
 unstarted w anchors config moment message table before NoMemory h = ends_unbegun w config.max_cname_dname message table before
 unstarted w anchors config moment message table before ParseError h =
-    by (begun config.max_cname_dname message) refl h
+    by (begun anchors config.max_cname_dname message) refl h
   where
-    by : (r : Result Course Refusal) → begun config.max_cname_dname message ≡ r → begun_as anchors config moment r ≡ Err ParseError
+    by : (r : Result Course Refusal) → begun anchors config.max_cname_dname message ≡ r → begun_as anchors config moment r ≡ Err ParseError
         → IsJudging w config.max_cname_dname message table before before (record { answer = Err ParseError; groups = None })
     by (Ok c) f g = absurd cc
-    by (Err unreadable) f g = ends_unread w config.max_cname_dname message table before f
+    by (Err unreadable) f g =
+        ends_unread w config.max_cname_dname message table before
+        (unreadable_refused w.anchors config.max_cname_dname message (begun_refused anchors config.max_cname_dname message unreadable f).none)
     by (Err not_one_question) f g = absurd cc
 unstarted w anchors config moment message table before FormError h =
-    absurd (only_unreadable anchors config moment message FormError (λ e. cc) (begun config.max_cname_dname message) refl h)
+    absurd (only_unreadable anchors config moment message FormError (λ e. cc) (begun anchors config.max_cname_dname message) refl h)
 unstarted w anchors config moment message table before (InplaceError x) h =
-    absurd (only_unreadable anchors config moment message (InplaceError x) (λ e. cc) (begun config.max_cname_dname message) refl h)
+    absurd (only_unreadable anchors config moment message (InplaceError x) (λ e. cc) (begun anchors config.max_cname_dname message) refl h)
 unstarted w anchors config moment message table before OctetsConversion h =
-    absurd (only_unreadable anchors config moment message OctetsConversion (λ e. cc) (begun config.max_cname_dname message) refl h)
+    absurd (only_unreadable anchors config moment message OctetsConversion (λ e. cc) (begun anchors config.max_cname_dname message) refl h)
 unstarted w anchors config moment message table before PushError h =
-    absurd (only_unreadable anchors config moment message PushError (λ e. cc) (begun config.max_cname_dname message) refl h)
+    absurd (only_unreadable anchors config moment message PushError (λ e. cc) (begun anchors config.max_cname_dname message) refl h)
 unstarted w anchors config moment message table before PushNameError h =
-    absurd (only_unreadable anchors config moment message PushNameError (λ e. cc) (begun config.max_cname_dname message) refl h)
+    absurd (only_unreadable anchors config moment message PushNameError (λ e. cc) (begun anchors config.max_cname_dname message) refl h)
 unstarted w anchors config moment message table before ReadError h =
-    absurd (only_unreadable anchors config moment message ReadError (λ e. cc) (begun config.max_cname_dname message) refl h)
+    absurd (only_unreadable anchors config moment message ReadError (λ e. cc) (begun anchors config.max_cname_dname message) refl h)
 unstarted w anchors config moment message table before ShortMessage h =
-    absurd (only_unreadable anchors config moment message ShortMessage (λ e. cc) (begun config.max_cname_dname message) refl h)
+    absurd (only_unreadable anchors config moment message ShortMessage (λ e. cc) (begun anchors config.max_cname_dname message) refl h)

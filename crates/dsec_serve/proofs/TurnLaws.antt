@@ -88,7 +88,7 @@ unanswered w most message table before now next old step (r, at, its, s) one sam
 
 -- the beginning
 pub first_turned : {V : Type 0} (w : World) (most : ℕ) (message : List ℕ) (table : Option Table) (before : Outside) (old new : Course)
-    (result : Result (Step V) Error) → begun most message ≡ Ok old → AdvancesTo (course_advanced w old begin) new result
+    (result : Result (Step V) Error) → begun w.anchors most message ≡ Ok old → AdvancesTo (course_advanced w old begin) new result
     → ComesTo w most message table before before new result
 first_turned w most message table before old new result e f =
     comes_by w most message table before before (first_run w old) new result (serving_begins w most message table before old e) f

@@ -1,6 +1,7 @@
 -- What a call promises that judges a message over caches and an upstream (RFC 4033 5, RFC 4035 4.3, 4.5, 5).
 use Rattle.std.specs.Prelude.{◌≡◌, ◌⊎◌, ◌≤◌, ◌*◌, ℕ, List, [], ◌∷◌, length, Option, Some, None, Result, Ok, Err}
 use Rattle.dsec_spec.specs.Outside.{Table}
+use Rattle.dsec_spec.specs.Records.{Record}
 use Rattle.dsec_spec.specs.Messages.{Question, questions_of}
 use Rattle.dsec_nodes.specs.World.{World, Replies}
 use Rattle.dsec_nodes.specs.Nodes.{Node}
@@ -23,7 +24,7 @@ use Rattle.dsec_serve.specs.Outside.{Outside, AreCounted, WasHeld, HoldsTable}
 -- began or were put on the way (RFC 4035 4.3)
 pub record WereHeard (w : World) (most : ℕ) (message : List ℕ) (held : Node → Type 0) (asked : List Asked) : Type 0 where
   pub course : Course
-  pub begins : begun most message ≡ Ok course
+  pub begins : begun w.anchors most message ≡ Ok course
   pub inputs : List Input
   pub heard : AreHeard w held (first_run w course) inputs
   pub are : asked ≡ asked_in (after_heard w (first_run w course) inputs).course
@@ -74,8 +75,8 @@ count_of (Ok c) = length (groups_in c)
 count_of (Err e) = 0
 
 -- how many questions a message takes at most: 255 for each of its groups (RFC 1035 2.3.4, RFC 4035 5.2)
-abbrev pub most_questions : ℕ → List ℕ → ℕ
-most_questions most message = 255 * count_of (begun most message)
+abbrev pub most_questions : List Record → ℕ → List ℕ → ℕ
+most_questions anchors most message = 255 * count_of (begun anchors most message)
 
 -- the errors that a call on a message answers (RFC 1035 4.1)
 abbrev pub CanCome : Result Verdict Error → Type 0

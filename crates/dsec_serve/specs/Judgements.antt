@@ -37,7 +37,7 @@ judgement_at w c answer = record { answer = answer; groups = to_rewrite (moment 
 -- and these are the groups by which the message is rewritten (RFC 4035 4.3, 5.3.3)
 pub record IsToRewrite (w : World) (most : ℕ) (message : List ℕ) (held : Node → Type 0) (asked : List Asked) (end : Result Outcome Refusal) (groups : Option Both) : Type 0 where
   pub course : Course
-  pub begins : begun most message ≡ Ok course
+  pub begins : begun w.anchors most message ≡ Ok course
   pub inputs : List Input
   pub heard : AreHeard w held (first_run w course) inputs
   pub are : asked ≡ asked_in (after_heard w (first_run w course) inputs).course

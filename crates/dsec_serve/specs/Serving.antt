@@ -12,7 +12,7 @@ use Rattle.dsec_serve.specs.Outside.{Outside, AreCounted, WasHeld, HoldsMore}
 -- counted, and what is held now was held then or was put
 pub record IsServing (w : World) (most : ℕ) (message : List ℕ) (table : Option Table) (before now : Outside) (r : Run) : Type 0 where
   pub course : Course
-  pub begins : begun most message ≡ Ok course
+  pub begins : begun w.anchors most message ≡ Ok course
   pub inputs : List Input
   pub heard : AreHeard w (WasHeld w.accepts before.held) (first_run w course) inputs
   pub comes_to : after_heard w (first_run w course) inputs ≡ r

@@ -1,6 +1,7 @@
 //! Messages judged over caches, a memo and an upstream (RFC 4033 5, RFC 4035 4.3, 4.5, 5).
 
 ghost use Rattle.std.specs.Prelude.{◌≡◌, ◌<◌, ◌≤◌, ℕ, List, length, ⊤, None, Ok, IfOk, IfSome, true};
+ghost use Rattle.dsec_spec.specs.Records as records;
 ghost use Rattle.dsec_nodes.specs.Alone.{sections_of};
 ghost use Rattle.dsec_nodes.specs.Outcomes.{secure};
 ghost use Rattle.dsec_nodes.specs.SoundOutcomes.{IsJustified};
@@ -61,7 +62,7 @@ pub fn judge_in<V: Verifier, C: Caches<V>, M: Memo<V>, U: Upstream>(
     ensures unreadable { sections_of message.now ≡ None → RefusedOrNoMemory ParseError result.answer }
     ensures not_one { HasNotOneQuestion message.now → RefusedOrBogus FormError result.answer }
     ensures refusals { CanCome result.answer }
-    ensures few { IfOk result.answer (λ v. v.questions ≤ most_questions config.now.max_cname_dname message.now) }
+    ensures few { IfOk result.answer (λ v. v.questions ≤ most_questions anchors.now config.now.max_cname_dname message.now) }
     ensures groups_sound { IfSome result.groups (λ both. AreJudged (world_of V.accepts anchors.now (bounds_of config.now) now) config.now.max_cname_dname message.now both) }
     ensures groups_told { IfSome (U.table upstream.old) (λ t. HoldsTable (world_of V.accepts anchors.now (bounds_of config.now) now) (replies_of t) (C.held caches.old)
         → GroupsAgree (world_of V.accepts anchors.now (bounds_of config.now) now) config.now.max_cname_dname (replies_of t) message.now result) }
@@ -123,7 +124,7 @@ fn anchors_copy(alloc: Global, anchors: &TrustAnchors) -> Result<TrustAnchors, N
 
 /// How many questions a message takes at most: its header has two octets for the number of records of each section (RFC 1035 4.1.1).
 fn most_asked(message: &Message) -> u32
-    ensures enough { (most : ℕ) → most_questions most message.now ≤ result }
+    ensures enough { (anchors : List records.Record) (most : ℕ) → most_questions anchors most message.now ≤ result }
     ensures few { result ≤ 33422850 }
 {
     let header = message.header();
@@ -139,8 +140,8 @@ fn begin<V: Verifier, C: Caches<V>, M: Memo<V>, U: Upstream, L: Ledger>(
     upstream: &mut U,
     steps: &mut Steps<L>,
 ) -> Result<Verdict<V>, Error>
-    requires begun { (message : List ℕ) × (begun (most_of validation.old) message ≡ Ok validation.old.course) × (most_questions (most_of validation.old) message ≤ 33422850) }
-    ensures judging { (message : List ℕ) → begun (most_of validation.old) message ≡ Ok validation.old.course
+    requires begun { (message : List ℕ) × (begun validation.old.anchors (most_of validation.old) message ≡ Ok validation.old.course) × (most_questions validation.old.anchors (most_of validation.old) message ≤ 33422850) }
+    ensures judging { (message : List ℕ) → begun validation.old.anchors (most_of validation.old) message ≡ Ok validation.old.course
         → IsJudging (world_by V.accepts validation.old) (most_of validation.old) message (U.table upstream.old)
         (record { held = C.held caches.old; asked = U.asked upstream.old; faults = U.faults upstream.old })
         (record { held = C.held caches.new; asked = U.asked upstream.new; faults = U.faults upstream.new }) (judgement_at (world_by V.accepts validation.old) validation.new.course result) }
@@ -165,7 +166,7 @@ fn finish<V: Verifier, C: Caches<V>, M: Memo<V>, U: Upstream, L: Ledger>(
 ) -> Result<Verdict<V>, Error>
     requires unasked { length (asked_in validation.old.course) ≡ 0 }
     requires at { (most : ℕ) × (message : List ℕ) × (before : Outside)
-        × IsAt (world_by V.accepts validation.old) most message (U.table upstream.old) before (record { held = C.held caches.old; asked = U.asked upstream.old; faults = U.faults upstream.old }) validation.old.course (step_view step) × (most_questions most message ≤ 33422850) }
+        × IsAt (world_by V.accepts validation.old) most message (U.table upstream.old) before (record { held = C.held caches.old; asked = U.asked upstream.old; faults = U.faults upstream.old }) validation.old.course (step_view step) × (most_questions validation.old.anchors most message ≤ 33422850) }
     ensures judging { (most : ℕ) (message : List ℕ) (before : Outside)
         → IsAt (world_by V.accepts validation.old) most message (U.table upstream.old) before (record { held = C.held caches.old; asked = U.asked upstream.old; faults = U.faults upstream.old }) validation.old.course (step_view step)
         → IsJudging (world_by V.accepts validation.old) most message (U.table upstream.old) before

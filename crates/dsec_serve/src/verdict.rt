@@ -2,8 +2,8 @@
 
 ghost use Rattle.std.specs.Prelude.{◌≡◌};
 
+use dsec_core::Outcome;
 use dsec_crypto::Verifier;
-use dsec_outcome::Outcome;
 use std::marker::Model;
 
 /// What a message comes to, and how many questions were asked for it.

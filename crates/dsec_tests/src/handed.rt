@@ -7,7 +7,7 @@ use crate::vectors::{
     ONCE_ASKED_TWICE, SINGLE, SINGLE_BROKEN, TOO_SHORT, TWICE, TWICE_ASKED_TWICE, TWICE_BROKEN,
 };
 use dsec_anchors::TrustAnchors;
-use dsec_context::{Error, ValidationContext};
+use dsec_answer::{Error, ValidationContext};
 use dsec_crypto::StandIn;
 use dsec_group::ValidationState;
 use dsec_outside::TableUpstream;

@@ -18,27 +18,29 @@ use dsec_group::{Group, GroupSet, GroupedSections, Seed, read_groups};
 use dsec_name::NoMemory;
 use dsec_number::Rcode;
 use dsec_outcome::Outcome;
-use dsec_wire::{Message, Question};
+use dsec_wire::{Message, Question, Record};
 use std::alloc::Global;
 use std::collections::VecDeque;
 
-/// A message read, of which so many bare CNAME records are followed, and so many aliases.
+/// A message read, to be judged from these anchors, of which so many bare CNAME records are followed, and so many aliases.
 pub(crate) fn begun<V: Verifier>(
     alloc: Global,
+    anchors: &[Record],
     most: u8,
     message: &Message,
 ) -> Result<Course<V>, Error>
-    ensures { Gives wants_memory (λ course. course) result (read_as (begun_of most message.now)) }
+    ensures { Gives wants_memory (λ course. course) result (read_as (begun_of anchors.now most message.now)) }
 {
     let (sections, at) = read_groups(alloc, message, Seed::of_message(message))?;
     let rcode = message.rcode_before(alloc, at)?;
     let octets = octets_of(alloc, message)?;
-    Ok(by_groups(alloc, most, octets, rcode, sections)?)
+    Ok(by_groups(alloc, anchors, most, octets, rcode, sections)?)
 }
 
 /// The same by the groups of the sections.
 fn by_groups<V: Verifier>(
     alloc: Global,
+    anchors: &[Record],
     most: u8,
     octets: Vec<u8>,
     rcode: Rcode,
@@ -46,7 +48,7 @@ fn by_groups<V: Verifier>(
 ) -> Result<Course<V>, NoMemory>
     requires { rcode_of octets.items ≡ Some rcode }
     ensures { (sections : Sections) → groups ≡ in_groups sections
-        → IfOk result (λ course. Ok course ≡ begun_by most octets.items (Some (sections.question, sections.answer, sections.authority))) }
+        → IfOk result (λ course. Ok course ≡ begun_by anchors.now most octets.items (Some (sections.question, sections.answer, sections.authority))) }
 {
     let GroupedSections {
         question,
@@ -55,7 +57,7 @@ fn by_groups<V: Verifier>(
     } = groups;
     let questions = question.into_vec();
     let mut answers = answer;
-    match moved_or_ended(most, &mut answers)? {
+    match moved_or_ended(anchors, most, &mut answers)? {
         Some(cause) => {
             let waits = Waits::ToEnd(Outcome::bogus(cause));
             Ok(beginning(
@@ -89,10 +91,14 @@ fn by_groups<V: Verifier>(
 /// The bare CNAME records of the answer section's groups are moved; or there are too many of them, and the message ends for this
 /// cause.
 #[tactic(auto, using(crate::proofs::ReadSteps::moves_or_ends))]
-fn moved_or_ended(most: u8, answers: &mut GroupSet) -> Result<Option<Cause>, NoMemory>
-    ensures { IfOk result (λ cause. MovesOrEnds most answers.old answers.new cause) }
+fn moved_or_ended(
+    anchors: &[Record],
+    most: u8,
+    answers: &mut GroupSet,
+) -> Result<Option<Cause>, NoMemory>
+    ensures { IfOk result (λ cause. MovesOrEnds anchors.now most answers.old answers.new cause) }
 {
-    answers.move_redundant_cnames(most)
+    answers.move_redundant_cnames(anchors, most)
 }
 
 /// A course with nothing behind it.

@@ -5,7 +5,7 @@ use Rattle.std.proofs.lemmas.Iterator.Consumers.{YieldsList-end, YieldsList-turn
 use Rattle.std.proofs.lemmas.Iterator.Adapters.{YieldsList-from_vec}
 use Rattle.dsec_spec.specs.Outside.{SentFront}
 use Rattle.dsec_outside.proofs.Pieces.{front_of}
-use Rattle.dsec_serve.specs.Outside.{replies_of}
+use Rattle.dsec_context.specs.Outside.{replies_of}
 use Rattle.dsec_answer.specs.Outcomes.{world_of_script, IsOutcome}
 use Rattle.dsec_answer.specs.Sending.{SoFar}
 use Rattle.dsec_answer.specs.Texts.{outcome_text}

@@ -1,6 +1,6 @@
 use Rattle.std.proofs.Common.{◌≡◌, length, take, Some}
 use Rattle.dsec_node.specs.Caches.{held_in}
-use Rattle.dsec_serve.specs.Outside.{replies_of, HoldsTable}
+use Rattle.dsec_context.specs.Outside.{replies_of, HoldsTable}
 use Rattle.dsec_answer.specs.Outcomes.{world_of_script}
 use Rattle.dsec_answer.specs.Sending.{SoFar}
 use Rattle.dsec_answer.proofs.judging.judge_all.Given as goal

@@ -11,17 +11,17 @@ returns-clause-told g c =
 pub returns-clause-complete : goal.returns-clause-complete
 returns-clause-complete g c =
     let j = c.judge_in-judgement.ensures in
-    coming.told_verdict _ _ _ _ _ _ _ _ j.complete (coming.comes _ _ _ _ _ _ _ _ j.groups_sound c.hand_on.ensures.handed)
+    coming.told_verdict _ _ _ _ _ _ _ _ _ j.complete (coming.comes _ _ _ _ _ _ _ _ j.groups_sound c.hand_on.ensures.handed)
 
 pub returns-clause-readable : goal.returns-clause-readable
 returns-clause-readable g c = λ read one.
     let j = c.judge_in-judgement.ensures in
-    coming.verdict _ _ _ _ _ (j.readable read one) (coming.comes _ _ _ _ _ _ _ _ j.groups_sound c.hand_on.ensures.handed)
+    coming.verdict _ _ _ _ _ _ (j.readable read one) (coming.comes _ _ _ _ _ _ _ _ j.groups_sound c.hand_on.ensures.handed)
 
 pub returns-clause-not_one : goal.returns-clause-not_one
 returns-clause-not_one g c = λ h.
     let j = c.judge_in-judgement.ensures in
-    coming.refusal _ _ _ _ (j.not_one h) (coming.comes _ _ _ _ _ _ _ _ j.groups_sound c.hand_on.ensures.handed)
+    coming.refusal _ _ _ _ _ (j.not_one h) (coming.comes _ _ _ _ _ _ _ _ j.groups_sound c.hand_on.ensures.handed)
 
 pub returns-clause-says : goal.returns-clause-says
 returns-clause-says g c =

@@ -1,9 +1,11 @@
-use Rattle.std.proofs.Common.{Option, Ok, sym, ap, subst, refl}
+use Rattle.std.proofs.Common.{◌≤◌, List, Option, Ok, sym, ap, subst, refl}
 use Rattle.dsec_spec.specs.Outside.{Table}
+use Rattle.dsec_spec.specs.Records.{Record}
 use Rattle.dsec_nodes.specs.World.{World}
-use Rattle.dsec_core.specs.Validating.{most_of, world_by}
+use Rattle.dsec_core.specs.Validating.{Validating, most_of, world_by}
 use Rattle.dsec_core.specs.Views.{step_view}
 use Rattle.dsec_serve.specs.Outside.{Outside}
+use Rattle.dsec_serve.specs.Calls.{most_questions}
 use Rattle.dsec_serve.specs.Judgements.{judgement_at, IsJudging}
 use Rattle.dsec_serve.specs.Turns.{ComesTo, IsAt}
 use Rattle.dsec_serve.proofs.AskedLaws.{first_unasked}
@@ -28,7 +30,7 @@ finish-requires-clause-at g c =
           (sym (ap (world_by g.V.Verifier.accepts) c.advance.ensures.same))
           (first_turned (world_by g.V.Verifier.accepts c.args.validation.now) most begun.0 (g.U.Upstream.table c.args.upstream.now) before c.args.validation.now.course
           c.advance.new.self.course (Ok c.in-Ok.step) begun.1 c.in-Ok.ensures.exact),
-      begun.2,
+      subst (λ (anchors : List Record). most_questions anchors most begun.0 ≤ 33422850) (sym (ap (λ (v : Validating). v.anchors) c.advance.ensures.same)) begun.2,
     )
 
 pub returns-in-Ok-clause-judging : goal.returns-in-Ok-clause-judging

@@ -18,7 +18,7 @@ returns-in_default-clause-judging g c =
 pub begin-answer-requires : goal.begin-answer-requires
 begin-answer-requires g c =
     let s = started c.in-Ok.own c.args.config.now c.args.now c.args.message.now c.in-Ok-start.validation c.in-Ok-start.ensures.exact in
-    let enough = c.most_asked.ensures.enough (most_of c.in-Ok-start.validation) in
+    let enough = c.most_asked.ensures.enough c.in-Ok-start.validation.anchors (most_of c.in-Ok-start.validation) in
     record {
       begun = (
         c.args.message.now,

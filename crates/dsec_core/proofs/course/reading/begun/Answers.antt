@@ -11,7 +11,7 @@ use Rattle.dsec_core.proofs.course.reading.begun.Goals as goal
 pub returns-in_err-sections : goal.returns-in_err-sections
 returns-in_err-sections g c =
     let p = err_from_is_err_and c.from_residual.result c.from_residual.ensures.1 in
-    rw (p.1, p.2) (refused c.args.most c.args.message.now c.in_err-sections.field-0.0 c.in_err-sections.ensures)
+    rw (p.1, p.2) (refused c.args.anchors.now c.args.most c.args.message.now c.in_err-sections.field-0.0 c.in_err-sections.ensures)
 
 pub by_groups-requires : goal.by_groups-requires
 by_groups-requires g c =
@@ -21,5 +21,5 @@ by_groups-requires g c =
 pub returns : goal.returns
 returns g c =
     let has = from_groups c.args.message.now (c.in_ok-sections.sections, c.in_ok-sections.at) c.in_ok-sections.ensures in
-    begun_read c.args.most c.args.message.now c.in_ok-octets.octets.items has.sections c.in_ok-by_groups.field-0 c.in_ok-octets.ensures
+    begun_read c.args.anchors.now c.args.most c.args.message.now c.in_ok-octets.octets.items has.sections c.in_ok-by_groups.field-0 c.in_ok-octets.ensures
     (ap (λ (o : Option SectionsRead). ◌>>=◌ {A = SectionsRead} {B = Sections} o (λ all. Some all.0)) has.whole) (c.in_ok-by_groups.ensures has.sections has.grouped)

@@ -8,15 +8,15 @@ pub returns-in-Some : goal.returns-in-Some
 returns-in-Some g c = λ sections same.
     let before = c.args.groups.answer in
     let after = c.moved_or_ended.new.answers in
-    let h = subst (MovesOrEnds c.args.most before after) c.in-Some.is c.in_ok-cause.ensures in
-    ends_so c.args.most c.args.octets.items (parts sections) before after c.in-Some.cause c.beginning.result c.into_vec-questions.result.items c.new.result.items c.bogus.result
+    let h = subst (MovesOrEnds c.args.anchors.now c.args.most before after) c.in-Some.is c.in_ok-cause.ensures in
+    ends_so c.args.anchors.now c.args.most c.args.octets.items (parts sections) before after c.in-Some.cause c.beginning.result c.into_vec-questions.result.items c.new.result.items c.bogus.result
     h (ap (λ (x : GroupedSections). x.answer) same) c.beginning.ensures (c.into_vec-questions.ensures ∙ ap (λ (x : GroupedSections). x.question) same) c.new.ensures.items c.bogus.ensures
 
 pub returns-in_ok-left-in-None : goal.returns-in_ok-left-in-None
 returns-in_ok-left-in-None g c = λ sections same.
     let before = c.args.groups.answer in
     let after = c.moved_or_ended.new.answers in
-    let h = subst (MovesOrEnds c.args.most before after) c.in-None.is c.in_ok-cause.ensures in
-    begins_so c.args.most c.args.octets.items (parts sections) before after c.beginning-in-None.result c.into_vec-questions.result.items c.len-count.result c.in_ok-left-in-None.left.items
+    let h = subst (MovesOrEnds c.args.anchors.now c.args.most before after) c.in-None.is c.in_ok-cause.ensures in
+    begins_so c.args.anchors.now c.args.most c.args.octets.items (parts sections) before after c.beginning-in-None.result c.into_vec-questions.result.items c.len-count.result c.in_ok-left-in-None.left.items
     h (ap (λ (x : GroupedSections). x.answer) same) c.beginning-in-None.ensures (c.into_vec-questions.ensures ∙ ap (λ (x : GroupedSections). x.question) same) c.len-count.ensures
     (c.in_ok-left-in-None.ensures ∙ ap (λ (x : GroupedSections). after ++ x.authority) same)
