@@ -28,9 +28,11 @@ impl<T: Ord + Copy> Model for DefMinMax<T> {
 }
 
 impl<T: Ord + Copy> Clone for DefMinMax<T> {
-    ghost use Rattle.std.specs.Prelude.{◌≡◌};
+    ghost use Rattle.std.specs.Prelude.{◌≡◌, ⊤};
 
     ghost is_clone = { λ it clone. clone ≡ it };
+
+    ghost is_infallible = { λ _. ⊤ };
 
     fn clone(&self) -> Result<Self, AllocError> {
         Ok(*self)
