@@ -146,6 +146,13 @@ impl Name {
         }
     }
 
+    /// Whether the names have the same octets, their letters too.
+    pub fn is_identical(&self, other: &Self) -> bool
+        ensures { IsTrue result ↔ (self.now ≡ other.now) }
+    {
+        *self.octets() == *other.octets()
+    }
+
     /// The canonical order (RFC 4034 6.1).
     pub fn canonical_cmp(&self, other: &Self) -> Ordering
         ensures { result ≡ name_cmp self.now other.now }
