@@ -1,12 +1,13 @@
 -- What a node that counts for a taker gives the taker: a zone that is held, and a chain from the taker's anchors.
 use Rattle.std.proofs.Common.{◌≡◌, ℕ, List, sym, ◌∙◌, subst, arith}
+use Rattle.std.specs.Prelude.{Contains}
 use Rattle.std.proofs.lemmas.Option.{same_Some}
 use Rattle.dsec_spec.specs.Names.{Place}
 use Rattle.dsec_spec.specs.Chain.{IsChain}
 use Rattle.dsec_nodes.specs.World.{World, moment}
 use Rattle.dsec_nodes.specs.Nodes.{Node, apex, Kept}
 use Rattle.dsec_nodes.specs.Held.{HeldZone}
-use Rattle.dsec_nodes.specs.Taking.{IsListed, Taken}
+use Rattle.dsec_nodes.specs.Taking.{Taken}
 use Rattle.dsec_nodes.proofs.AmongLaws.{chain_among}
 use Rattle.dsec_nodes.proofs.KeptLaws.{held}
 
@@ -20,4 +21,4 @@ pub counted_chain : (w : World) (top name : Place) (n : Node) (keys : List (List
 counted_chain w top name n keys kept t is =
     let zone = counted_zone w top name n keys kept t is in
     let same = same_Some t.rests.anchor zone.anchor (sym t.rests.its ∙ zone.its) in
-    chain_among w.accepts zone.anchor w.anchors n.links n.signer keys (moment w) (subst (IsListed w.anchors) same t.rests.is_listed) (zone.chain_to w.now (omega arith) (omega arith))
+    chain_among w.accepts zone.anchor w.anchors n.links n.signer keys (moment w) (subst (Contains w.anchors) same t.rests.is_listed) (zone.chain_to w.now (omega arith) (omega arith))

@@ -2,9 +2,9 @@
 
 ghost use Rattle.std.specs.Prelude.{◌≡◌, ◌↔◌, ◌≤◌, ◌+◌, IsTrue, Some};
 ghost use Rattle.std.specs.List.{list_any};
-ghost use Rattle.dsec_spec.specs.Names.{place};
+ghost use Rattle.dsec_spec.specs.Names.{place, same_place};
 ghost use Rattle.dsec_nodes.specs.Nodes.{IsBogus};
-ghost use Rattle.dsec_nodes.specs.Taking.{RestsAt, Taken, rests_at as anchor_rests, same_anchor};
+ghost use Rattle.dsec_nodes.specs.Taking.{RestsAt, Taken, rests_at as anchor_rests, same_record};
 ghost use Rattle.dsec_node.specs.Counting.{IsExpired, seconds_kept};
 ghost use Rattle.dsec_node.specs.Views.{bounds_view, world_of};
 
@@ -111,17 +111,26 @@ fn is_at(anchor: &Record, top: &Name, anchors: &[Record]) -> bool
 
 /// Whether an anchor is one of these.
 fn is_among(anchor: &Record, anchors: &[Record]) -> bool
-    ensures { result ≡ list_any (same_anchor anchor.now) anchors.now }
+    ensures { result ≡ list_any (same_record anchor.now) anchors.now }
 {
     anchors.iter().any(|one| is_same(anchor, one))
 }
 
-/// Whether two records are one anchor.
+/// Whether two records are the same, their owners' letters and their TTLs too.
 fn is_same(one: &Record, other: &Record) -> bool
-    ensures { result ≡ same_anchor one.now other.now }
+    ensures { result ≡ same_record one.now other.now }
 {
-    *one.owner() == *other.owner()
+    has_owner_of(one, other)
         && one.class() == other.class()
         && one.rtype() == other.rtype()
+        && one.ttl() == other.ttl()
         && *one.rdata().octets() == *other.rdata().octets()
+}
+
+/// Whether two records have one owner, its letters too.
+#[tactic(auto, using(dsec_spec::proofs::CanonicalNames::same_place_decides))]
+fn has_owner_of(one: &Record, other: &Record) -> bool
+    ensures { result ≡ same_place one.now.owner other.now.owner }
+{
+    one.owner().is_identical(other.owner())
 }

@@ -3,7 +3,7 @@ use Rattle.std.proofs.Common.{◌≡◌, ℕ, ◌≤◌, List, ◌∷◌, length
 use Rattle.std.specs.Prelude.{◌⊎◌, Contains, filter_map, slice_get}
 use Rattle.std.specs.List.{AllByRecursion}
 use Rattle.dsec_spec.specs.Names.{Labels, Place, place, IsAtOrBelow, IsStrictlyBelow}
-use Rattle.dsec_spec.specs.Numbers.{CNAME, DNAME, DS}
+use Rattle.dsec_spec.specs.Numbers.{CNAME, DNAME}
 use Rattle.dsec_spec.specs.Messages.{Question}
 use Rattle.dsec_spec.specs.Groups.{Group}
 use Rattle.dsec_spec.proofs.Members.{from_map, in_map}

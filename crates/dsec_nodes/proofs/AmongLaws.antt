@@ -8,14 +8,9 @@ use Rattle.dsec_spec.specs.Accepts.{Accepts}
 use Rattle.dsec_spec.specs.Chain.{Link, Holds, IsAnchor, Leads, IsChain}
 use Rattle.dsec_nodes.specs.World.{Bounds}
 use Rattle.dsec_nodes.specs.SignedCauses.{SignedCause, IsSignedCause}
-use Rattle.dsec_nodes.specs.Taking.{IsListed}
 use Rattle.dsec_nodes.specs.SoundFindings.{BeginsAt}
 use Rattle.dsec_spec.proofs.Members.{in_more, not_in_none}
 use Rattle.dsec_spec.proofs.NamesBelow.{below_itself, below_trans, at_or_below, strictly_below_trans}
-
--- an anchor that is among others is one of them
-pub listed_itself : (anchors : List Record) (anchor : Record) → Contains anchors anchor → IsListed anchors anchor
-listed_itself anchors anchor there = record { listed = anchor; there = there; same_owner = refl; same_class = refl; same_type = refl; same_data = refl }
 
 -- what is among one is that one
 only : (anchor other : Record) → Contains (anchor ∷ []) other → anchor ≡ other
@@ -25,22 +20,20 @@ only anchor other h = elim (in_more anchor other [] h) [
 ]
 
 -- an anchor alone that is one of others serves as they do
-anchor_among : (anchor : Record) (anchors : List Record) (rtype : ℕ) (owner : Place) (rdata : List ℕ) → IsListed anchors anchor
+anchor_among : (anchor : Record) (anchors : List Record) (rtype : ℕ) (owner : Place) (rdata : List ℕ) → Contains anchors anchor
     → IsAnchor (anchor ∷ []) rtype owner rdata → IsAnchor anchors rtype owner rdata
-anchor_among anchor anchors rtype owner rdata l a =
-    let same = only anchor a.anchor a.listed in
-    record {
-      anchor = l.listed;
-      listed = l.there;
-      of_class = sym l.same_class ∙ (ap (λ (x : Record). x.class) same ∙ a.of_class);
-      of_type = sym l.same_type ∙ (ap (λ (x : Record). x.rtype) same ∙ a.of_type);
-      stands_at = sym l.same_owner ∙ (ap (λ (x : Record). place x.owner) same ∙ a.stands_at);
-      says = sym l.same_data ∙ (ap (λ (x : Record). x.rdata) same ∙ a.says);
-    }
+anchor_among anchor anchors rtype owner rdata there a = record {
+  anchor = a.anchor;
+  listed = subst (Contains anchors) (only anchor a.anchor a.listed) there;
+  of_class = a.of_class;
+  of_type = a.of_type;
+  stands_at = a.stands_at;
+  says = a.says;
+}
 
 -- a chain from one of the anchors is a chain from them
 pub chain_among : (accepts : Accepts) (anchor : Record) (anchors : List Record) (links : List Link) (zone : Place) (keys : List (List ℕ)) (t : ℕ)
-    → IsListed anchors anchor → IsChain accepts (anchor ∷ []) links zone keys t → IsChain accepts anchors links zone keys t
+    → Contains anchors anchor → IsChain accepts (anchor ∷ []) links zone keys t → IsChain accepts anchors links zone keys t
 chain_among accepts anchor anchors [] zone keys t l c = absurd c
 chain_among accepts anchor anchors (first ∷ links) zone keys t l c = (
   elim c.0 [
@@ -64,7 +57,7 @@ chain_among accepts anchor anchors (first ∷ links) zone keys t l c = (
 
 -- what is shown from one of the anchors is shown from them
 pub holds_among : (accepts : Accepts) (anchor : Record) (anchors : List Record) (links : List Link) (set : RecordSet) (t : ℕ)
-    → IsListed anchors anchor → Holds accepts (anchor ∷ []) links set t → Holds accepts anchors links set t
+    → Contains anchors anchor → Holds accepts (anchor ∷ []) links set t → Holds accepts anchors links set t
 holds_among accepts anchor anchors links set t l h = record {
   chain = h.chain;
   last = h.last;

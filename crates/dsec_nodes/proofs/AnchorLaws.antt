@@ -185,7 +185,7 @@ anchored_rests w top group p g at = record {
   anchor = p.1.way;
   its = refl;
   at = g.is_admitted.stands_at ∙ at.at;
-  is_listed = record { listed = p.1.way; there = g.listed; same_owner = refl; same_class = refl; same_type = refl; same_data = refl };
+  is_listed = g.listed;
 }
 
 bogus_under : (w : World) (top : Place) (cause : Cause) → KeptUnder w top top (bogus_at w top cause)

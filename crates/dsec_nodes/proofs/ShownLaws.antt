@@ -1,6 +1,6 @@
 -- A group that is found to be shown is shown, from an anchor of its island.
 use Rattle.std.proofs.Common.{◌≡◌, ℕ, zero, suc, ◌+◌, ◌-◌, ◌==◌, Bool, true, false, cond, List, [], ◌∷◌, ◌++◌, length, take, drop, Option, Some, None, refl, sym, ap, ◌∙◌, subst, inl, inr, arith}
-use Rattle.std.specs.Prelude.{find, unwrap_or, ◌≢◌}
+use Rattle.std.specs.Prelude.{find, unwrap_or, ◌≢◌, Contains}
 use Rattle.std.proofs.lemmas.Bool.{true≢false, and_parts, eqb-false, not-true}
 use Rattle.std.proofs.lemmas.Option.{same_Some}
 use Rattle.std.proofs.lemmas.List.{take-append-drop}
@@ -21,7 +21,7 @@ use Rattle.dsec_nodes.specs.World.{World, Replies, moment}
 use Rattle.dsec_nodes.specs.Nodes.{Node, Standing, apex, within, insecure, bogus}
 use Rattle.dsec_nodes.specs.Signing.{under_keys, link_under}
 use Rattle.dsec_nodes.specs.Held.{HeldZone, GoodPair}
-use Rattle.dsec_nodes.specs.Taking.{IsListed, RestsAt}
+use Rattle.dsec_nodes.specs.Taking.{RestsAt}
 use Rattle.dsec_nodes.specs.Walk.{Reached, held_keys, goes_on, goes_on_at, after, next, way, node_of}
 use Rattle.dsec_nodes.specs.Judging.{is_shown, has_no_set, Judged, found_by, found_at, target_of, by_island, judged_of}
 use Rattle.dsec_nodes.specs.SoundFindings.{BeginsAt, IsShownSet}
@@ -100,7 +100,7 @@ target_between group top from is below = subst (λ (f : Place). IsAtOrBelow (tar
         )
 
 -- a group by a good pair of one of its signatures and a key of its zone is shown
-shown_by : (w : World) (top : Place) (group : Group) (n : Node) (keys : List (List ℕ)) (p : Record × Key) → length group.records ≢ 0
+pub shown_by : (w : World) (top : Place) (group : Group) (n : Node) (keys : List (List ℕ)) (p : Record × Key) → length group.records ≢ 0
     → island w.anchors (place group.owner) group.rtype ≡ Some top → ZoneOver w top (target_of group (Some top)) n keys
     → GoodPair w n.signer keys group p
     → IsShownSet w (record { group = group; signer = n.signer; finding = is_shown n.links (link_under chain.set keys group p) p.0 }) n.links (link_under chain.set keys group p) p.0
@@ -145,8 +145,8 @@ shown_by w top group n keys p some e z g = record {
     same_anchor : z.zone_held.anchor ≡ z.zone_rests.anchor
     same_anchor = same_Some _ _ (sym z.zone_held.its ∙ z.zone_rests.its)
 
-    listed : IsListed w.anchors z.zone_held.anchor
-    listed = subst (IsListed w.anchors) (sym same_anchor) z.zone_rests.is_listed
+    listed : Contains w.anchors z.zone_held.anchor
+    listed = subst (Contains w.anchors) (sym same_anchor) z.zone_rests.is_listed
 
     above : group.rtype ≡ DS → place group.owner ≢ [] → IsStrictlyBelow (place group.owner) n.signer
     above is_ds below_root =

@@ -1,48 +1,59 @@
 -- A node counts for a taker exactly where it passes the taker's tests.
 use Rattle.std.proofs.Common.{◌≡◌, ℕ, ◌+◌, Bool, true, false, List, Option, Some, None, refl, sym, ap, ◌∙◌, subst}
+use Rattle.std.specs.Prelude.{Contains}
 use Rattle.std.specs.List.{list_any}
 use Rattle.std.proofs.Math.Bool.{not}
 use Rattle.std.specs.Bool.{Decides}
 use Rattle.std.proofs.lemmas.Bool.{false≢true, and_parts, and_from, eqb-true, eq-eqb, leb-true, le-leb, not-true}
 use Rattle.std.proofs.lemmas.Slice.Eq.{bytes_eq-Decides}
-use Rattle.dsec_spec.specs.Names.{Place, place}
+use Rattle.dsec_spec.specs.Names.{Labels, Place, place}
 use Rattle.dsec_spec.specs.Records.{Record}
 use Rattle.dsec_spec.proofs.CanonicalNames.{same_place_decides}
 use Rattle.dsec_spec.proofs.Members.{none_passes, some_passes}
 use Rattle.dsec_nodes.specs.World.{World, Bounds}
 use Rattle.dsec_nodes.specs.Nodes.{Node, IsBogus}
-use Rattle.dsec_nodes.specs.Taking.{same_anchor, rests_at, same_bounds, counts, IsListed, RestsAt, Taken}
+use Rattle.dsec_nodes.specs.Taking.{same_record, rests_at, same_bounds, counts, RestsAt, Taken}
+
+abbrev record_of : Labels → ℕ → ℕ → ℕ → List ℕ → Record
+record_of owner class rtype ttl rdata = record { owner = owner; class = class; rtype = rtype; ttl = ttl; rdata = rdata }
+
+-- records that pass the test are the same
+record_same : (a b : Record) → same_record a b ≡ true → a ≡ b
+record_same a b e =
+    let s4 = and_parts _ _ e in
+    let s3 = and_parts _ _ s4.0 in
+    let s2 = and_parts _ _ s3.0 in
+    let s1 = and_parts _ _ s2.0 in
+    ap (λ (x : Labels). record_of x a.class a.rtype a.ttl a.rdata) ((same_place_decides a.owner b.owner).0 s1.0)
+    ∙ (ap (λ (x : ℕ). record_of b.owner x a.rtype a.ttl a.rdata) (eqb-true a.class b.class s1.1)
+    ∙ (ap (λ (x : ℕ). record_of b.owner b.class x a.ttl a.rdata) (eqb-true a.rtype b.rtype s2.1)
+    ∙ (ap (λ (x : ℕ). record_of b.owner b.class b.rtype x a.rdata) (eqb-true a.ttl b.ttl s3.1)
+    ∙ ap (λ (x : List ℕ). record_of b.owner b.class b.rtype b.ttl x) ((bytes_eq-Decides a.rdata b.rdata).0 s4.1))))
+
+record_itself : (a : Record) → same_record a a ≡ true
+record_itself a = and_from _ _ (and_from _ _ (and_from _ _ (and_from _ _ ((same_place_decides a.owner a.owner).1 refl)
+    (eq-eqb a.class a.class refl)) (eq-eqb a.rtype a.rtype refl)) (eq-eqb a.ttl a.ttl refl)) ((bytes_eq-Decides a.rdata a.rdata).1 refl)
+
+-- whether records are the same is told by the test
+pub same_record_decides : (a b : Record) → Decides (same_record a b) (a ≡ b)
+same_record_decides a b = (record_same a b, λ e. subst (λ (x : Record). same_record a x ≡ true) e (record_itself a))
 
 -- an anchor that is found among these is one of them
-listed_by : (anchors : List Record) (anchor : Record) → list_any (same_anchor anchor) anchors ≡ true → IsListed anchors anchor
+listed_by : (anchors : List Record) (anchor : Record) → list_any (same_record anchor) anchors ≡ true → Contains anchors anchor
 listed_by anchors anchor e =
-    let one = some_passes (same_anchor anchor) anchors e in
-    let all = and_parts _ _ one.2 in
-    let three = and_parts _ _ all.0 in
-    let two = and_parts _ _ three.0 in
-    record {
-      listed = one.0;
-      there = one.1;
-      same_owner = (same_place_decides (place anchor.owner) (place one.0.owner)).0 two.0;
-      same_class = eqb-true anchor.class one.0.class two.1;
-      same_type = eqb-true anchor.rtype one.0.rtype three.1;
-      same_data = (bytes_eq-Decides anchor.rdata one.0.rdata).0 all.1;
-    }
+    let one = some_passes (same_record anchor) anchors e in
+    subst (Contains anchors) (sym (record_same anchor one.0 one.2)) one.1
 
 -- and one of them is found
-listed_told : (anchors : List Record) (anchor : Record) → IsListed anchors anchor → list_any (same_anchor anchor) anchors ≡ true
-listed_told anchors anchor l = by (list_any (same_anchor anchor) anchors) refl
+listed_told : (anchors : List Record) (anchor : Record) → Contains anchors anchor → list_any (same_record anchor) anchors ≡ true
+listed_told anchors anchor there = by (list_any (same_record anchor) anchors) refl
   where
-    same : same_anchor anchor l.listed ≡ true
-    same = and_from _ _ (and_from _ _ (and_from _ _ ((same_place_decides (place anchor.owner) (place l.listed.owner)).1 l.same_owner)
-        (eq-eqb anchor.class l.listed.class l.same_class)) (eq-eqb anchor.rtype l.listed.rtype l.same_type)) ((bytes_eq-Decides anchor.rdata l.listed.rdata).1 l.same_data)
-
-    by : (b : Bool) → list_any (same_anchor anchor) anchors ≡ b → list_any (same_anchor anchor) anchors ≡ true
+    by : (b : Bool) → list_any (same_record anchor) anchors ≡ b → list_any (same_record anchor) anchors ≡ true
     by true e = e
-    by false e = absurd (false≢true (sym (none_passes (same_anchor anchor) anchors e l.listed l.there) ∙ same))
+    by false e = absurd (false≢true (sym (none_passes (same_record anchor) anchors e anchor there) ∙ record_itself anchor))
 
 -- whether an anchor is one of these is told by the test
-pub listed_decides : (anchors : List Record) (anchor : Record) → Decides (list_any (same_anchor anchor) anchors) (IsListed anchors anchor)
+pub listed_decides : (anchors : List Record) (anchor : Record) → Decides (list_any (same_record anchor) anchors) (Contains anchors anchor)
 listed_decides anchors anchor = (listed_by anchors anchor, listed_told anchors anchor)
 
 -- a node's anchor that passes the test is one of these, at the place

@@ -1,5 +1,5 @@
 -- A group that is found to be Insecure, or Indeterminate, is.
-use Rattle.std.proofs.Common.{◌≡◌, ℕ, ◌-◌, ◌==◌, Bool, true, false, cond, List, [], ◌∷◌, length, Option, Some, None, refl, sym, ap, ◌∙◌, subst}
+use Rattle.std.proofs.Common.{◌≡◌, ℕ, ◌+◌, ◌-◌, ◌==◌, Bool, true, false, cond, List, [], ◌∷◌, length, Option, Some, None, refl, sym, ap, ◌∙◌, subst}
 use Rattle.std.proofs.lemmas.Bool.{eqb-true}
 use Rattle.std.proofs.lemmas.Option.{same_Some}
 use Rattle.dsec_spec.specs.Names.{Place, place, IsStrictlyBelow}
@@ -12,7 +12,8 @@ use Rattle.dsec_nodes.specs.World.{World, Bounds, Replies, moment}
 use Rattle.dsec_nodes.specs.Causes.{Cause}
 use Rattle.dsec_nodes.specs.Nodes.{Node, Standing, apex, within, insecure, bogus, IsBogus, HoldsAt, SignedCause, IsSignedCause}
 use Rattle.dsec_nodes.specs.Signing.{under_keys}
-use Rattle.dsec_nodes.specs.Walk.{way, node_of}
+use Rattle.dsec_nodes.specs.Walk.{Reached, way, node_of}
+use Rattle.dsec_nodes.specs.SoundSteps.{OnTheWay}
 use Rattle.dsec_nodes.specs.Judging.{Finding, is_shown, is_insecure, is_bogus, has_no_set, is_indeterminate, found_by, found_at, target_of, by_island, judged_of}
 use Rattle.dsec_nodes.specs.SoundFindings.{IsShownInsecure}
 use Rattle.dsec_nodes.proofs.WalkLaws.{node_on_way}
@@ -34,15 +35,11 @@ tried_is group n keys all_bad = refl
 tried_is group n keys too_many_bad = refl
 
 -- a node that is Insecure has a signed cause at the moment of judging, from an anchor of the island's, at or above the name
-insecure_node : (w : World) (replies : Replies) (group : Group) (top : Place) (cause : Option Cause) (signed : SignedCause)
-    → island w.anchors (place group.owner) group.rtype ≡ Some top
-    → (node_of w replies top (target_of group (Some top))).standing ≡ insecure cause signed → IsShownInsecure w group signed
-insecure_node w replies group top cause signed f e =
-    let target = target_of group (Some top) in
-    let i = island_is w.anchors (place group.owner) group.rtype top f in
-    let from_is = one_looked_for (place group.owner) group.rtype i.from i.looked_for in
-    let o = node_on_way w replies top target (target_between group top i.from from_is i.above).0 in
-    let n = (way w replies top target (length target - length top)).node in
+pub insecure_by_node : (w : World) (group : Group) (top : Place) (labels : ℕ) (r : Reached) (cause : Option Cause) (signed : SignedCause)
+    → island w.anchors (place group.owner) group.rtype ≡ Some top → OnTheWay w top (target_of group (Some top)) labels r
+    → r.node.standing ≡ insecure cause signed → IsShownInsecure w group signed
+insecure_by_node w group top labels r cause signed f o e =
+    let n = r.node in
     let sure : IsBogus n.standing ≡ false = ap IsBogus e in
     let kept = o.node_kept sure in
     let rests = o.node_rests sure in
@@ -54,7 +51,7 @@ insecure_node w replies group top cause signed f e =
     (subst (λ (a : Record). IsSignedCause w.accepts n.bounds a n.name signed (moment w)) same holds) in
     record {
       top = top;
-      is_island = i;
+      is_island = island_is w.anchors (place group.owner) group.rtype top f;
       anchor = rests.anchor;
       is_listed = rests.is_listed;
       at = rests.at;
@@ -63,6 +60,18 @@ insecure_node w replies group top cause signed f e =
       over = o.over;
       shows = shown;
     }
+
+-- so has the node of a name (RFC 4035 5.2)
+insecure_node : (w : World) (replies : Replies) (group : Group) (top : Place) (cause : Option Cause) (signed : SignedCause)
+    → island w.anchors (place group.owner) group.rtype ≡ Some top
+    → (node_of w replies top (target_of group (Some top))).standing ≡ insecure cause signed → IsShownInsecure w group signed
+insecure_node w replies group top cause signed f e =
+    let target = target_of group (Some top) in
+    let i = island_is w.anchors (place group.owner) group.rtype top f in
+    let from_is = one_looked_for (place group.owner) group.rtype i.from i.looked_for in
+    let labels = length target - length top in
+    insecure_by_node w group top (length top + labels) (way w replies top target labels) cause signed f
+    (node_on_way w replies top target (target_between group top i.from from_is i.above).0) e
 
 no_records : (rs : List Record) → length rs ≡ 0 → rs ≡ []
 no_records [] e = refl

@@ -10,7 +10,6 @@ use Rattle.dsec_spec.specs.Chain.{Link, Holds}
 use Rattle.dsec_spec.specs.Sound.{IsIsland}
 use Rattle.dsec_nodes.specs.World.{World, moment}
 use Rattle.dsec_nodes.specs.Nodes.{SignedCause, IsSignedCause}
-use Rattle.dsec_nodes.specs.Taking.{IsListed}
 use Rattle.dsec_nodes.specs.Judging.{Finding, is_shown, has_no_set, is_insecure, is_bogus, is_indeterminate, Judged, target_of}
 
 -- links begin with the set at this place (RFC 4033 2)
@@ -38,7 +37,7 @@ pub record IsShownInsecure (w : World) (group : Group) (signed : SignedCause) : 
   pub top : Place
   pub is_island : IsIsland w.anchors (place group.owner) group.rtype top
   pub anchor : Record
-  pub is_listed : IsListed w.anchors anchor
+  pub is_listed : Contains w.anchors anchor
   pub at : place anchor.owner ≡ top
   pub name : Place
   pub below_island : IsStrictlyBelow name top

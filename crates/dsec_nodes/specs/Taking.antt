@@ -8,14 +8,14 @@ use Rattle.dsec_spec.specs.Records.{Record}
 use Rattle.dsec_nodes.specs.World.{World, Bounds}
 use Rattle.dsec_nodes.specs.Nodes.{Node, IsBogus}
 
--- whether two records are one anchor: of one owner, class and type, with the same data (RFC 4033 2, trust anchor)
-abbrev pub same_anchor : Record → Record → Bool
-same_anchor a b = same_place (place a.owner) (place b.owner) && (a.class == b.class) && (a.rtype == b.rtype) && bytes_eq a.rdata b.rdata
+-- whether two records are the same, their owners' letters and their TTLs too
+abbrev pub same_record : Record → Record → Bool
+same_record a b = same_place a.owner b.owner && (a.class == b.class) && (a.rtype == b.rtype) && (a.ttl == b.ttl) && bytes_eq a.rdata b.rdata
 
 -- whether a node's anchor is one of these, at this place (RFC 4033 2, island of security)
 abbrev pub rests_at : List Record → Place → Option Record → Bool
 rests_at anchors top None = false
-rests_at anchors top (Some anchor) = same_place (place anchor.owner) top && list_any (same_anchor anchor) anchors
+rests_at anchors top (Some anchor) = same_place (place anchor.owner) top && list_any (same_record anchor) anchors
 
 -- whether the bounds are the same, each of them
 abbrev pub same_bounds : Bounds → Bounds → Bool
@@ -34,21 +34,12 @@ abbrev pub counts : World → Place → Place → Node → Bool
 counts w top name n =
     not (IsBogus n.standing) && same_place n.name name && rests_at w.anchors top n.anchor && same_bounds n.bounds w.bounds && is_in_time w n
 
--- one of these anchors is this one (RFC 4033 2, trust anchor)
-pub record IsListed (anchors : List Record) (anchor : Record) : Type 0 where
-  pub listed : Record
-  pub there : Contains anchors listed
-  pub same_owner : place anchor.owner ≡ place listed.owner
-  pub same_class : anchor.class ≡ listed.class
-  pub same_type : anchor.rtype ≡ listed.rtype
-  pub same_data : anchor.rdata ≡ listed.rdata
-
 -- a node has an anchor at this place, and it is one of these (RFC 4033 2, island of security)
 pub record RestsAt (anchors : List Record) (top : Place) (n : Node) : Type 0 where
   pub anchor : Record
   pub its : n.anchor ≡ Some anchor
   pub at : place anchor.owner ≡ top
-  pub is_listed : IsListed anchors anchor
+  pub is_listed : Contains anchors anchor
 
 -- a node that was kept counts under an island (RFC 4035 4.5)
 pub record Taken (w : World) (top name : Place) (n : Node) : Type 0 where

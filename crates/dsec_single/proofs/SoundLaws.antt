@@ -1,6 +1,6 @@
 -- What is told of a group by the node with which its walk ends is so.
 use Rattle.std.proofs.Common.{◌≡◌, false, Option, Some, None, IfSome, refl, sym, ap, ◌∙◌, subst, inl, inr}
-use Rattle.std.specs.Prelude.{IsSome}
+use Rattle.std.specs.Prelude.{IsSome, Contains}
 use Rattle.std.proofs.lemmas.Option.{same_Some}
 use Rattle.dsec_spec.specs.Names.{Place, place}
 use Rattle.dsec_spec.specs.Accepts.{Accepts}
@@ -14,7 +14,6 @@ use Rattle.dsec_group.specs.declared.state.ValidationState.{ValidationState}
 use Rattle.dsec_group.specs.declared.state.ValidationState.TheVariants.{Secure, Insecure, Bogus, Indeterminate}
 use Rattle.dsec_nodes.specs.World.{World, moment}
 use Rattle.dsec_nodes.specs.Nodes.{Node, Standing, apex, within, insecure, bogus, IsBogus}
-use Rattle.dsec_nodes.specs.Taking.{IsListed}
 use Rattle.dsec_nodes.specs.Judging.{Finding, is_shown, has_no_set, is_insecure, is_bogus, is_indeterminate, found_at, by_node, target_of}
 use Rattle.dsec_course.specs.Justified.{Justifies}
 use Rattle.dsec_found.specs.Told.{state_of, cause_of}
@@ -75,7 +74,7 @@ module _ (w : World) (group : Group) (top : Place) (n : Node) (end : IsEndOf w g
               shown = s;
               its = f;
               at = a.1;
-              is_listed = subst (IsListed w.anchors) same r.is_listed;
+              is_listed = subst (Contains w.anchors) same r.is_listed;
               is_island = subst (IsIsland w.anchors (place group.owner) group.rtype) at (island_is w.anchors (place group.owner) group.rtype top end.from_island);
               shows = h.0;
               no_cause = h.1;

@@ -1,5 +1,5 @@
 -- What each answer on a single group means, whatever caches hold and whatever an upstream says (RFC 4033 5, RFC 4035 5).
-use Rattle.std.specs.Prelude.{◌≡◌, ◌⊎◌, IsSome, [], Some, None}
+use Rattle.std.specs.Prelude.{◌≡◌, ◌⊎◌, IsSome, Contains, [], Some, None}
 use Rattle.dsec_spec.specs.Names.{Place, place}
 use Rattle.dsec_spec.specs.Groups.{Group}
 use Rattle.dsec_spec.specs.Islands.{island}
@@ -11,7 +11,6 @@ use Rattle.dsec_group.specs.declared.state.ValidationState.TheVariants.{Secure, 
 use Rattle.dsec_nodes.specs.World.{World, moment}
 use Rattle.dsec_nodes.specs.Causes.{RrsigWithoutRrset, NoTrustAnchor}
 use Rattle.dsec_nodes.specs.Nodes.{SignedCause}
-use Rattle.dsec_nodes.specs.Taking.{IsListed}
 use Rattle.dsec_nodes.specs.SoundFindings.{IsShownInsecure}
 use Rattle.dsec_by_node.specs.Answers.{Told}
 
@@ -21,7 +20,7 @@ pub record IsSecureBy (w : World) (group : Group) (zone : Place) (told : Told) :
   pub shown : ShownSet
   pub its : told.shown ≡ Some shown
   pub at : shown.moment ≡ moment w
-  pub is_listed : IsListed w.anchors shown.anchor
+  pub is_listed : Contains w.anchors shown.anchor
   pub is_island : IsIsland w.anchors (place group.owner) group.rtype (place shown.anchor.owner)
   pub shows : ShowsGroup w.accepts shown.anchor shown.links shown.moment group zone told.answer.closest_encloser told.answer.adjusted
   pub no_cause : told.answer.cause ≡ None
