@@ -41,12 +41,14 @@ judged_asked w most message table before after j h holds = by j.answer refl
           asked = h.call.asked;
           as_many = so.0;
           replied = h.call.counted.told;
+          puts = (after_heard w (first_run w heard.course) heard.inputs).puts;
           heard = record {
             course = heard.course;
             begins = heard.begins;
             inputs = heard.inputs;
             heard = heard_wider w (WasHeld w.accepts before.held) (IsOfTable w (replies_of table)) (was_of_table w (replies_of table) before.held holds) heard.inputs (first_run w heard.course) heard.heard;
             are = heard.are;
+            puts_are = refl;
           };
         }
 
@@ -77,19 +79,23 @@ alone_asked w most replies message o e = by (begun w.anchors most message) refl
     by (Ok c) f =
         let h = whole_run w most message replies c f in
         let asked = asked_in (after_heard w (first_run w c) h.inputs).course in
+        let puts = (after_heard w (first_run w c) h.inputs).puts in
         record {
           number = length asked;
           asked = record {
             asked = asked;
             as_many = refl;
             replied = h.asked;
+            puts = puts;
             heard = record {
               course = c;
               begins = f;
               inputs = h.inputs;
               heard = heard_wider w NoNode (IsOfTable w replies) (λ n x. absurd x) h.inputs (first_run w c) h.heard;
               are = refl;
+              puts_are = refl;
             };
           };
-          few = heard_few w most message NoNode asked (λ n x. absurd x) (record { course = c; begins = f; inputs = h.inputs; heard = h.heard; are = refl });
+          few = heard_few w most message NoNode asked puts (λ n x. absurd x)
+              (record { course = c; begins = f; inputs = h.inputs; heard = h.heard; are = refl; puts_are = refl });
         }

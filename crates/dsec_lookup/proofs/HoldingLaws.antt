@@ -1,5 +1,5 @@
 -- What caches hold after gets and puts was held before, or was put.
-use Rattle.std.proofs.Common.{◌≡◌, ◌⊎◌, List, [], ◌++◌, Option, Some, None, refl, sym, subst, inl, inr}
+use Rattle.std.proofs.Common.{◌≡◌, ◌⊎◌, List, [], ◌++◌, Option, Some, None, refl, sym, ap, ◌∙◌, subst, inl, inr}
 use Rattle.std.specs.Prelude.{Contains}
 use Rattle.dsec_spec.specs.Names.{Place}
 use Rattle.dsec_spec.specs.Accepts.{Accepts}
@@ -18,7 +18,7 @@ more_none (Some h) = λ p n e. inl e
 pub more_puts : (old now : Option Held) (puts more : List Node) → HoldsMore old now puts → HoldsMore old now (puts ++ more)
 more_puts None now puts more h = h
 more_puts (Some old) None puts more h = h
-more_puts (Some old) (Some now) puts more h = λ p n e. elim (h p n e) [ inl x ↦ inl x | inr x ↦ inr (in_front n puts more x) ]
+more_puts (Some old) (Some now) puts more h = λ p n e. elim (h p n e) [ inl x ↦ inl x | inr x ↦ inr (in_front n puts more x.0, x.1) ]
 
 -- after a get
 pub more_kept : (old now next : Option Held) (puts : List Node) → HoldsMore old now puts → Keeps now next → HoldsMore old next puts
@@ -28,16 +28,16 @@ more_kept (Some old) None next puts h k = absurd h
 more_kept (Some old) (Some now) None puts h k = k
 more_kept (Some old) (Some now) (Some next) puts h k = λ p n e. h p n (k p n e)
 
--- after a put of a node that is among the puts
+-- after a put of a node that is among the puts, for its own name
 pub more_added : (old now next : Option Held) (puts : List Node) (at : Place) (put : Node) → HoldsMore old now puts → Adds now next at put → Contains puts put
-    → HoldsMore old next puts
-more_added None None next puts at put h a there = a
-more_added None (Some now) next puts at put h a there = let clash : Some now ≡ None = h in absurd cc
-more_added (Some old) None next puts at put h a there = absurd h
-more_added (Some old) (Some now) None puts at put h a there = a
-more_added (Some old) (Some now) (Some next) puts at put h a there = λ p n e. elim (a p n e) [
+    → put.name ≡ at → HoldsMore old next puts
+more_added None None next puts at put h a there own = a
+more_added None (Some now) next puts at put h a there own = let clash : Some now ≡ None = h in absurd cc
+more_added (Some old) None next puts at put h a there own = absurd h
+more_added (Some old) (Some now) None puts at put h a there own = a
+more_added (Some old) (Some now) (Some next) puts at put h a there own = λ p n e. elim (a p n e) [
   | inl x ↦ h p n x
-  | inr x ↦ inr (subst (Contains puts) (sym x.1) there)
+  | inr x ↦ inr (subst (Contains puts) (sym x.1) there, ap (λ (m : Node). m.name) x.1 ∙ (own ∙ sym x.0))
 ]
 
 -- a node that is held was held at first, or was put
@@ -45,7 +45,7 @@ pub given_from : (accepts : Accepts) (old now : Option Held) (puts : List Node) 
     → IsHeld now name n → WasHeld accepts old n ⊎ Contains puts n
 given_from accepts None now puts name n h k e = inl (k, tt)
 given_from accepts (Some old) None puts name n h k e = absurd h
-given_from accepts (Some old) (Some now) puts name n h k e = elim (h name n e) [ inl x ↦ inl (k, (name, x)) | inr x ↦ inr x ]
+given_from accepts (Some old) (Some now) puts name n h k e = elim (h name n e) [ inl x ↦ inl (k, (name, x)) | inr x ↦ inr x.0 ]
 
 -- what was held is of a table where all that is told is
 pub held_of_table : (w : World) (replies : Replies) (held : Option Held) → HoldsTable w replies held → (n : Node) → WasHeld w.accepts held n
@@ -58,4 +58,4 @@ pub holds_after : (w : World) (replies : Replies) (old now : Option Held) (puts 
     → ((n : Node) → Contains puts n → IsOfTable w replies n) → HoldsTable w replies now
 holds_after w replies None now puts m h of = absurd h
 holds_after w replies (Some old) None puts m h of = absurd m
-holds_after w replies (Some old) (Some now) puts m h of = λ p n e. elim (m p n e) [ inl x ↦ h p n x | inr x ↦ of n x ]
+holds_after w replies (Some old) (Some now) puts m h of = λ p n e. elim (m p n e) [ inl x ↦ h p n x | inr x ↦ of n x.0 ]

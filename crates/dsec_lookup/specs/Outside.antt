@@ -46,11 +46,11 @@ IsAmong (Some held) n = (p : Place) × (held p ≡ Some n)
 abbrev pub WasHeld : Accepts → Option Held → Node → Type 0
 WasHeld accepts told n = Kept accepts n × IsAmong told n
 
--- each node that is held afterwards was held before, or has been put, and caches tell as before
+-- each node that is held afterwards was held before, or has been put and is held for its own name, and caches tell as before
 abbrev pub HoldsMore : Option Held → Option Held → List Node → Type 0
 HoldsMore None new puts = new ≡ None
 HoldsMore (Some old) None puts = ⊥
-HoldsMore (Some old) (Some new) puts = (p : Place) (n : Node) → new p ≡ Some n → (old p ≡ Some n) ⊎ Contains puts n
+HoldsMore (Some old) (Some new) puts = (p : Place) (n : Node) → new p ≡ Some n → (old p ≡ Some n) ⊎ (Contains puts n × (n.name ≡ p))
 
 -- it is told which nodes are held, and each is of a table
 abbrev pub HoldsTable : World → Replies → Option Held → Type 0

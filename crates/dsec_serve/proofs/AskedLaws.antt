@@ -73,7 +73,7 @@ room_left w most message table before now course step (r, at, its, s) = by step 
     same = ap (λ (c : Course). length (asked_in c)) at
 
     few : length (asked_in r.course) ≤ most_questions w.anchors most message
-    few = heard_few w most message held (asked_in r.course) (λ n x. x.0) (were_heard w most message table before now r s)
+    few = heard_few w most message held (asked_in r.course) r.puts (λ n x. x.0) (were_heard w most message table before now r s)
 
     one_more : (name : Place) (rtype : ℕ) → r.step ≡ ask_for name rtype → length (asked_in course) + 1 ≤ most_questions w.anchors most message
     one_more name rtype e =
@@ -81,16 +81,17 @@ room_left w most message table before now course step (r, at, its, s) = by step 
         let first : Run = first_run w s.course in
         let i : Input = reply None in
         let a = subst (λ (z : CourseStep). Awaits z r.course.waits) e h.awaits None in
-        let heard : WereHeard w most message held (asked_in (ran_on w r i).course) = record {
+        let heard : WereHeard w most message held (asked_in (ran_on w r i).course) (ran_on w r i).puts = record {
           course = s.course;
           begins = s.begins;
           inputs = s.inputs ++ i ∷ [];
           heard = heard_more w held s.inputs first i s.heard (subst (λ (x : Run). CourseAnswers x.course.waits i) (sym s.comes_to) a.0) tt;
           are = sym (ap (λ (x : Run). asked_in x.course) (after_more w s.inputs first i ∙ ap (λ (x : Run). ran_on w x i) s.comes_to));
+          puts_are = sym (ap (λ (x : Run). x.puts) (after_more w s.inputs first i ∙ ap (λ (x : Run). ran_on w x i) s.comes_to));
         } in
         let l = ap length (run_asked w most message held r name rtype None h e) in
         let m = length-append (asked_in r.course) (record { name = name; rtype = rtype; reply = None } ∷ []) in
-        omega (arith, heard_few w most message held (asked_in (ran_on w r i).course) (λ n x. x.0) heard, l, m, same)
+        omega (arith, heard_few w most message held (asked_in (ran_on w r i).course) (ran_on w r i).puts (λ n x. x.0) heard, l, m, same)
 
     by : (y : CourseStep) → r.step ≡ y → length (asked_in course) + asks y ≤ most_questions w.anchors most message
     by (get_node name) e = omega (arith, few, same)

@@ -20,12 +20,13 @@ use Rattle.dsec_course.proofs.BeginningLaws.{begun_waits, begun_refused, refused
 use Rattle.dsec_course.proofs.RunLaws.{run_begins, run_asks, run_ends, heard_holds}
 use Rattle.dsec_cut.specs.Cuts.{to_rewrite}
 use Rattle.dsec_cut.proofs.CutLaws.{none_without_groups, none_while_waiting}
-use Rattle.dsec_serve.specs.Outside.{Outside, replies_of, WasHeld, HoldsTable}
+use Rattle.dsec_node.specs.Caches.{Held}
+use Rattle.dsec_serve.specs.Outside.{Outside, replies_of, WasHeld, HoldsMore, HoldsTable}
 use Rattle.dsec_serve.specs.Serving.{IsServing}
 use Rattle.dsec_serve.specs.Calls.{Verdict, WereHeard, AgreesWith, IsCall, count_of, most_questions}
 use Rattle.dsec_serve.specs.Judgements.{judgement_at, IsToRewrite, IsJudging}
 use Rattle.dsec_lookup.proofs.CountLaws.{counted_lost, counted_none}
-use Rattle.dsec_lookup.proofs.HoldingLaws.{held_of_table, holds_after}
+use Rattle.dsec_lookup.proofs.HoldingLaws.{more_none, held_of_table, holds_after}
 use Rattle.dsec_serve.proofs.ReadLaws.{begun_reads}
 use Rattle.dsec_serve.proofs.ServingLaws.{serving_holds}
 
@@ -46,13 +47,14 @@ end_so w most message table before now r replies x s e h asked =
     (held_of_table w replies before.held h) asked e
 
 pub were_heard : (w : World) (most : ℕ) (message : List ℕ) (table : Option Table) (before now : Outside) (r : Run)
-    → IsServing w most message table before now r → WereHeard w most message (WasHeld w.accepts before.held) (asked_in r.course)
+    → IsServing w most message table before now r → WereHeard w most message (WasHeld w.accepts before.held) (asked_in r.course) r.puts
 were_heard w most message table before now r s = record {
   course = s.course;
   begins = s.begins;
   inputs = s.inputs;
   heard = s.heard;
   are = ap (λ (x : Run). asked_in x.course) (sym s.comes_to);
+  puts_are = ap (λ (x : Run). x.puts) (sym s.comes_to);
 }
 
 -- the end of a run is sound
@@ -86,6 +88,8 @@ ends_ok w most message table before now r o s e =
       lost = 0;
       counted = s.counted;
       few = refl;
+      puts = r.puts;
+      holds_more = s.holds_more;
       in_turn = inr (were_heard w most message table before now r s);
       so = (refl, sound_end w most message table before now r (Ok o) s e, begun_reads w.anchors most message s.course s.begins);
       agrees = λ replies h asked. record {
@@ -105,6 +109,8 @@ ends_refused w most message table before now r s e =
       lost = 0;
       counted = s.counted;
       few = refl;
+      puts = r.puts;
+      holds_more = s.holds_more;
       in_turn = inr (were_heard w most message table before now r s);
       so = (begun_reads w.anchors most message s.course s.begins, (sound_end w most message table before now r (Err not_one_question) s e).1);
       agrees = λ replies h asked. record {
@@ -123,6 +129,8 @@ ends_without_memory w most message table before now r course s none =
       lost = 0;
       counted = s.counted;
       few = omega arith;
+      puts = r.puts;
+      holds_more = s.holds_more;
       in_turn = inr (were_heard w most message table before now r s);
       so = tt;
       agrees = λ replies h asked. record { says = tt; holds = held_so w most message table before now r replies s h asked };
@@ -139,6 +147,8 @@ ends_at_a_question w most message table before now next r course s same a f wait
       lost = 1;
       counted = counted_lost table before now next (asked_in r.course) s.counted a f;
       few = omega arith;
+      puts = r.puts;
+      holds_more = subst (λ (z : Option Held). HoldsMore before.held z r.puts) (sym same) s.holds_more;
       in_turn = inr (were_heard w most message table before now r s);
       so = tt;
       agrees = λ replies h asked. record {
@@ -157,7 +167,9 @@ ends_unread w most message table before e =
       lost = 0;
       counted = counted_none table before;
       few = refl;
-      in_turn = inl refl;
+      puts = [];
+      holds_more = more_none before.held;
+      in_turn = inl (refl, refl);
       so = ((begun_refused w.anchors most message unreadable e).none, refl);
       agrees = λ replies h asked. record { says = ap answer_of (refused_alone w most replies message unreadable e); holds = h };
     } in
@@ -172,7 +184,9 @@ ends_unbegun w most message table before =
       lost = 0;
       counted = counted_none table before;
       few = omega arith;
-      in_turn = inl refl;
+      puts = [];
+      holds_more = more_none before.held;
+      in_turn = inl (refl, refl);
       so = tt;
       agrees = λ replies h asked. record { says = tt; holds = h };
     } in
@@ -185,9 +199,9 @@ groups_after w held [] r h = refl
 groups_after w held (i ∷ inputs) r h = groups_after w held inputs (ran_on w r i) h.2 ∙ groups_stay w r.course i h.0
 
 -- the questions that a message has heard are at most 255 for each of its groups
-pub heard_few : (w : World) (most : ℕ) (message : List ℕ) (held : Node → Type 0) (asked : List Asked) → ((n : Node) → held n → Kept w.accepts n)
-    → WereHeard w most message held asked → length asked ≤ most_questions w.anchors most message
-heard_few w most message held asked kept t =
+pub heard_few : (w : World) (most : ℕ) (message : List ℕ) (held : Node → Type 0) (asked : List Asked) (puts : List Node)
+    → ((n : Node) → held n → Kept w.accepts n) → WereHeard w most message held asked puts → length asked ≤ most_questions w.anchors most message
+heard_few w most message held asked puts kept t =
     let r = after_heard w (first_run w t.course) t.inputs in
     let h : HoldsRun w most message held r = heard_holds w most message held t.inputs (first_run w t.course) kept (run_begins w most message held t.course kept t.begins) t.heard in
     let same : groups_in r.course ≡ groups_in t.course =
@@ -202,8 +216,8 @@ pub call_few : (w : World) (most : ℕ) (message : List ℕ) (table : Option Tab
     → IsCall w most message table before after answer → IfOk answer (λ v. v.questions ≤ most_questions w.anchors most message)
 call_few w most message table before after (Err e) c = tt
 call_few w most message table before after (Ok v) c = elim c.in_turn [
-  | inl none ↦ let l : length c.asked ≡ 0 = ap length none in omega (arith, l, c.so.0)
-  | inr heard ↦ omega (arith, c.so.0, heard_few w most message (WasHeld w.accepts before.held) c.asked (λ n x. x.0) heard)
+  | inl none ↦ let l : length c.asked ≡ 0 = ap length none.0 in omega (arith, l, c.so.0)
+  | inr heard ↦ omega (arith, c.so.0, heard_few w most message (WasHeld w.accepts before.held) c.asked c.puts (λ n x. x.0) heard)
 ]
 
 -- Where the upstream tells its table, and all that was held is of it, the answer is that of the table

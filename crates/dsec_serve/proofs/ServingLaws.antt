@@ -11,6 +11,7 @@ use Rattle.dsec_nodes.specs.Machine.{Question as Asked, Walking, Input, begin, n
 use Rattle.dsec_node.specs.Caches.{Held, IsHeld}
 use Rattle.dsec_course.specs.Course.{Waiting, to_begin, to_end, for_walk, for_nothing, Course, CourseStep, get_node, put_node, ask_for, end_with, CourseAnswers, Awaits, asked_in, asked_by}
 use Rattle.dsec_course.specs.Advancing.{begun}
+use Rattle.dsec_course.specs.Justified.{CourseStepSound}
 use Rattle.dsec_course.specs.Hearing.{Run, put_by, first_run, ran_on, GivenFrom, after_heard, HoldsRun}
 use Rattle.dsec_course.proofs.BeginningLaws.{begun_sound, begun_waits}
 use Rattle.dsec_course.proofs.RunLaws.{run_begins, run_asked, run_got, run_put, heard_holds, heard_more, after_more}
@@ -88,6 +89,14 @@ on_by w most message table before now next r i s a from counted more =
       holds_more = more_puts before.held next.held r.puts (put_by (ran_on w r i).step) more;
     }
 
+-- a node is put for its own name
+named_by : (w : World) (most : ℕ) (message : List ℕ) (name : Place) (n : Node) (waits : Waiting) → CourseStepSound w most message (put_node name n) waits
+    → n.name ≡ name
+named_by w most message name n (for_walk group s) h = h.0.0.1
+named_by w most message name n to_begin h = absurd h
+named_by w most message name n (to_end x) h = absurd h
+named_by w most message name n for_nothing h = absurd h
+
 -- A step that is served takes a message on
 pub serving_goes_on : (w : World) (most : ℕ) (message : List ℕ) (table : Option Table) (before now next : Outside) (r : Run) (i : Input)
     → IsServing w most message table before now r → IsServed w.accepts table now next r.step i
@@ -116,7 +125,8 @@ serving_goes_on w most message table before now next r i s served = by r.step i 
         on_by w most message table before now next r stored s (subst (λ (z : CourseStep). Awaits z r.course.waits) e h.awaits) tt
         (unasked stored (run_put w most message held r name n h e) y.1 y.2)
         (more_added before.held now.held next.held r.puts name n s.holds_more y.0
-        (serving_listed w most message table before now r s n (subst (λ (z : CourseStep). Contains (put_by z) n) (sym e) (first_in n []))))
+        (serving_listed w most message table before now r s n (subst (λ (z : CourseStep). Contains (put_by z) n) (sym e) (first_in n [])))
+        (named_by w most message name n r.course.waits (subst (λ (z : CourseStep). CourseStepSound w most message z r.course.waits) e h.sound.1)))
     by (ask_for name rtype) (reply octets) e y =
         on_by w most message table before now next r (reply octets) s (subst (λ (z : CourseStep). Awaits z r.course.waits) e h.awaits octets).0 tt
         (subst (λ (qs : List Asked). AreCounted table before next qs 0) (sym (run_asked w most message held r name rtype octets h e))

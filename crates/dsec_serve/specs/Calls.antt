@@ -18,16 +18,17 @@ use Rattle.dsec_course.specs.Course.{Course, groups_in, asked_in}
 use Rattle.dsec_course.specs.Advancing.{begun}
 use Rattle.dsec_course.specs.Hearing.{first_run, AreHeard, after_heard}
 pub use Rattle.dsec_serve.specs.Verdicts.{Verdict}
-use Rattle.dsec_serve.specs.Outside.{Outside, AreCounted, WasHeld, HoldsTable}
+use Rattle.dsec_serve.specs.Outside.{Outside, AreCounted, WasHeld, HoldsMore, HoldsTable}
 
--- The questions are those of the message judged a step at a time, with their replies: it heard inputs, whose nodes were held when the call
--- began or were put on the way (RFC 4035 4.3)
-pub record WereHeard (w : World) (most : ℕ) (message : List ℕ) (held : Node → Type 0) (asked : List Asked) : Type 0 where
+-- The questions, with their replies, and the nodes that were put are those of the message judged a step at a time: it heard inputs, whose nodes
+-- were held when the call began or were put on the way (RFC 4035 4.3, 4.5)
+pub record WereHeard (w : World) (most : ℕ) (message : List ℕ) (held : Node → Type 0) (asked : List Asked) (puts : List Node) : Type 0 where
   pub course : Course
   pub begins : begun w.anchors most message ≡ Ok course
   pub inputs : List Input
   pub heard : AreHeard w held (first_run w course) inputs
   pub are : asked ≡ asked_in (after_heard w (first_run w course) inputs).course
+  pub puts_are : puts ≡ (after_heard w (first_run w course) inputs).puts
 
 -- at most one question finds no memory, and then neither does the call
 abbrev pub IsLost : Result Verdict Error → ℕ → Type 0
@@ -57,15 +58,17 @@ pub record AgreesWith (w : World) (most : ℕ) (message : List ℕ) (after : Out
   pub says : Says (alone w most replies message) answer
   pub holds : HoldsTable w replies after.held
 
--- What a call promises: there is a list of its questions with their replies. They are counted, they are those of the message judged a step at a
--- time, the answer is so by them, and where all that was held and heard is of one table the answer is that of the table (RFC 4033 5,
--- RFC 4035 4.3, 4.5)
+-- What a call promises: there is a list of its questions with their replies, and one of the nodes that it put. The questions are counted, no other
+-- node is held afterwards that wasn't before, both lists are those of the message judged a step at a time, the answer is so by them, and where all
+-- that was held and heard is of one table the answer is that of the table (RFC 4033 5, RFC 4035 4.3, 4.5)
 pub record IsCall (w : World) (most : ℕ) (message : List ℕ) (table : Option Table) (before after : Outside) (answer : Result Verdict Error) : Type 0 where
   pub asked : List Asked
   pub lost : ℕ
   pub counted : AreCounted table before after asked lost
   pub few : IsLost answer lost
-  pub in_turn : (asked ≡ []) ⊎ WereHeard w most message (WasHeld w.accepts before.held) asked
+  pub puts : List Node
+  pub holds_more : HoldsMore before.held after.held puts
+  pub in_turn : ((asked ≡ []) × (puts ≡ [])) ⊎ WereHeard w most message (WasHeld w.accepts before.held) asked puts
   pub so : IsAnswer w most message asked answer
   pub agrees : (replies : Replies) → HoldsTable w replies before.held → AskedOf replies asked → AgreesWith w most message after answer replies
 

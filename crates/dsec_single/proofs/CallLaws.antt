@@ -15,7 +15,7 @@ use Rattle.dsec_course.proofs.AgreeingLaws.{target_below}
 use Rattle.dsec_course.proofs.GroupLaws.{NeedsWalk, WayIs, way_is, by_its_node}
 use Rattle.dsec_lookup.specs.Outside.{Outside, WasHeld, HoldsTable, replies_of}
 use Rattle.dsec_lookup.proofs.CountLaws.{counted_none}
-use Rattle.dsec_lookup.proofs.HoldingLaws.{held_of_table, holds_after}
+use Rattle.dsec_lookup.proofs.HoldingLaws.{more_none, held_of_table, holds_after}
 use Rattle.dsec_by_node.specs.Answers.{Answer, answer_by}
 use Rattle.dsec_single.specs.Trips.{Trip, first_trip, IsTrip}
 use Rattle.dsec_single.specs.Progress.{IsStuck, IsEnded}
@@ -53,10 +53,13 @@ module _ (w : World) (group : Group) (table : Option Table) (before after : Outs
     counted = s.counted;
     wanting = wanting;
     few = subst (λ (x : Way). length t.walk.asked + lost ≤ most_by group x) (sym way) s.few;
-    judged = subst (WasJudged w group (WasHeld w.accepts before.held) t.walk.asked answer) (sym way) (record {
+    puts = t.puts;
+    holds_more = s.holds_more;
+    judged = subst (WasJudged w group (WasHeld w.accepts before.held) t.walk.asked t.puts answer) (sym way) (record {
       inputs = s.inputs;
       given = s.given;
       are = ap (λ (x : Trip). x.walk.asked) (sym s.comes_to);
+      puts_are = ap (λ (x : Trip). x.puts) (sym s.comes_to);
       tells = subst (λ (x : Trip). TellsAt w group x.step answer) (sym s.comes_to) tells;
     });
     agrees = λ replies h asked.
@@ -107,7 +110,9 @@ module _ (w : World) (group : Group) (table : Option Table) (before : Outside) w
         counted = counted_none table before;
         wanting = wanting;
         few = omega arith;
-        judged = subst (WasJudged w group (WasHeld w.accepts before.held) [] answer) (sym way) (refl, tells);
+        puts = [];
+        holds_more = more_none before.held;
+        judged = subst (WasJudged w group (WasHeld w.accepts before.held) [] [] answer) (sym way) (refl, refl, tells);
         agrees = λ replies h asked. record {
           tells = subst (λ (x : Judged). Tells (answer_by group (moment w) x.finding) answer) (sym (once.same replies)) tells;
           holds = h;

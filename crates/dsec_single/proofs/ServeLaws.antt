@@ -13,6 +13,7 @@ use Rattle.dsec_node.specs.Caches.{Held, IsHeld}
 use Rattle.dsec_course.specs.Course.{get_node, put_node, ask_for}
 use Rattle.dsec_course.specs.Hearing.{GivenFrom}
 use Rattle.dsec_course.specs.Justified.{most_on}
+use Rattle.dsec_course.proofs.WalkPuts.{PutUnder}
 use Rattle.dsec_course.proofs.WalkSteps.{WalkAwaits, asked_after, advances}
 use Rattle.dsec_lookup.specs.Outside.{Outside, AreCounted, WasHeld, HoldsMore, IsServed}
 use Rattle.dsec_lookup.proofs.CountLaws.{counted_more, counted_same, counted_none, counted_lost}
@@ -134,7 +135,8 @@ module _ (w : World) (table : Option Table) (before now next : Outside) (top tar
   trip_puts name n e y =
       on_by w table before now next top target t stored s (waits (node_put name n) e) tt (unasked stored (waits (node_put name n) e) refl y.1 y.2)
       (more_added before.held now.held next.held t.puts name n s.holds_more y.0
-      (trip_listed w table before now top target 0 t s n (subst (λ (x : Step). Contains (put_in x) n) (sym e) (first_in n []))))
+      (trip_listed w table before now top target 0 t s n (subst (λ (x : Step). Contains (put_in x) n) (sym e) (first_in n [])))
+      (subst (λ (x : Step). PutUnder w t.walk.top x) e holds.put_is).0.0.1)
 
   -- a reply is heard
   pub trip_hears : (name : Place) (rtype : ℕ) (octets : Option (List ℕ)) → t.step ≡ ask name rtype

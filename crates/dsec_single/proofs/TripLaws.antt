@@ -33,6 +33,7 @@ pub record HoldsTrip (w : World) (held : Node → Type 0) (top target : Place) (
   pub same_target : t.walk.target ≡ target
   pub under_way : IsUnderWay w t.walk
   pub step_kept : StepKept w t.walk.top t.step
+  pub put_is : PutUnder w t.walk.top t.step
   pub goes : Goes w (t.walk, t.step)
   pub awaits : WalkAwaits t.step t.walk
   pub reached : HasReached t.step t.walk.reached
@@ -115,6 +116,7 @@ go_on w held top target puts s input kept same_top same_target under_way steps n
   same_target = l.leaves.same_target ∙ same_target;
   under_way = advanced_under_way w s input under_way a input_is;
   step_kept = going.1;
+  put_is = subst (λ (q : Place). PutUnder w q p.1) (sym l.leaves.same_top) under;
   goes = goes;
   awaits = l.leaves.awaits under_way.is_counted.waits;
   reached = l.leaves.reached;

@@ -12,7 +12,7 @@ use Rattle.dsec_nodes.specs.InStep.{AskedOf}
 use Rattle.dsec_nodes.specs.Judging.{by_node, target_of, judged_of}
 use Rattle.dsec_course.specs.Course.{Way, at_once, by_walk, way_of}
 use Rattle.dsec_course.specs.Justified.{most_on}
-use Rattle.dsec_lookup.specs.Outside.{Outside, AreCounted, WasHeld, HoldsTable}
+use Rattle.dsec_lookup.specs.Outside.{Outside, AreCounted, WasHeld, HoldsMore, HoldsTable}
 use Rattle.dsec_by_node.specs.Answers.{Answer, answer_by, Told}
 use Rattle.dsec_single.specs.Trips.{first_trip, AreGiven, after_given}
 
@@ -55,18 +55,19 @@ abbrev pub TellsAt : World → Group → Step → Option Answer → Type 0
 TellsAt w group step (Some answer) = (n : Node) × (step ≡ done n) × (answer ≡ answer_by group (moment w) (by_node w group n).finding)
 TellsAt w group step None = Unit {0}
 
--- The questions are those of a walk from the island to the group's zone, with their replies, and the answer is that of its end: it was given
--- inputs, whose nodes were held when the call began or were put on the way (RFC 4035 4.3, 5)
-pub record WasWalked (w : World) (group : Group) (held : Node → Type 0) (top : Place) (asked : List Asked) (answer : Option Answer) : Type 0 where
+-- The questions, with their replies, and the nodes that were put are those of a walk from the island to the group's zone, and the answer is that of
+-- its end: it was given inputs, whose nodes were held when the call began or were put on the way (RFC 4035 4.3, 5)
+pub record WasWalked (w : World) (group : Group) (held : Node → Type 0) (top : Place) (asked : List Asked) (puts : List Node) (answer : Option Answer) : Type 0 where
   pub inputs : List Input
   pub given : AreGiven w held (first_trip w top (target_of group (Some top))) inputs
   pub are : asked ≡ (after_given w (first_trip w top (target_of group (Some top))) inputs).walk.asked
+  pub puts_are : puts ≡ (after_given w (first_trip w top (target_of group (Some top))) inputs).puts
   pub tells : TellsAt w group (after_given w (first_trip w top (target_of group (Some top))) inputs).step answer
 
--- the group was judged in its way: at once, and nothing was asked, or by a walk (RFC 4035 4.3)
-abbrev pub WasJudged : World → Group → (Node → Type 0) → List Asked → Option Answer → Way → Type 0
-WasJudged w group held asked answer (at_once j) = (asked ≡ []) × Tells (answer_by group (moment w) j.finding) answer
-WasJudged w group held asked answer (by_walk top) = WasWalked w group held top asked answer
+-- the group was judged in its way: at once, and nothing was asked or put, or by a walk (RFC 4035 4.3)
+abbrev pub WasJudged : World → Group → (Node → Type 0) → List Asked → List Node → Option Answer → Way → Type 0
+WasJudged w group held asked puts answer (at_once j) = (asked ≡ []) × (puts ≡ []) × Tells (answer_by group (moment w) j.finding) answer
+WasJudged w group held asked puts answer (by_walk top) = WasWalked w group held top asked puts answer
 
 -- at most one question finds no memory, and then neither does the call
 abbrev pub IsWanting : Option Answer → ℕ → Type 0
@@ -79,14 +80,17 @@ pub record AgreesOn (w : World) (group : Group) (after : Outside) (answer : Opti
   pub tells : Tells (answer_by group (moment w) (judged_of w replies group).finding) answer
   pub holds : HoldsTable w replies after.held
 
--- What a call promises: there is a list of its questions with their replies. They are counted, they are few, the group was judged by them, and
--- where all that was held and heard is of one table the answer is that of the table. An upstream that tells nothing has many tables: by each of
--- them that has these replies, the answer is that of the table (RFC 4033 5, RFC 4035 4.3, 4.5, 5)
+-- What a call promises: there is a list of its questions with their replies, and one of the nodes that it put. The questions are counted, and few;
+-- no other node is held afterwards that wasn't before; the group was judged by them, and where all that was held and heard is of one table the answer
+-- is that of the table. An upstream that tells nothing has many tables: by each of them that has these replies, the answer is that of the table
+-- (RFC 4033 5, RFC 4035 4.3, 4.5, 5)
 pub record IsSingleCall (w : World) (group : Group) (table : Option Table) (before after : Outside) (answer : Option Answer) : Type 0 where
   pub asked : List Asked
   pub lost : ℕ
   pub counted : AreCounted table before after asked lost
   pub wanting : IsWanting answer lost
   pub few : length asked + lost ≤ most_asked_for w group
-  pub judged : WasJudged w group (WasHeld w.accepts before.held) asked answer (way_of w group)
+  pub puts : List Node
+  pub holds_more : HoldsMore before.held after.held puts
+  pub judged : WasJudged w group (WasHeld w.accepts before.held) asked puts answer (way_of w group)
   pub agrees : (replies : Replies) → HoldsTable w replies before.held → AskedOf replies asked → AgreesOn w group after answer replies
