@@ -2,12 +2,11 @@
 
 use crate::scene::{Scene, Told, tell};
 use anyhow::{Context, Result};
-use dsec_core::{Input, Step, Validation};
 use dsec_crypto::StandIn;
 use dsec_group::{NoMemo, Steps};
 use dsec_node::{Caches, Config};
 use dsec_outside::Upstream;
-use dsec_serve::answer_to;
+use dsec_serve::{Input, Step, Validation, answer_to};
 use std::alloc::Global;
 use std::sync::ledger::Ledger;
 

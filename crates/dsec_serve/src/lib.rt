@@ -9,7 +9,7 @@ mod validating;
 mod verdict;
 
 pub use answering::answer_to;
-pub use dsec_core::{Outcome, UsedGroup, Why, all_bounded};
+pub use dsec_core::{Input, Outcome, Step, UsedGroup, Validation, Why, all_bounded};
 pub use dsec_found::Error;
 pub use judgement::Judgement;
 pub use validating::judge_in;
