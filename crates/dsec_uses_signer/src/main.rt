@@ -2,24 +2,23 @@
 #![tactic(auto)]
 
 mod device;
+mod keys;
 
 ghost use Rattle.std.specs.Prelude.{◌∷◌, [], OnOk};
 ghost use Rattle.dsec_rrsig.specs.Keys.{stand_in_signs};
 ghost use Rattle.dsec_rrsig.specs.Signers.{signer_of};
 ghost use Rattle.dsec_sign.specs.ZoneSigning.{SignsZone};
 
-use anyhow::{Context, Error, Result, bail};
+use anyhow::{Context, Error, Result, ensure};
 use device::Device;
 use dsec_name::Name;
-use dsec_number::{Rtype, Timestamp};
+use dsec_number::Timestamp;
 use dsec_outside::Writing;
 use dsec_record_text::send_records;
-use dsec_sign::{
-    SignableZoneInPlace, SigningConfig, SigningError, SigningKey, StandInKey, sign_rrset,
-};
+use dsec_sign::{SignableZoneInPlace, SigningConfig, SigningKey, sign_rrset};
 use dsec_signing::read_zone;
 use dsec_sorted::{DenialConfig, Rrset, SortedRecords, is_of_one_class};
-use dsec_wire::Record;
+use keys::{key_record, own_key};
 use std::alloc::Global;
 use std::{io, slice};
 
@@ -33,77 +32,35 @@ fn sign(
 ) -> Result<()>
     ensures { OnOk result (SignsZone stand_in_signs config.now (signer_of (λ device. device.key) key.old ∷ []) apex.now zone.old zone.old zone.new) }
 {
-    if !is_of_one_class(zone.as_slice()) {
-        bail!("several classes");
-    }
-    SignableZoneInPlace::sign_zone(zone, alloc, apex, config, slice::from_mut(key)).map_err(
-        Error::msg,
-    )
-}
-
-/// The record of a zone's key, of which there is to be one.
-fn key_record(zone: &SortedRecords) -> Result<Record> {
-    let mut keys = zone
-        .as_slice()
-        .iter()
-        .filter(|one| one.rtype() == Rtype::DNSKEY);
-    match (keys.next(), keys.next()) {
-        (Some(own), None) => Ok(own.clone()?),
-        _ => bail!("not one key"),
-    }
-}
-
-/// The key of a record, with a device that signs by it.
-fn own_key(own: &Record) -> Result<SigningKey<Device>> {
-    let Some(dnskey) = own.rdata().dnskey() else {
-        bail!("no key");
-    };
-    let device = Device {
-        key: StandInKey::from_dnskey(&dnskey)?,
-        left: 100,
-        faults: 0,
-    };
-    Ok(SigningKey::new(own.owner().clone()?, dnskey.flags, device))
-}
-
-/// Adds the signature of a zone's key, which is the one of the record.
-fn sign_key(
-    alloc: Global,
-    own: &Record,
-    zone: &mut SortedRecords,
-    config: &SigningConfig,
-    key: &mut SigningKey<Device>,
-) -> Result<(), SigningError> {
-    let keys = Rrset::new_from_owned(slice::from_ref(own))?;
-    let signature = sign_rrset(alloc, key, &keys, config.inception, config.expiration)?;
-    zone.extend(vec![in alloc; signature]?)?;
-    Ok(())
+    ensure!(is_of_one_class(zone.as_slice()), "several classes");
+    let signed = SignableZoneInPlace::sign_zone(zone, alloc, apex, config, slice::from_mut(key));
+    signed.map_err(Error::msg)
 }
 
 /// Signs a zone, its key too.
 fn sign_whole(alloc: Global, zone: &mut SortedRecords) -> Result<()> {
-    let own = key_record(zone)?;
+    let own = key_record(zone.as_slice())?;
     let mut key = own_key(&own)?;
-    let (inception, expiration) = (Timestamp::from_int(0), Timestamp::from_int(1000));
-    let config = SigningConfig::new(DenialConfig::Nsec, inception, expiration);
+    let (from, to) = (Timestamp::from_int(0), Timestamp::from_int(1000));
+    let config = SigningConfig::new(DenialConfig::Nsec, from, to);
     sign(alloc, own.owner(), zone, &config, &mut key)?;
-    sign_key(alloc, &own, zone, &config, &mut key).map_err(Error::msg)
+    let keys = Rrset::new_from_owned(slice::from_ref(&own)).map_err(Error::msg)?;
+    let signature = sign_rrset(alloc, &mut key, &keys, from, to).map_err(Error::msg)?;
+    zone.extend(vec![in alloc; signature]?).map_err(Error::msg)
 }
 
 fn main(rt: HostRuntime) -> Result<()> {
     let alloc = rt.alloc();
     let text = io::read_to_string(alloc, rt.stdin())?;
-    let records = read_zone(alloc, text.as_bytes())
-        .ok()
-        .context("no zone text")?;
+    let records = read_zone(alloc, text.as_bytes()).ok();
     let mut zone = SortedRecords::new(alloc);
-    zone.extend(records).map_err(Error::msg)?;
+    zone.extend(records.context("no zone text")?)
+        .map_err(Error::msg)?;
     sign_whole(alloc, &mut zone)?;
     let mut sink = Writing {
         inner: rt.stdout(),
         faults: 0,
     };
-    send_records(alloc, zone.as_slice(), &mut sink)
-        .ok()
-        .context("no room, or no memory")
+    let sent = send_records(alloc, zone.as_slice(), &mut sink);
+    sent.ok().context("no room, or no memory")
 }

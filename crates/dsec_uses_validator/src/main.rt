@@ -9,22 +9,15 @@ ghost use Rattle.dsec_context.specs.Setting.{world_at};
 ghost use Rattle.dsec_nodes.specs.SoundOutcomes.{IsSound};
 ghost use Rattle.dsec_uses_validator.specs.Accepted.{by_one_algorithm};
 
-use anyhow::{Context, Error, Result};
+use anyhow::{Error, Result};
 use dsec_anchors::TrustAnchors;
 use dsec_context::{ValidationContext, Verdict};
 use dsec_group::ValidationState;
 use dsec_outside::Upstream;
 use dsec_wire::Message;
-use dsec_word::read_hex;
-use resolver::{Resolver, next_line};
+use resolver::{Resolver, next_octets};
 use std::alloc::Global;
 use verifier::OneAlgorithm;
-
-/// The key of the zone that is trusted.
-const ANCHOR: &str = "example. 3600 IN DNSKEY 257 3 13 AQI=";
-
-/// The moment at which replies are judged, in seconds since 1970.
-const NOW: u64 = 500;
 
 /// The verdict on a reply, if it is Secure: the reply answers by sets that signatures lead to from the context's anchors, or denies so
 /// (RFC 4033 5).
@@ -48,7 +41,8 @@ fn secure_verdict<U: Upstream>(
 
 fn main(rt: HostRuntime) -> Result<()> {
     let alloc = rt.alloc();
-    let anchors = TrustAnchors::from_u8(alloc, ANCHOR.as_bytes())?;
+    // The key of the zone that is trusted.
+    let anchors = TrustAnchors::from_u8(alloc, b"example. 3600 IN DNSKEY 257 3 13 AQI=")?;
     let mut context = ValidationContext::new(alloc, anchors);
     let mut upstream = Resolver {
         rt: &rt,
@@ -56,18 +50,13 @@ fn main(rt: HostRuntime) -> Result<()> {
         faults: 0,
     };
     for _ in 0..u64::MAX {
-        let line = next_line(&rt, alloc)?;
-        if line.is_empty() {
+        let Some(octets) = next_octets(&rt, alloc) else {
             break;
-        }
-        let octets = read_hex(alloc, line.trim_end().as_bytes())
-            .ok()
-            .context("no hex")?;
-        let mut reply = Message::from_octets(octets.into_vec()).map_err(Error::msg)?;
-        match secure_verdict(alloc, &mut context, &mut reply, &mut upstream, NOW) {
-            Some(_) => println!(rt; "secure")?,
-            None => println!(rt; "not secure")?,
-        }
+        };
+        let mut reply = Message::from_octets(octets).map_err(Error::msg)?;
+        // The moment is in seconds since 1970.
+        let verdict = secure_verdict(alloc, &mut context, &mut reply, &mut upstream, 500);
+        println!(rt; "secure: {}", verdict.is_some())?;
     }
     Ok(())
 }

@@ -5,9 +5,8 @@ ghost use Rattle.std.specs.Prelude.{None};
 use dsec_name::Name;
 use dsec_number::Rtype;
 use dsec_outside::{AskError, Upstream};
-use dsec_word::{ReadError, read_hex};
+use dsec_word::read_hex;
 use std::alloc::Global;
-use std::io;
 
 /// Asks by a line `ask <name> <type>` on the standard output, and takes the next line of the standard input, in hex, as the reply.
 #[derive(Drop)]
@@ -30,39 +29,20 @@ impl<'a> Upstream for Resolver<'a> {
 
     fn ask(&mut self, alloc: Global, name: &Name, rtype: Rtype) -> Result<Vec<u8>, AskError> {
         self.asked = self.asked.saturating_add(1);
-        match exchange(self.rt, alloc, name, rtype) {
-            Err(AskError::Failed) => {
-                self.faults = self.faults.saturating_add(1);
-                Err(AskError::Failed)
-            }
-            other => other,
+        let asked = println!(self.rt; "ask {name} {rtype}").ok();
+        let reply = asked.and_then(|_| next_octets(self.rt, alloc));
+        if reply.is_none() {
+            self.faults = self.faults.saturating_add(1);
         }
+        reply.ok_or(AskError::Failed)
     }
 }
 
-/// The reply to a question.
-fn exchange(
-    rt: &HostRuntime,
-    alloc: Global,
-    name: &Name,
-    rtype: Rtype,
-) -> Result<Vec<u8>, AskError> {
-    if println!(rt; "ask {name} {rtype}").is_err() {
-        return Err(AskError::Failed);
-    }
-    let Ok(line) = next_line(rt, alloc) else {
-        return Err(AskError::Failed);
-    };
-    match read_hex(alloc, line.trim_end().as_bytes()) {
-        Ok(reply) => Ok(reply.into_vec()),
-        Err(ReadError::Bad) => Err(AskError::Failed),
-        Err(ReadError::NoMemory) => Err(AskError::NoMemory),
-    }
-}
-
-/// The next line of the standard input with its line end; at the end none of its octets.
-pub fn next_line(rt: &HostRuntime, alloc: Global) -> io::Result<String> {
+/// The octets of the next line of the standard input, in hex; none where it ends, or where the line is no hex.
+pub fn next_octets(rt: &HostRuntime, alloc: Global) -> Option<Vec<u8>> {
     let mut line = String::new(alloc);
-    rt.read_line(&mut line)?;
-    Ok(line)
+    if rt.read_line(&mut line).ok()? == 0 {
+        return None;
+    }
+    Some(read_hex(alloc, line.trim_end().as_bytes()).ok()?.into_vec())
 }
