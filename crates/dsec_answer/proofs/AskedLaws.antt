@@ -1,5 +1,7 @@
--- How many questions a message takes, by the call that judged it, and by a table alone.
-use Rattle.std.proofs.Common.{◌≡◌, ◌≤◌, ℕ, List, length, Option, Some, None, IfOk, Result, Ok, Err, refl, subst}
+-- How many questions a message takes, and which nodes it puts, by the call that judged it; and how many by a table alone.
+use Rattle.std.proofs.Common.{◌≡◌, ◌⊎◌, ◌≤◌, ℕ, List, [], ◌++◌, length, Option, Some, IfOk, Result, Ok, Err, inl, inr, refl, subst}
+use Rattle.std.specs.Prelude.{Contains}
+use Rattle.dsec_spec.specs.Accepts.{Accepts}
 use Rattle.dsec_spec.specs.Outside.{Table}
 use Rattle.dsec_nodes.specs.World.{World, Replies}
 use Rattle.dsec_nodes.specs.Nodes.{Node}
@@ -8,70 +10,102 @@ use Rattle.dsec_nodes.specs.Alone.{Refusal, alone}
 use Rattle.dsec_node.specs.Caches.{Held}
 use Rattle.dsec_course.specs.Course.{Course, asked_in}
 use Rattle.dsec_course.specs.Advancing.{begun}
-use Rattle.dsec_course.specs.Hearing.{first_run, after_heard, IsOfTable}
+use Rattle.dsec_course.specs.Hearing.{first_run, after_heard}
+use Rattle.dsec_spec.proofs.Members.{in_front, in_back}
 use Rattle.dsec_course.proofs.BeginningLaws.{refused_alone}
 use Rattle.dsec_found.specs.declared.error.Error.{Error}
 use Rattle.dsec_context.specs.Verdicts.{Verdict}
-use Rattle.dsec_context.specs.Outside.{Outside, WasHeld, HoldsTable, replies_of}
+use Rattle.dsec_context.specs.Outside.{Outside, WasHeld, HoldsMore, replies_of}
 use Rattle.dsec_context.specs.Judgements.{Judgement, HandsOn, IsJudging}
-use Rattle.dsec_context.specs.Calls.{IsAnswer, most_questions}
+use Rattle.dsec_context.specs.Calls.{IsAnswer, WereHeard, most_questions}
 use Rattle.dsec_context.proofs.CallLaws.{heard_few}
 use Rattle.dsec_context.proofs.JudgementLaws.{groups_sound}
 use Rattle.dsec_context.specs.Calls.{IsHandling}
 use Rattle.dsec_context.proofs.ComingLaws.{comes, of_verdict}
-use Rattle.dsec_answer.specs.Asked.{WereAsked}
+use Rattle.dsec_answer.specs.Asked.{WereAsked, WerePut, HoldsAmong}
 use Rattle.dsec_answer.proofs.WholeRuns.{NoNode, whole_run, heard_wider}
 
--- a node that was held is of the table of which all that was held is
-pub was_of_table : (w : World) (replies : Replies) (held : Option Held) → HoldsTable w replies held → (n : Node) → WasHeld w.accepts held n → IsOfTable w replies n
-was_of_table w replies None h n x = absurd h
-was_of_table w replies (Some held) h n x = h x.1.0 n x.1.1
+-- a node that was held is among those that are kept
+was_among : (accepts : Accepts) (kept : List Node) (o : Option Held) (held : Held) → o ≡ Some held → HoldsAmong kept held → (n : Node) → WasHeld accepts o n
+    → Contains kept n
+was_among accepts kept o held e among n h = let x = subst (λ (y : Option Held). WasHeld accepts y n) e h in among x.1.0 n x.1.1
 
--- the questions of judging
-judged_asked : (w : World) (most : ℕ) (message : List ℕ) (table : Table) (before after : Outside) (j : Judgement) → IsJudging w most message (Some table) before after j
-    → HoldsTable w (replies_of table) before.held → IfOk j.answer (λ v. WereAsked w most message (replies_of table) v.questions)
-judged_asked w most message table before after j h holds = by j.answer refl
-  where
-    by : (x : Result Verdict Error) → j.answer ≡ x → IfOk x (λ v. WereAsked w most message (replies_of table) v.questions)
-    by (Err e) f = tt
-    by (Ok v) f =
-        let so = subst (λ (x : Result Verdict Error). IsAnswer w most message h.call.asked x) f h.call.so in
-        let heard = subst (λ (x : Result Verdict Error). HandsOn w most message (WasHeld w.accepts before.held) h.call.asked x j.groups) f h.hands_on in
-        record {
-          asked = h.call.asked;
-          as_many = so.0;
-          replied = h.call.counted.told;
-          puts = (after_heard w (first_run w heard.course) heard.inputs).puts;
-          heard = record {
-            course = heard.course;
-            begins = heard.begins;
-            inputs = heard.inputs;
-            heard = heard_wider w (WasHeld w.accepts before.held) (IsOfTable w (replies_of table)) (was_of_table w (replies_of table) before.held holds) heard.inputs (first_run w heard.course) heard.heard;
-            are = heard.are;
-            puts_are = refl;
-          };
-        }
+module _ (w : World) (most : ℕ) (message : List ℕ) (table : Table) (before after : Outside) (held : Held) (kept : List Node) (is : before.held ≡ Some held) (among : HoldsAmong kept held) where
+  -- the questions of judging
+  judged_asked : (j : Judgement) → IsJudging w most message (Some table) before after j
+      → IfOk j.answer (λ v. WereAsked w most message (replies_of table) kept v.questions)
+  judged_asked j h = by j.answer refl
+    where
+      by : (x : Result Verdict Error) → j.answer ≡ x → IfOk x (λ v. WereAsked w most message (replies_of table) kept v.questions)
+      by (Err e) f = tt
+      by (Ok v) f =
+          let so = subst (λ (x : Result Verdict Error). IsAnswer w most message h.call.asked x) f h.call.so in
+          let heard = subst (λ (x : Result Verdict Error). HandsOn w most message (WasHeld w.accepts before.held) h.call.asked x j.groups) f h.hands_on in
+          record {
+            asked = h.call.asked;
+            as_many = so.0;
+            replied = h.call.counted.told;
+            puts = (after_heard w (first_run w heard.course) heard.inputs).puts;
+            heard = record {
+              course = heard.course;
+              begins = heard.begins;
+              inputs = heard.inputs;
+              heard = heard_wider w (WasHeld w.accepts before.held) (Contains kept) (was_among w.accepts kept before.held held is among) heard.inputs (first_run w heard.course) heard.heard;
+              are = heard.are;
+              puts_are = refl;
+            };
+          }
 
--- The questions of a call
-pub call_asked : (w : World) (most : ℕ) (message left : List ℕ) (table : Table) (before after : Outside) (answer : Result Verdict Error)
-    → IsHandling w most message (Some table) before after answer left → HoldsTable w (replies_of table) before.held
-    → IfOk answer (λ v. WereAsked w most message (replies_of table) v.questions)
-call_asked w most message left table before after answer h holds =
-    of_verdict (λ (v : Verdict). WereAsked w most message (replies_of table) v.questions) w.anchors most message h.judgement.answer answer
-    (judged_asked w most message table before after h.judgement h.judging holds)
-    (comes w most _ message h.judgement.answer answer left h.judgement.groups (groups_sound w most message (Some table) before after h.judgement h.judging) h.handed)
+  -- and its puts
+  judged_put : (left : Held) → after.held ≡ Some left → (j : Judgement) → IsJudging w most message (Some table) before after j
+      → (puts : List Node) × WerePut w most message (replies_of table) kept puts × HoldsAmong (kept ++ puts) left
+  judged_put left e j h = (h.call.puts, record { asked = h.call.asked; replied = h.call.counted.told; in_turn = turn h.call.in_turn }, all)
+    where
+      turn : ((h.call.asked ≡ []) × (h.call.puts ≡ [])) ⊎ WereHeard w most message (WasHeld w.accepts before.held) h.call.asked h.call.puts
+          → (h.call.puts ≡ []) ⊎ WereHeard w most message (Contains kept) h.call.asked h.call.puts
+      turn (inl none) = inl none.1
+      turn (inr t) = inr (record {
+        course = t.course;
+        begins = t.begins;
+        inputs = t.inputs;
+        heard = heard_wider w (WasHeld w.accepts before.held) (Contains kept) (was_among w.accepts kept before.held held is among) t.inputs (first_run w t.course) t.heard;
+        are = t.are;
+        puts_are = t.puts_are;
+      })
 
--- By a table alone a message with an outcome takes some number of questions
-pub record TakesSome (w : World) (most : ℕ) (replies : Replies) (message : List ℕ) : Type 0 where
+      more : HoldsMore (Some held) (Some left) h.call.puts
+      more = subst (λ (x : Option Held). HoldsMore x (Some left) h.call.puts) is (subst (λ (x : Option Held). HoldsMore before.held x h.call.puts) e h.call.holds_more)
+
+      all : HoldsAmong (kept ++ h.call.puts) left
+      all p n f = elim (more p n f) [
+        | inl old ↦ in_front n kept h.call.puts (among p n old)
+        | inr new ↦ in_back n kept h.call.puts new.0
+      ]
+
+  -- The questions of a call
+  pub call_asked : (left : List ℕ) (answer : Result Verdict Error) → IsHandling w most message (Some table) before after answer left
+      → IfOk answer (λ v. WereAsked w most message (replies_of table) kept v.questions)
+  call_asked left answer h =
+      of_verdict (λ (v : Verdict). WereAsked w most message (replies_of table) kept v.questions) w.anchors most message h.judgement.answer answer
+      (judged_asked h.judgement h.judging)
+      (comes w most _ message h.judgement.answer answer left h.judgement.groups (groups_sound w most message (Some table) before after h.judgement h.judging) h.handed)
+
+  -- and its puts
+  pub call_put : (left : List ℕ) (answer : Result Verdict Error) (now : Held) → after.held ≡ Some now → IsHandling w most message (Some table) before after answer left
+      → (puts : List Node) × WerePut w most message (replies_of table) kept puts × HoldsAmong (kept ++ puts) now
+  call_put left answer now e h = judged_put now e h.judgement h.judging
+
+-- By a table alone a message with an outcome takes some number of questions, over any nodes that are kept
+pub record TakesSome (w : World) (most : ℕ) (replies : Replies) (message : List ℕ) (kept : List Node) : Type 0 where
   pub number : ℕ
-  pub asked : WereAsked w most message replies number
+  pub asked : WereAsked w most message replies kept number
   pub few : number ≤ most_questions w.anchors most message
 
-pub alone_asked : (w : World) (most : ℕ) (replies : Replies) (message : List ℕ) (o : Outcome) → alone w most replies message ≡ Ok o
-    → TakesSome w most replies message
-alone_asked w most replies message o e = by (begun w.anchors most message) refl
+pub alone_asked : (w : World) (most : ℕ) (replies : Replies) (message : List ℕ) (kept : List Node) (o : Outcome) → alone w most replies message ≡ Ok o
+    → TakesSome w most replies message kept
+alone_asked w most replies message kept o e = by (begun w.anchors most message) refl
   where
-    by : (x : Result Course Refusal) → begun w.anchors most message ≡ x → TakesSome w most replies message
+    by : (x : Result Course Refusal) → begun w.anchors most message ≡ x → TakesSome w most replies message kept
     by (Err r) f = absurd (two_ways (alone w most replies message) (refused_alone w most replies message r f) e)
       where
         two_ways : (x : Result Outcome Refusal) → x ≡ Err r → x ≡ Ok o → ⊥
@@ -91,7 +125,7 @@ alone_asked w most replies message o e = by (begun w.anchors most message) refl
               course = c;
               begins = f;
               inputs = h.inputs;
-              heard = heard_wider w NoNode (IsOfTable w replies) (λ n x. absurd x) h.inputs (first_run w c) h.heard;
+              heard = heard_wider w NoNode (Contains kept) (λ n x. absurd x) h.inputs (first_run w c) h.heard;
               are = refl;
               puts_are = refl;
             };
@@ -99,3 +133,7 @@ alone_asked w most replies message o e = by (begun w.anchors most message) refl
           few = heard_few w most message NoNode asked puts (λ n x. absurd x)
               (record { course = c; begins = f; inputs = h.inputs; heard = h.heard; are = refl; puts_are = refl });
         }
+
+-- none may be put
+pub none_put : (w : World) (most : ℕ) (replies : Replies) (message : List ℕ) (kept : List Node) → WerePut w most message replies kept []
+none_put w most replies message kept = record { asked = []; replied = tt; in_turn = inl refl }

@@ -1,5 +1,5 @@
 -- What the outcome of a message is, by the call that judged it.
-use Rattle.std.proofs.Common.{◌≡◌, ℕ, ◌-◌, ◌<◌, ◌≤◌, Bool, true, false, List, [], ◌∷◌, Some, Result, Ok, Err, IfOk, length, drop, Option, None, inl, inr, refl, sym, ap, ◌∙◌, subst, arith}
+use Rattle.std.proofs.Common.{◌≡◌, ℕ, ◌-◌, ◌<◌, ◌≤◌, Bool, true, false, List, [], ◌∷◌, ◌++◌, append-nil, Some, Result, Ok, Err, IfOk, length, drop, Option, None, inl, inr, refl, sym, ap, ◌∙◌, subst, arith}
 use Rattle.std.specs.Prelude.{nat_lt}
 use Rattle.std.proofs.lemmas.Bool.{le-ltb, lt-ltb, ltb-true, ltb-false, cond-true, cond-false}
 use Rattle.std.proofs.lemmas.List.{length-drop}
@@ -35,8 +35,10 @@ use Rattle.dsec_context.proofs.AloneLaws.{ComesAlone, an_outcome, a_refusal, can
 use Rattle.dsec_script.specs.declared.items.Item.{Item}
 use Rattle.dsec_answer.specs.declared.outcome.Unjudged.TheVariants.{ShortMessage, FormError, ParseError, PushError}
 use Rattle.dsec_answer.specs.Told.{CanBeTold, Outcome, told_of}
-use Rattle.dsec_answer.specs.Asked.{WereAsked}
+use Rattle.dsec_answer.specs.Asked.{WereAsked, WerePut, HoldsAmong}
 use Rattle.dsec_answer.specs.Outcomes.{told_by, without_questions, world_of_script, outcome_of, IsSecureOutcome, IsOutcome}
+use Rattle.dsec_answer.specs.Sending.{ComesOver}
+use Rattle.dsec_answer.proofs.AskedLaws.{none_put}
 
 -- a number of two octets takes two octets
 two_octets : (xs : List ℕ) (n : ℕ) → u16_in xs ≡ Some n → 2 ≤ length xs
@@ -89,13 +91,14 @@ told_long anchors message (Err FormError) e c = absurd cc
 told_long anchors message (Err ShortMessage) e c = absurd cc
 
 -- what is so of an outcome makes it the message's; an ordinary reply is then Secure, if it can be rewritten
-pub is_outcome : (accepts : Accepts) (anchors : List Record) (table : Table) (item : Item) (outcome : Outcome)
+pub is_outcome : (accepts : Accepts) (anchors : List Record) (table : Table) (kept puts : List Node) (item : Item) (outcome : Outcome)
     → outcome_of accepts anchors table item.seconds item.octets ≡ Some (without_questions outcome)
     → IfOk outcome (λ v. IsJustified (world_of_script accepts anchors item.seconds) default_settings.max_cname_dname item.octets v.outcome v.outcome.state)
     → IfOk outcome (λ v. v.questions ≤ most_questions anchors default_settings.max_cname_dname item.octets)
-    → IfOk outcome (λ v. WereAsked (world_of_script accepts anchors item.seconds) default_settings.max_cname_dname item.octets (replies_of table) v.questions)
-    → IsOutcome accepts anchors table item outcome
-is_outcome accepts anchors table item outcome e j f a = record { exact = e; sound = j; complete = secure_by; few = f; asked = a }
+    → IfOk outcome (λ v. WereAsked (world_of_script accepts anchors item.seconds) default_settings.max_cname_dname item.octets (replies_of table) kept v.questions)
+    → WerePut (world_of_script accepts anchors item.seconds) default_settings.max_cname_dname item.octets (replies_of table) kept puts
+    → IsOutcome accepts anchors table kept puts item outcome
+is_outcome accepts anchors table kept puts item outcome e j f a p = record { exact = e; sound = j; complete = secure_by; few = f; asked = a; put = p }
   where
     w : World
     w = world_of_script accepts anchors item.seconds
@@ -125,14 +128,10 @@ is_outcome accepts anchors table item outcome e j f a = record { exact = e; soun
         by (cannot_read c h) = told_unread anchors item.octets outcome (told ∙ ap told_by h) c
         by (too_long c h) = told_long anchors item.octets outcome (told ∙ ap told_by h) c
 
--- what is told of an answer is the outcome
-abbrev pub HasOutcome : Accepts → List Record → Table → Item → Result Verdict Error → Type 0
-HasOutcome accepts anchors table item answer = (outcome : Outcome) → told_of answer ≡ Some outcome → IsOutcome accepts anchors table item outcome
-
--- a message that was judged over nodes of the table
-pub record IsItemJudged (accepts : Accepts) (anchors : List Record) (table : Table) (item : Item) (after : Outside) (answer : Result Verdict Error) : Type 0 where
-  pub outcome : HasOutcome accepts anchors table item answer
-  pub holds : HoldsTable (world_of_script accepts anchors item.seconds) (replies_of table) after.held
+-- a message that was judged over nodes of the table, held before and afterwards
+pub record IsItemJudged (accepts : Accepts) (anchors : List Record) (table : Table) (item : Item) (held now : Held) (answer : Result Verdict Error) : Type 0 where
+  pub outcome : (kept : List Node) → HoldsAmong kept held → (outcome : Outcome) → told_of answer ≡ Some outcome → ComesOver accepts anchors table kept item outcome now
+  pub holds : HoldsTable (world_of_script accepts anchors item.seconds) (replies_of table) (Some now)
 
 -- what is told of an answer is what is told of it without its questions
 told_same : (answer : Result Verdict Error) (outcome : Outcome) → told_of answer ≡ Some outcome → told_by (outcome_in answer) ≡ Some (without_questions outcome)
@@ -180,25 +179,33 @@ says_told anchors most message (Err errors.PushNameError) s = absurd s
 says_told anchors most message (Err errors.ReadError) s = absurd s
 says_told anchors most message (Err errors.ShortMessage) s = absurd s
 
--- what a call says of a message over nodes of the table
-pub record IsItemHandled (w : World) (most : ℕ) (message : List ℕ) (table : Table) (after : Outside) (answer : Result Verdict Error) (left : List ℕ) : Type 0 where
+-- what a call says of a message over nodes of the table, held before and afterwards
+pub record IsItemHandled (w : World) (most : ℕ) (message : List ℕ) (table : Table) (held : Held) (after : Outside) (now : Held) (answer : Result Verdict Error) (left : List ℕ) : Type 0 where
   pub by_table : IsByTable w most message after answer left (replies_of table)
   pub sound : IfOk answer (λ v. IsJustified w most message v.outcome v.outcome.state)
   pub few : IfOk answer (λ v. v.questions ≤ most_questions w.anchors most message)
-  pub asked : IfOk answer (λ v. WereAsked w most message (replies_of table) v.questions)
+  pub asked : (kept : List Node) → HoldsAmong kept held → IfOk answer (λ v. WereAsked w most message (replies_of table) kept v.questions)
+  pub put : (kept : List Node) → HoldsAmong kept held → (puts : List Node) × WerePut w most message (replies_of table) kept puts × HoldsAmong (kept ++ puts) now
+  pub now_is : after.held ≡ Some now
 
-pub item_judged : (accepts : Accepts) (anchors : List Record) (config : Settings) (table : Table) (item : Item) (message left : List ℕ) (held : Option Held) (after : Outside)
+pub item_judged : (accepts : Accepts) (anchors : List Record) (config : Settings) (table : Table) (item : Item) (message left : List ℕ) (held : Held) (after : Outside) (now : Held)
     (answer : Result Verdict Error) → config ≡ default_settings → message ≡ item.octets → 12 ≤ length item.octets
-    → HoldsTable (world_of_script accepts anchors item.seconds) (replies_of table) held
-    → (HoldsTable (world_at accepts anchors config item.seconds) (replies_of table) held
-    → IsItemHandled (world_at accepts anchors config item.seconds) config.max_cname_dname message table after answer left)
-    → IsItemJudged accepts anchors table item after answer
-item_judged accepts anchors config table item message left held after answer e same long holds handled = record {
-  outcome = λ outcome f. is_outcome accepts anchors table item outcome (told ∙ exact outcome f)
-      (told_verdict (λ v. IsJustified w most item.octets v.outcome v.outcome.state) answer outcome f called.sound)
-      (told_verdict (λ v. v.questions ≤ most_questions w.anchors most item.octets) answer outcome f called.few)
-      (told_verdict (λ v. WereAsked w most item.octets (replies_of table) v.questions) answer outcome f called.asked);
-  holds = called.by_table.holds;
+    → HoldsTable (world_of_script accepts anchors item.seconds) (replies_of table) (Some held)
+    → (HoldsTable (world_at accepts anchors config item.seconds) (replies_of table) (Some held)
+    → IsItemHandled (world_at accepts anchors config item.seconds) config.max_cname_dname message table held after now answer left)
+    → IsItemJudged accepts anchors table item held now answer
+item_judged accepts anchors config table item message left held after now answer e same long holds handled = record {
+  outcome = λ kept among outcome f.
+      let put = called.put kept among in (
+        put.0,
+        is_outcome accepts anchors table kept put.0 item outcome (told ∙ exact outcome f)
+            (told_verdict (λ v. IsJustified w most item.octets v.outcome v.outcome.state) answer outcome f called.sound)
+            (told_verdict (λ v. v.questions ≤ most_questions w.anchors most item.octets) answer outcome f called.few)
+            (told_verdict (λ v. WereAsked w most item.octets (replies_of table) kept v.questions) answer outcome f (called.asked kept among))
+            put.1,
+        put.2,
+      );
+  holds = subst (HoldsTable w (replies_of table)) called.now_is called.by_table.holds;
 }
   where
     most : ℕ
@@ -207,11 +214,11 @@ item_judged accepts anchors config table item message left held after answer e s
     w : World
     w = world_of_script accepts anchors item.seconds
 
-    called : IsItemHandled w most item.octets table after answer left
+    called : IsItemHandled w most item.octets table held after now answer left
     called =
-        subst (λ (m : List ℕ). IsItemHandled w most m table after answer left) same
-        (subst (λ (x : Settings). IsItemHandled (world_at accepts anchors x item.seconds) x.max_cname_dname message table after answer left) e
-        (handled (subst (λ (x : Settings). HoldsTable (world_at accepts anchors x item.seconds) (replies_of table) held) (sym e) holds)))
+        subst (λ (m : List ℕ). IsItemHandled w most m table held after now answer left) same
+        (subst (λ (x : Settings). IsItemHandled (world_at accepts anchors x item.seconds) x.max_cname_dname message table held after now answer left) e
+        (handled (subst (λ (x : Settings). HoldsTable (world_at accepts anchors x item.seconds) (replies_of table) (Some held)) (sym e) holds)))
 
     told : outcome_of accepts anchors table item.seconds item.octets ≡ told_by (handed_alone w most (replies_of table) item.octets).0
     told = with_header accepts anchors table item.seconds item.octets long
@@ -232,13 +239,26 @@ none_held w replies nodes e = subst (λ (xs : List (Labels × Node)). HoldsTable
     none : HoldsTable w replies (Some (held_in []))
     none p n f = absurd cc
 
--- a message without a header has this outcome
-pub short_outcome : (accepts : Accepts) (anchors : List Record) (table : Table) (item : Item) → length item.octets < 12
-    → IsOutcome accepts anchors table item (Err ShortMessage)
-short_outcome accepts anchors table item l = is_outcome accepts anchors table item (Err ShortMessage)
+-- and so each is among any nodes
+pub none_among : (kept : List Node) (nodes : List (Labels × Node)) → nodes ≡ [] → HoldsAmong kept (held_in nodes)
+none_among kept nodes e = subst (λ (xs : List (Labels × Node)). HoldsAmong kept (held_in xs)) (sym e) none
+  where
+    none : HoldsAmong kept (held_in [])
+    none p n f = absurd cc
+
+-- a message without a header has this outcome, and nothing is put for it
+pub short_outcome : (accepts : Accepts) (anchors : List Record) (table : Table) (kept : List Node) (item : Item) → length item.octets < 12
+    → IsOutcome accepts anchors table kept [] item (Err ShortMessage)
+short_outcome accepts anchors table kept item l = is_outcome accepts anchors table kept [] item (Err ShortMessage)
     (cond-true (nat_lt (length item.octets) 12) (Some (Err ShortMessage))
     (told_by (handed_alone (world_of_script accepts anchors item.seconds) default_settings.max_cname_dname (replies_of table) item.octets).0) (lt-ltb (length item.octets) 12 l))
-    tt tt tt
+    tt tt tt (none_put (world_of_script accepts anchors item.seconds) default_settings.max_cname_dname (replies_of table) item.octets kept)
+
+-- over what is held
+pub short_over : (accepts : Accepts) (anchors : List Record) (table : Table) (item : Item) (held : Held) → length item.octets < 12
+    → (kept : List Node) → HoldsAmong kept held → ComesOver accepts anchors table kept item (Err ShortMessage) held
+short_over accepts anchors table item held l kept among =
+    ([], short_outcome accepts anchors table kept item l, subst (λ (ns : List Node). HoldsAmong ns held) (sym (append-nil kept)) among)
 
 -- which is shorter
 pub not_long : (n : ℕ) → (12 ≤ n → ⊥) → n < 12

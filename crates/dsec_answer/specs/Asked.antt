@@ -1,18 +1,28 @@
--- How many questions a message of a script takes.
-use Rattle.std.specs.Prelude.{◌≡◌, ℕ, List, length}
+-- Which questions a message of a script takes, and which nodes it puts.
+use Rattle.std.specs.Prelude.{◌≡◌, ◌⊎◌, ℕ, List, [], length, Contains, Some}
+use Rattle.dsec_spec.specs.Names.{Place}
 use Rattle.dsec_nodes.specs.World.{World, Replies}
 use Rattle.dsec_nodes.specs.Nodes.{Node}
 use Rattle.dsec_nodes.specs.Machine.{Question as Asked}
 use Rattle.dsec_nodes.specs.InStep.{AskedOf}
-use Rattle.dsec_course.specs.Hearing.{IsOfTable}
+use Rattle.dsec_node.specs.Caches.{Held}
 use Rattle.dsec_context.specs.Calls.{WereHeard}
 
--- so many questions were asked for a message: those of the message judged a step at a time over nodes of a table, each with the table's reply;
--- and these nodes were put
--- (RFC 4035 4.3, 4.5)
-pub record WereAsked (w : World) (most : ℕ) (message : List ℕ) (replies : Replies) (number : ℕ) : Type 0 where
+-- so many questions were asked for a message: those of the message judged a step at a time over these nodes and those that it puts itself, each with
+-- the table's reply (RFC 4035 4.3, 4.5)
+pub record WereAsked (w : World) (most : ℕ) (message : List ℕ) (replies : Replies) (kept : List Node) (number : ℕ) : Type 0 where
   pub asked : List Asked
   pub as_many : number ≡ length asked
   pub replied : AskedOf replies asked
   pub puts : List Node
-  pub heard : WereHeard w most message (IsOfTable w replies) asked puts
+  pub heard : WereHeard w most message (Contains kept) asked puts
+
+-- these nodes were put for a message: none, or those of the message judged a step at a time over these, by the table's replies (RFC 4035 4.5)
+pub record WerePut (w : World) (most : ℕ) (message : List ℕ) (replies : Replies) (kept puts : List Node) : Type 0 where
+  pub asked : List Asked
+  pub replied : AskedOf replies asked
+  pub in_turn : (puts ≡ []) ⊎ WereHeard w most message (Contains kept) asked puts
+
+-- each node that is held is one of these
+abbrev pub HoldsAmong : List Node → Held → Type 0
+HoldsAmong kept held = (p : Place) (n : Node) → held p ≡ Some n → Contains kept n

@@ -1,9 +1,11 @@
 -- What comes of the messages of a script, and what is written of them.
-use Rattle.std.specs.Prelude.{◌≡◌, ◌≤◌, ℕ, ◌+◌, nat_lt, List, [], ◌∷◌, ◌++◌, length, Option, Some, None, Result, Ok, Err, IfOk, if◌then◌else◌}
+use Rattle.std.proofs.Math.Bool.{not}
+use Rattle.std.specs.Prelude.{◌≡◌, ◌≤◌, ◌==◌, ◌||◌, ℕ, ◌+◌, nat_lt, List, [], ◌∷◌, ◌++◌, length, Option, Some, None, Result, Ok, Err, IfOk, if◌then◌else◌}
 use Rattle.dsec_spec.specs.Records.{Record}
 use Rattle.dsec_spec.specs.Accepts.{Accepts}
 use Rattle.dsec_spec.specs.Outside.{Table}
 use Rattle.dsec_nodes.specs.World.{World}
+use Rattle.dsec_nodes.specs.Nodes.{Node}
 use Rattle.dsec_nodes.specs.Outcomes as outcomes
 use Rattle.dsec_nodes.specs.SoundOutcomes.{IsJustified}
 use Rattle.dsec_plain.specs.PlainAnswers.{IsPlainAnswer}
@@ -18,7 +20,7 @@ use Rattle.dsec_context.specs.Leaving.{handed_alone}
 use Rattle.dsec_context.specs.Writing.{CannotBeRewritten}
 use Rattle.dsec_answer.specs.declared.outcome.Unjudged.{Unjudged}
 use Rattle.dsec_answer.specs.declared.outcome.Unjudged.TheVariants.{ShortMessage, FormError, ParseError, PushError}
-use Rattle.dsec_answer.specs.Asked.{WereAsked}
+use Rattle.dsec_answer.specs.Asked.{WereAsked, WerePut}
 use Rattle.dsec_answer.specs.Told.{Outcome}
 use Rattle.dsec_answer.specs.Texts.{outcome_text}
 use Rattle.dsec_script.specs.declared.items.Item.{Item}
@@ -58,31 +60,39 @@ IsSecureOutcome anchors message (Err _) = ⊥
 
 -- What the outcome of a message is: exactly what the recursion answers, its state, its cause and why; it is justified; it is Secure where the
 -- message is an ordinary reply from the zone at the anchor, if it can be rewritten; it took no more questions than a message of its groups may, and
--- just those that judging it a step at a time takes over nodes of the table, which lessen them (RFC 4033 5, RFC 4035 4.3, 4.5, 5)
-pub record IsOutcome (accepts : Accepts) (anchors : List Record) (table : Table) (item : Item) (outcome : Outcome) : Type 0 where
+-- just those that judging it a step at a time takes over the nodes that are kept, which lessen them; and so were these put (RFC 4033 5,
+-- RFC 4035 4.3, 4.5, 5)
+pub record IsOutcome (accepts : Accepts) (anchors : List Record) (table : Table) (kept puts : List Node) (item : Item) (outcome : Outcome) : Type 0 where
   pub exact : outcome_of accepts anchors table item.seconds item.octets ≡ Some (without_questions outcome)
   pub sound : IfOk outcome (λ v. IsJustified (world_of_script accepts anchors item.seconds) default_settings.max_cname_dname item.octets v.outcome v.outcome.state)
   pub complete : IsPlainAnswer (world_of_script accepts anchors item.seconds) (replies_of table) item.octets → IsSecureOutcome anchors item.octets outcome
   pub few : IfOk outcome (λ v. v.questions ≤ most_questions anchors default_settings.max_cname_dname item.octets)
-  pub asked : IfOk outcome (λ v. WereAsked (world_of_script accepts anchors item.seconds) default_settings.max_cname_dname item.octets (replies_of table) v.questions)
+  pub asked : IfOk outcome (λ v. WereAsked (world_of_script accepts anchors item.seconds) default_settings.max_cname_dname item.octets (replies_of table) kept v.questions)
+  pub put : WerePut (world_of_script accepts anchors item.seconds) default_settings.max_cname_dname item.octets (replies_of table) kept puts
 
--- one outcome for each message, in order
-abbrev pub AreOutcomes : Accepts → List Record → Table → List Item → List Outcome → Type 0
-AreOutcomes accepts anchors table [] [] = Unit {0}
-AreOutcomes accepts anchors table [] (outcome ∷ outcomes) = ⊥
-AreOutcomes accepts anchors table (item ∷ items) [] = ⊥
-AreOutcomes accepts anchors table (item ∷ items) (outcome ∷ outcomes) =
-    IsOutcome accepts anchors table item outcome × AreOutcomes accepts anchors table items outcomes
+-- the nodes that are kept for a message, of those that were at the moment before: all at the same moment, none at another and behind a `now`
+abbrev pub kept_for : ℕ → Item → List Node → List Node
+kept_for moment item kept = if item.opens || not (item.seconds == moment) then [] else kept
+
+-- one outcome for each message, in order, where at this moment these nodes are kept: each message is judged over those that the messages before it
+-- have put since the last `now`, at one moment (RFC 4035 4.5)
+abbrev pub AreOutcomes : Accepts → List Record → Table → ℕ → List Node → List Item → List Outcome → Type 0
+AreOutcomes accepts anchors table moment kept [] [] = Unit {0}
+AreOutcomes accepts anchors table moment kept [] (outcome ∷ outcomes) = ⊥
+AreOutcomes accepts anchors table moment kept (item ∷ items) [] = ⊥
+AreOutcomes accepts anchors table moment kept (item ∷ items) (outcome ∷ outcomes) =
+    (puts : List Node) × IsOutcome accepts anchors table (kept_for moment item kept) puts item outcome
+    × AreOutcomes accepts anchors table item.seconds (kept_for moment item kept ++ puts) items outcomes
 
 -- the texts of outcomes, the first of which has this index
 unfoldable pub texts_from : ℕ → List Outcome → List ℕ
 texts_from index [] = []
 texts_from index (outcome ∷ outcomes) = outcome_text index outcome ++ texts_from (index + 1) outcomes
 
--- the text of outcomes of these messages
+-- the text of outcomes of these messages, before which no node is kept
 pub record IsText (accepts : Accepts) (anchors : List Record) (table : Table) (items : List Item) (text : List ℕ) : Type 0 where
   pub outcomes : List Outcome
-  pub each : AreOutcomes accepts anchors table items outcomes
+  pub each : AreOutcomes accepts anchors table 0 [] items outcomes
   pub text_is : text ≡ texts_from 0 outcomes
 
 -- the text of the outcomes of a script's messages

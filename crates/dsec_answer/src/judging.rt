@@ -3,12 +3,15 @@
 ghost use Rattle.std.specs.Prelude.{◌≡◌, ◌≤◌, ◌++◌, [], ℕ, List, Some, IfOk, OnOk, IsErrOf};
 ghost use Rattle.std.specs.Io.KnownBytes.{Appends};
 ghost use Rattle.dsec_spec.specs.Outside.{Rose, SentFront};
+ghost use Rattle.dsec_nodes.specs.Nodes.{Node};
 ghost use Rattle.dsec_nodes.specs.World.{Replies};
 ghost use Rattle.dsec_node.specs.Caches.{held_in};
 ghost use Rattle.dsec_node.specs.Configs.{default_settings};
 ghost use Rattle.dsec_outside.specs.Faults.{CountsWrites};
 ghost use Rattle.dsec_context.specs.Outside.{replies_of, HoldsTable};
-ghost use Rattle.dsec_answer.specs.Outcomes.{IsOutcome, IsText, world_of_script};
+ghost use Rattle.dsec_answer.specs.Asked.{HoldsAmong};
+ghost use Rattle.dsec_answer.specs.Outcomes.{IsText, kept_for, world_of_script};
+ghost use Rattle.dsec_answer.specs.Sending.{ComesOver};
 ghost use Rattle.dsec_answer.specs.Texts.{outcome_text};
 ghost use Rattle.dsec_answer.specs.Told as outcomes;
 
@@ -32,7 +35,8 @@ fn judge_one<V: Verifier>(
 ) -> Result<Outcome<V>, NoMemory>
     requires config { context.old.config ≡ default_settings }
     requires holds { HoldsTable (world_of_script V.accepts context.old.anchors item.seconds) (replies_of upstream.old.replies) (Some (held_in context.old.nodes)) }
-    ensures outcome { IfOk result (λ outcome. IsOutcome V.accepts context.old.anchors upstream.old.replies item outcome) }
+    ensures outcome { IfOk result (λ outcome. (kept : List Node) → HoldsAmong kept (held_in context.old.nodes)
+        → ComesOver V.accepts context.old.anchors upstream.old.replies kept item outcome (held_in context.new.nodes)) }
     ensures holds { HoldsTable (world_of_script V.accepts context.old.anchors item.seconds) (replies_of upstream.old.replies) (Some (held_in context.new.nodes)) }
     ensures same_anchors { context.new.anchors ≡ context.old.anchors }
     ensures same_config { context.new.config ≡ context.old.config }
@@ -48,6 +52,7 @@ fn judge_one<V: Verifier>(
 fn forget_others<V: Verifier>(context: &mut ValidationContext<V>, moment: u64, item: &Item)
     ensures holds { (replies : Replies) → HoldsTable (world_of_script V.accepts context.old.anchors moment) replies (Some (held_in context.old.nodes))
         → HoldsTable (world_of_script V.accepts context.old.anchors item.now.seconds) replies (Some (held_in context.new.nodes)) }
+    ensures kept { (kept : List Node) → HoldsAmong kept (held_in context.old.nodes) → HoldsAmong (kept_for moment item.now kept) (held_in context.new.nodes) }
     ensures same_anchors { context.new.anchors ≡ context.old.anchors }
     ensures same_config { context.new.config ≡ context.old.config }
 {
@@ -68,7 +73,8 @@ fn push_one<V: Verifier>(
 ) -> Result<(), NoMemory>
     requires config { context.old.config ≡ default_settings }
     requires holds { HoldsTable (world_of_script V.accepts context.old.anchors moment) (replies_of upstream.old.replies) (Some (held_in context.old.nodes)) }
-    ensures text { OnOk result ((outcome : outcomes.Outcome) × IsOutcome V.accepts context.old.anchors upstream.old.replies item outcome
+    ensures text { OnOk result ((outcome : outcomes.Outcome) × ((kept : List Node) → HoldsAmong kept (held_in context.old.nodes)
+        → ComesOver V.accepts context.old.anchors upstream.old.replies (kept_for moment item kept) item outcome (held_in context.new.nodes))
         × (out.new.items ≡ out.old.items ++ outcome_text index outcome)) }
     ensures holds { HoldsTable (world_of_script V.accepts context.old.anchors item.seconds) (replies_of upstream.old.replies) (Some (held_in context.new.nodes)) }
     ensures same_anchors { context.new.anchors ≡ context.old.anchors }

@@ -1,13 +1,16 @@
-use Rattle.std.proofs.Common.{◌≡◌, ◌+◌, ◌++◌, ◌∷◌, [], length, ap, take, drop, arith, rules, sym, subst, refl, ◌∙◌, append-nil}
+use Rattle.std.proofs.Common.{List, ◌≡◌, ◌+◌, ◌++◌, ◌∷◌, [], length, ap, take, drop, arith, rules, sym, subst, refl, ◌∙◌, append-nil}
 use Rattle.std.specs.Io.KnownBytes.{Appends}
 use Rattle.std.proofs.lemmas.List.{take_all, take-append-drop, length_push}
 use Rattle.std.proofs.lemmas.Iterator.Consumers.{YieldsList-end, YieldsList-turn}
 use Rattle.std.proofs.lemmas.Iterator.Adapters.{YieldsList-from_vec}
 use Rattle.dsec_spec.specs.Outside.{SentFront}
 use Rattle.dsec_outside.proofs.Pieces.{front_of}
+use Rattle.dsec_nodes.specs.Nodes.{Node}
+use Rattle.dsec_node.specs.Caches.{held_in}
 use Rattle.dsec_context.specs.Outside.{replies_of}
-use Rattle.dsec_answer.specs.Outcomes.{world_of_script, IsOutcome}
-use Rattle.dsec_answer.specs.Sending.{SoFar}
+use Rattle.dsec_answer.specs.Asked.{HoldsAmong}
+use Rattle.dsec_answer.specs.Outcomes.{world_of_script, kept_for}
+use Rattle.dsec_answer.specs.Sending.{ComesOver, SoFar}
 use Rattle.dsec_answer.specs.Texts.{outcome_text}
 use Rattle.dsec_answer.specs.Told.{Outcome}
 use Rattle.dsec_answer.proofs.OutcomeLaws.{none_held}
@@ -22,14 +25,15 @@ loop-item-init g c = (
   refl,
   refl,
   none_held (world_of_script g.V.Verifier.accepts c.args.context.now.anchors 0) (replies_of c.args.upstream.now.replies) c.args.context.now.nodes c.requires.fresh,
-  so_far_none g.V.Verifier.accepts c.args.context.now.anchors c.args.upstream.now.replies (g.K.Sink.written c.args.sink.now) c.new-gathered.result.items c.new-gathered.ensures.items,
+  so_far_none g.V.Verifier.accepts c.args.context.now.anchors c.args.upstream.now.replies c.args.context.now.nodes (g.K.Sink.written c.args.sink.now) c.new-gathered.result.items
+      c.requires.fresh c.new-gathered.ensures.items,
 )
 
 pub returns-in_err-push_one-clause-front : goal.returns-in_err-push_one-clause-front
 returns-in_err-push_one-clause-front g c =
     let items = c.args.items.items in
     let n = length c.loop-item.yielded in
-    so_far_front g.V.Verifier.accepts c.args.context.now.anchors c.args.upstream.now.replies (take n items) (drop n items) items _ _ _ (take-append-drop n items) c.loop-item.invariant.6
+    so_far_front g.V.Verifier.accepts c.args.context.now.anchors c.args.upstream.now.replies (take n items) (drop n items) items _ _ _ _ _ (take-append-drop n items) c.loop-item.invariant.6
 
 pub returns-in_err-send_block-clause-front : goal.returns-in_err-send_block-clause-front
 returns-in_err-send_block-clause-front g c =
@@ -41,12 +45,15 @@ returns-in_err-send_block-clause-front g c =
     let n = length (yielded ++ item ∷ []) in
     let road = YieldsList-from_vec {s = c.into_iter-item-iterator.result} items (search rules) (search rules) in
     let turn = YieldsList-turn road yielded c.loop-item.item-iterator c.loop-item.yielded_by c.next.result c.next.new.self item c.in-Some.is c.next.ensures.steps in
-    let told : (o : Outcome) × IsOutcome g.V.Verifier.accepts c.args.context.now.anchors table item o × (c.push_one.new.out.items ≡ c.loop-item.gathered.items ++ outcome_text c.loop-item.index o) =
+    let old = held_in c.loop-item.context.nodes in
+    let new = held_in c.push_one.new.context.nodes in
+    let told : (o : Outcome) × ((kept : List Node) → HoldsAmong kept old → ComesOver g.V.Verifier.accepts c.args.context.now.anchors table (kept_for c.loop-item.moment item kept) item o new)
+    × (c.push_one.new.out.items ≡ c.loop-item.gathered.items ++ outcome_text c.loop-item.index o) =
     rw (sym inv.2, sym inv.4) c.in_ok-push_one.ensures.text in
-    let more : SoFar g.V.Verifier.accepts c.args.context.now.anchors table (take n items) (g.K.Sink.written c.args.sink.now) (g.K.Sink.written c.loop-item.sink) c.push_one.new.out.items =
-    so_far_more g.V.Verifier.accepts c.args.context.now.anchors table (take (length yielded) items) (take n items) item _ _ _ _ c.loop-item.index
+    let more : SoFar g.V.Verifier.accepts c.args.context.now.anchors table (take n items) item.seconds new (g.K.Sink.written c.args.sink.now) (g.K.Sink.written c.loop-item.sink) c.push_one.new.out.items =
+    so_far_more g.V.Verifier.accepts c.args.context.now.anchors table (take (length yielded) items) (take n items) item c.loop-item.moment old new _ _ _ _ c.loop-item.index
     (one_more items yielded item turn.0 turn.1) (first_many items yielded c.loop-item.index turn.0 inv.1) inv.6 told in
-    so_far_front_more g.V.Verifier.accepts c.args.context.now.anchors table (take n items) (drop n items) items _ _ _ _ (take-append-drop n items) more c.in_err-send_block.ensures.front
+    so_far_front_more g.V.Verifier.accepts c.args.context.now.anchors table (take n items) (drop n items) items _ _ _ _ _ _ (take-append-drop n items) more c.in_err-send_block.ensures.front
 
 pub loop-item-preserved : goal.loop-item-preserved
 loop-item-preserved g c =
@@ -58,10 +65,13 @@ loop-item-preserved g c =
     let n = length (yielded ++ item ∷ []) in
     let road = YieldsList-from_vec {s = c.into_iter-item-iterator.result} items (search rules) (search rules) in
     let turn = YieldsList-turn road yielded c.loop-item.item-iterator c.loop-item.yielded_by c.next.result c.next.new.self item c.in-Some.is c.next.ensures.steps in
-    let told : (o : Outcome) × IsOutcome g.V.Verifier.accepts c.args.context.now.anchors table item o × (c.push_one.new.out.items ≡ c.loop-item.gathered.items ++ outcome_text c.loop-item.index o) =
+    let old = held_in c.loop-item.context.nodes in
+    let new = held_in c.push_one.new.context.nodes in
+    let told : (o : Outcome) × ((kept : List Node) → HoldsAmong kept old → ComesOver g.V.Verifier.accepts c.args.context.now.anchors table (kept_for c.loop-item.moment item kept) item o new)
+    × (c.push_one.new.out.items ≡ c.loop-item.gathered.items ++ outcome_text c.loop-item.index o) =
     rw (sym inv.2, sym inv.4) c.in_ok-push_one.ensures.text in
-    let more : SoFar g.V.Verifier.accepts c.args.context.now.anchors table (take n items) (g.K.Sink.written c.args.sink.now) (g.K.Sink.written c.loop-item.sink) c.push_one.new.out.items =
-    so_far_more g.V.Verifier.accepts c.args.context.now.anchors table (take (length yielded) items) (take n items) item _ _ _ _ c.loop-item.index
+    let more : SoFar g.V.Verifier.accepts c.args.context.now.anchors table (take n items) item.seconds new (g.K.Sink.written c.args.sink.now) (g.K.Sink.written c.loop-item.sink) c.push_one.new.out.items =
+    so_far_more g.V.Verifier.accepts c.args.context.now.anchors table (take (length yielded) items) (take n items) item c.loop-item.moment old new _ _ _ _ c.loop-item.index
     (one_more items yielded item turn.0 turn.1) (first_many items yielded c.loop-item.index turn.0 inv.1) inv.6 told in (
       c.in_ok-send_block.ensures.counts ∙ inv.0,
       ap (λ n. n + 1) inv.1 ∙ sym (length_push yielded item),
@@ -69,7 +79,7 @@ loop-item-preserved g c =
       c.push_one.ensures.same_config ∙ inv.3,
       c.push_one.ensures.same_table ∙ inv.4,
       rw (sym inv.2, sym inv.4) c.push_one.ensures.holds,
-      so_far_sent g.V.Verifier.accepts c.args.context.now.anchors table (take n items) _ _ _ _ _ more c.in_ok-send_block.ensures.sent,
+      so_far_sent g.V.Verifier.accepts c.args.context.now.anchors table (take n items) _ _ _ _ _ _ _ more c.in_ok-send_block.ensures.sent,
     )
 
 pub returns-in_err-send-clause-front : goal.returns-in_err-send-clause-front
@@ -78,7 +88,7 @@ returns-in_err-send-clause-front g c =
     let n = length c.loop-item.yielded in
     let front : SentFront (g.K.Sink.written c.loop-item.sink) (g.K.Sink.written c.send.new.sink) c.loop-item.gathered.items =
     subst (SentFront (g.K.Sink.written c.loop-item.sink) (g.K.Sink.written c.send.new.sink)) c.deref.ensures.value c.in_err-send.ensures.front in
-    so_far_front_more g.V.Verifier.accepts c.args.context.now.anchors c.args.upstream.now.replies (take n items) (drop n items) items _ _ _ _ (take-append-drop n items) c.loop-item.invariant.6 front
+    so_far_front_more g.V.Verifier.accepts c.args.context.now.anchors c.args.upstream.now.replies (take n items) (drop n items) items _ _ _ _ _ _ (take-append-drop n items) c.loop-item.invariant.6 front
 
 pub returns-clause-sent : goal.returns-clause-sent
 returns-clause-sent g c =
@@ -87,7 +97,7 @@ returns-clause-sent g c =
     let last = YieldsList-end (YieldsList-from_vec {s = c.into_iter-item-iterator.result} items (search rules) (search rules)) c.loop-item.yielded c.loop-item.item-iterator c.loop-item.yielded_by c.next.result c.next.new.self c.in-None.is c.next.ensures.steps in
     let sent : Appends (g.K.Sink.written c.loop-item.sink) (g.K.Sink.written c.send.new.sink) c.loop-item.gathered.items =
     subst (Appends (g.K.Sink.written c.loop-item.sink) (g.K.Sink.written c.send.new.sink)) c.deref.ensures.value c.in_ok-send.ensures.sent in
-    so_far_whole g.V.Verifier.accepts c.args.context.now.anchors c.args.upstream.now.replies (take n items) items _ _ _ _ (take_all n items (omega (arith, last.1))) c.loop-item.invariant.6 sent
+    so_far_whole g.V.Verifier.accepts c.args.context.now.anchors c.args.upstream.now.replies (take n items) items _ _ _ _ _ _ (take_all n items (omega (arith, last.1))) c.loop-item.invariant.6 sent
 
 pub returns-clause-front : goal.returns-clause-front
 returns-clause-front g c =

@@ -13,4 +13,4 @@ invariant-loop-item g l =
     × (l.context.config ≡ l.fn.context.config)
     × (l.upstream.replies ≡ l.fn.upstream.replies)
     × HoldsTable (world_of_script g.V.Verifier.accepts l.fn.context.anchors l.moment) (replies_of l.fn.upstream.replies) (Some (held_in l.context.nodes))
-    × SoFar g.V.Verifier.accepts l.fn.context.anchors l.fn.upstream.replies (take (length l.yielded) l.fn.items.items) (g.K.Sink.written l.fn.sink) (g.K.Sink.written l.sink) l.gathered.items
+    × SoFar g.V.Verifier.accepts l.fn.context.anchors l.fn.upstream.replies (take (length l.yielded) l.fn.items.items) l.moment (held_in l.context.nodes) (g.K.Sink.written l.fn.sink) (g.K.Sink.written l.sink) l.gathered.items
