@@ -1,20 +1,20 @@
 -- The names that a zone hashes exist; with what is added for its hashes no name is added; and what it doesn't hash is opted out.
-use Rattle.std.proofs.Common.{◌≡◌, ℕ, ◌<◌, nat_eq, Bool, true, false, ◌&&◌, ◌==◌, List, [], ◌∷◌, ◌++◌, map, refl, sym, ap, ◌∙◌, subst, inl, inr, ◌⊎◌, arith, eqb-true, eq-eqb}
+use Rattle.std.proofs.Common.{◌≡◌, ℕ, Bool, true, false, ◌&&◌, ◌==◌, List, [], ◌∷◌, map, refl, sym, ap, ◌∙◌, subst, inl, inr, ◌⊎◌, arith, eqb-true, eq-eqb}
 use Rattle.std.specs.Prelude.{Contains, filter}
 use Rattle.std.specs.List.{list_any}
 use Rattle.std.proofs.lemmas.Bool.{true≢false}
-use Rattle.dsec_spec.specs.Names.{Place, place, same_place, IsAtOrBelow}
-use Rattle.dsec_spec.specs.Numbers.{NS, DS, SOA, RRSIG, NSEC3PARAM}
+use Rattle.dsec_spec.specs.Names.{Place, place, same_place}
+use Rattle.dsec_spec.specs.Numbers.{NS, DS, RRSIG, NSEC3PARAM}
 use Rattle.dsec_spec.specs.Records.{Record}
 use Rattle.dsec_spec.specs.RecordViews.{Hashing}
-use Rattle.dsec_spec.specs.Zones.{Zone, Owns, Stands, IsDelegation, IsInsecureDelegation, Exists}
+use Rattle.dsec_spec.specs.Zones.{Zone, Owns, Stands, IsInsecureDelegation, Exists}
 use Rattle.dsec_spec.specs.ZonesOfRecords.{is_of_zone, set_key, zone_of, soas_at}
-use Rattle.dsec_spec.specs.DenialTruth.{IsFree, IsOptedOut}
+use Rattle.dsec_spec.specs.DenialTruth.{IsFree}
 use Rattle.dsec_spec.specs.SetsToSign.{to_sign, is_to_sign}
 use Rattle.dsec_spec.specs.HashedNames.{has_opt_out, IsHashed, HasCollision, types_at, signature_key, hashed_zone}
 use Rattle.dsec_spec.proofs.CanonicalNames.{same_place_decides}
-use Rattle.dsec_spec.proofs.Choosing.{both, passes}
-use Rattle.dsec_spec.proofs.Members.{in_more, in_front, in_back, in_either, in_map, from_map, in_filter, from_filter, some_passes, none_passes}
+use Rattle.dsec_spec.proofs.Choosing.{both}
+use Rattle.dsec_spec.proofs.Members.{in_more, in_front, in_either, in_map, from_map, in_filter, from_filter, some_passes, none_passes}
 use Rattle.dsec_spec.proofs.ZoneOfLaws.{apex_stands}
 
 -- ---- what stands, as tests

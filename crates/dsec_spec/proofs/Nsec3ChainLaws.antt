@@ -1,21 +1,20 @@
 -- Each NSEC3 record of a chain is true of the zone, each name that is hashed has one, and no two names share a hash.
-use Rattle.std.proofs.Common.{◌≡◌, ℕ, zero, suc, ◌+◌, ◌<◌, ◌≤◌, nat_eq, ◌==◌, ◌%◌, Bool, true, false, List, [], ◌∷◌, length, get_or, reverse, refl, sym, ap, ◌∙◌, subst, inl, inr, ◌⊎◌, arith, Some}
-use Rattle.std.specs.Prelude.{AllPairs, All, Any, Contains}
+use Rattle.std.proofs.Common.{◌≡◌, ℕ, zero, suc, ◌+◌, ◌<◌, ◌≤◌, nat_eq, Bool, true, false, List, [], ◌∷◌, length, get_or, reverse, refl, sym, ap, ◌∙◌, subst, inl, inr, arith}
+use Rattle.std.specs.Prelude.{All, Any, Contains}
 use Rattle.std.specs.List.{list_any}
 use Rattle.std.specs.Cmp.{nat_eq_equiv}
-use Rattle.std.proofs.lemmas.Bool.{cases_lt, eqb-true, true≢false}
+use Rattle.std.proofs.lemmas.Bool.{eqb-true}
 use Rattle.std.proofs.lemmas.List.{get_or_default}
 use Rattle.std.proofs.lemmas.Map.Views.{list_any-from_Contains, Contains-from_any}
 use Rattle.dsec_spec.specs.Names.{Labels, Place, place, wire_octets}
-use Rattle.dsec_spec.specs.Numbers.{NSEC3}
 use Rattle.dsec_spec.specs.Records.{Record}
-use Rattle.dsec_spec.specs.RecordViews.{Hashing, Nsec3, nsec3_of}
+use Rattle.dsec_spec.specs.RecordViews.{Hashing, nsec3_of}
 use Rattle.dsec_spec.specs.Base32hex.{base32hex}
 use Rattle.dsec_spec.specs.TypeBitmaps.{has_type}
-use Rattle.dsec_spec.specs.Zones.{Zone, Owns, Stands, Exists}
+use Rattle.dsec_spec.specs.Zones.{Zone, Owns}
 use Rattle.dsec_spec.specs.ZonesOfRecords.{zone_of}
-use Rattle.dsec_spec.specs.DenyingRecords.{Nsec3At, hash_by, CoversHash, IsBetween}
-use Rattle.dsec_spec.specs.DenialTruth.{IsOptedOut, IsNsec3True, IsTrueNsec3}
+use Rattle.dsec_spec.specs.DenyingRecords.{hash_by, IsBetween}
+use Rattle.dsec_spec.specs.DenialTruth.{IsTrueNsec3}
 use Rattle.dsec_spec.specs.HashedNames.{has_opt_out, IsHashed, HasCollision, types_at, hashed_zone}
 use Rattle.dsec_spec.specs.Nsec3Chains.{hashed_owner, IsNsec3Of, first_name, AreNsec3sOf, IsNsec3Chain}
 use Rattle.dsec_spec.proofs.BitmapLaws.{reads_back}
