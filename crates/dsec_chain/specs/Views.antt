@@ -1,5 +1,5 @@
 -- The owners inside a zone, as the code has them.
-use Rattle.std.specs.Prelude.{◌≡◌, ◌+◌, ◌≤◌, Bool, true, false, List, length, take, drop, Option, Some, None}
+use Rattle.std.specs.Prelude.{◌≡◌, ◌≢◌, ◌+◌, ◌≤◌, [], Bool, true, false, List, length, take, drop, Option, Some, None}
 use Rattle.std.specs.List.{list_any}
 use Rattle.dsec_spec.specs.Names.{Labels, Place, place}
 use Rattle.dsec_spec.specs.Records.{Record}
@@ -23,6 +23,10 @@ owner_view it = record { name = it.name.now; types = types_inside (inside_view i
 -- whether a type stands there
 abbrev pub is_typed : InsideOwner → Bool
 is_typed it = list_any (is_own it.is_cut) it.records.now
+
+-- a record stands there, one at least
+abbrev pub HasRecords : InsideOwner → Type 0
+HasRecords it = it.records.now ≢ []
 
 -- the owner's records stand among these, behind as many as it says
 pub record IsPlaced (records : List Record) (it : InsideOwner) : Type 0 where

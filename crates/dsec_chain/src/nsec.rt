@@ -1,6 +1,6 @@
 //! The chain of NSEC records of a zone (RFC 4034 4, RFC 4035 2.3).
 
-ghost use Rattle.std.specs.Prelude.{◌≡◌, ◌≢◌, ◌↔◌, ◌++◌, ◌∷◌, [], filter, length, map, IfOk, IsErrOf, OnOk};
+ghost use Rattle.std.specs.Prelude.{◌≡◌, ◌≢◌, ◌↔◌, ◌++◌, ◌∷◌, ◌⊎◌, [], filter, length, map, IfErr, IfOk, IsErrOf, OnOk};
 ghost use Rattle.dsec_spec.specs.Names.{place};
 ghost use Rattle.dsec_spec.specs.CanonicalRecords.{AreOfOneClass, IsCanonical};
 ghost use Rattle.dsec_spec.specs.NsecChains.{AreNsecsOf, IsNsecChain, IsNsecOf, next_name as name_after};
@@ -30,6 +30,7 @@ pub fn generate_nsecs(
     requires class { AreOfOneClass (left_of records) }
     ensures chain { IfOk result (λ nsecs. IsNsecChain apex.now (left_of records.entry) nsecs.items) }
     ensures soa { IsErrOf result DenialError.SoaRecordCouldNotBeDetermined ↔ (length (soas_at (place apex.now) (left_of records.entry)) ≢ 1) }
+    ensures why { IfErr result (λ e. (e ≡ DenialError.SoaRecordCouldNotBeDetermined) ⊎ (e ≡ DenialError.NoMemory)) }
 {
     let Some(soa) = the_soa(apex, records.as_slice()) else {
         return Err(DenialError::SoaRecordCouldNotBeDetermined);

@@ -5,7 +5,7 @@ ghost use Rattle.dsec_spec.specs.Names.{place};
 ghost use Rattle.dsec_spec.specs.CanonicalRecords.{AreOrdered};
 ghost use Rattle.dsec_spec.specs.OwnersInside.{AreInside};
 ghost use Rattle.dsec_sorted.specs.IterViews.{left_of};
-ghost use Rattle.dsec_chain.specs.Views.{IsPlaced, inside_view};
+ghost use Rattle.dsec_chain.specs.Views.{HasRecords, IsPlaced, inside_view};
 
 use crate::zone::{cuts, is_open};
 use dsec_name::{Name, NoMemory};
@@ -36,6 +36,7 @@ pub fn inside_owners<'a>(
     requires { AreOrdered (left_of records.now) }
     ensures inside { IfOk result (λ all. AreInside (place apex.now) (left_of records.now) (map inside_view all.items)) }
     ensures placed { IfOk result (λ all. All (IsPlaced (left_of records.now)) all.items) }
+    ensures some { IfOk result (λ all. All HasRecords all.items) }
 {
     let mut all = Vec::new(alloc);
     let mut cut = apex;

@@ -155,6 +155,7 @@ impl<'a> RrsetIter<'a> {
     pub fn next(&mut self) -> Option<&'a Record>
         ensures first { IfSome result (λ it. members_left self.old ≡ it.now ∷ members_left self.new) }
         ensures end { IfNone result (members_left self.old ≡ []) }
+        ensures ended { IfNone result (members_left self.new ≡ []) }
     {
         match self.places {
             None => {
