@@ -9,13 +9,14 @@ ghost use Rattle.dsec_context.specs.Setting.{world_at};
 ghost use Rattle.dsec_nodes.specs.SoundOutcomes.{IsSound};
 ghost use Rattle.dsec_uses_validator.specs.Accepted.{by_one_algorithm};
 
-use anyhow::{Error, Result};
+use anyhow::{Context, Error, Result};
 use dsec_anchors::TrustAnchors;
 use dsec_context::{ValidationContext, Verdict};
 use dsec_group::ValidationState;
 use dsec_outside::Upstream;
 use dsec_wire::Message;
-use resolver::{Resolver, next_octets};
+use dsec_word::read_hex;
+use resolver::Resolver;
 use std::alloc::Global;
 use verifier::OneAlgorithm;
 
@@ -50,10 +51,13 @@ fn main(rt: HostRuntime) -> Result<()> {
         faults: 0,
     };
     for _ in 0..u64::MAX {
-        let Some(octets) = next_octets(&rt, alloc) else {
+        let mut line = String::new(alloc);
+        if rt.read_line(&mut line)? == 0 {
             break;
-        };
-        let mut reply = Message::from_octets(octets).map_err(Error::msg)?;
+        }
+        let word = line.trim_end().as_bytes();
+        let octets = read_hex(alloc, word).ok().context("no hex")?;
+        let mut reply = Message::from_octets(octets.into_vec()).map_err(Error::msg)?;
         // The moment is in seconds since 1970.
         let verdict = secure_verdict(alloc, &mut context, &mut reply, &mut upstream, 500);
         println!(rt; "secure: {}", verdict.is_some())?;

@@ -5,7 +5,7 @@ ghost use Rattle.std.specs.Prelude.{None};
 use dsec_name::Name;
 use dsec_number::Rtype;
 use dsec_outside::{AskError, Upstream};
-use dsec_word::read_hex;
+use dsec_word::{ReadError, read_hex};
 use std::alloc::Global;
 
 /// Asks by a line `ask <name> <type>` on the standard output, and takes the next line of the standard input, in hex, as the reply.
@@ -29,20 +29,18 @@ impl<'a> Upstream for Resolver<'a> {
 
     fn ask(&mut self, alloc: Global, name: &Name, rtype: Rtype) -> Result<Vec<u8>, AskError> {
         self.asked = self.asked.saturating_add(1);
-        let asked = println!(self.rt; "ask {name} {rtype}").ok();
-        let reply = asked.and_then(|_| next_octets(self.rt, alloc));
-        if reply.is_none() {
-            self.faults = self.faults.saturating_add(1);
+        let mut line = String::new(alloc);
+        let asked = println!(self.rt; "ask {name} {rtype}");
+        // No octets where the question can't be written, and at the end of the input.
+        let read = asked.and_then(|_| self.rt.read_line(&mut line));
+        let word = line.trim_end().as_bytes();
+        match (read.unwrap_or(0), read_hex(alloc, word)) {
+            (1.., Ok(reply)) => Ok(reply.into_vec()),
+            (1.., Err(ReadError::NoMemory)) => Err(AskError::NoMemory),
+            _ => {
+                self.faults = self.faults.saturating_add(1);
+                Err(AskError::Failed)
+            }
         }
-        reply.ok_or(AskError::Failed)
     }
-}
-
-/// The octets of the next line of the standard input, in hex; none where it ends, or where the line is no hex.
-pub fn next_octets(rt: &HostRuntime, alloc: Global) -> Option<Vec<u8>> {
-    let mut line = String::new(alloc);
-    if rt.read_line(&mut line).ok()? == 0 {
-        return None;
-    }
-    Some(read_hex(alloc, line.trim_end().as_bytes()).ok()?.into_vec())
 }
