@@ -41,12 +41,13 @@ fn sign(
 fn sign_whole(alloc: Global, zone: &mut SortedRecords) -> Result<()> {
     let own = key_record(zone.as_slice())?;
     let mut key = own_key(&own)?;
-    let (from, to) = (Timestamp::from_int(0), Timestamp::from_int(1000));
-    let config = SigningConfig::new(DenialConfig::Nsec, from, to);
+    let (inception, expiration) = (Timestamp::from_int(0), Timestamp::from_int(1000));
+    let config = SigningConfig::new(DenialConfig::Nsec, inception, expiration);
     sign(alloc, own.owner(), zone, &config, &mut key)?;
     let keys = Rrset::new_from_owned(slice::from_ref(&own)).map_err(Error::msg)?;
-    let signature = sign_rrset(alloc, &mut key, &keys, from, to).map_err(Error::msg)?;
-    zone.extend(vec![in alloc; signature]?).map_err(Error::msg)
+    let signature = sign_rrset(alloc, &mut key, &keys, inception, expiration);
+    zone.extend(vec![in alloc; signature.map_err(Error::msg)?]?)
+        .map_err(Error::msg)
 }
 
 fn main(rt: HostRuntime) -> Result<()> {
