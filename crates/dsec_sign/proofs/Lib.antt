@@ -1,5 +1,6 @@
 pub mod SetRuns
 pub mod ZoneSets
+pub mod SignableSets
 pub mod SignerSteps
 pub mod UnionLaws
 pub mod ZoneLaws

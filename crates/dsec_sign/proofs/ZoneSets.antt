@@ -1,11 +1,11 @@
 -- The sets that are signed in a zone, found owner by owner.
-use Rattle.std.proofs.Common.{◌≡◌, ◌≢◌, ℕ, zero, suc, ◌+◌, ◌<◌, ◌≤◌, Bool, true, false, cond, List, [], ◌∷◌, ◌++◌, length, take, drop, map, get_or, refl, sym, ap, ◌∙◌, subst, inl, inr, arith, append_assoc, length-append, length-drop, length-take-le}
+use Rattle.std.proofs.Common.{◌≡◌, ◌≢◌, ℕ, zero, suc, ◌+◌, ◌<◌, ◌≤◌, Bool, true, false, cond, List, [], ◌∷◌, ◌++◌, length, take, drop, map, get_or, refl, sym, ap, ◌∙◌, subst, inl, inr, arith, append_assoc, length-append, length-drop}
 use Rattle.std.specs.Prelude.{All, AllPairs, Contains, filter}
-use Rattle.std.specs.List.{flat_map, list_any}
+use Rattle.std.specs.List.{flat_map}
 use Rattle.std.proofs.lemmas.Bool.{cases_lt}
 use Rattle.std.proofs.lemmas.Cmp.{tied_itself, nat_cmp_total}
 use Rattle.std.proofs.lemmas.Grind.{flat_map-append}
-use Rattle.std.proofs.lemmas.List.{append-nil, get_or-drop, get_or-take, get_or_default, map-append, take-append-drop, take_more, get_or-map, length-map}
+use Rattle.std.proofs.lemmas.List.{append-nil, get_or-drop, get_or-take, get_or_default, map-append, take-append-drop, take_more}
 use Rattle.std.proofs.lemmas.List.Elements.{All-append, All-contains, All-push, filter-append}
 use Rattle.std.proofs.lemmas.List.Quantifiers.{all_pairs_push}
 use Rattle.std.specs.Cmp.{nat_cmp_is}
@@ -18,13 +18,12 @@ use Rattle.dsec_spec.specs.OwnersInside.{AreInside, Inside}
 use Rattle.dsec_spec.specs.SetsToSign.{is_signed}
 use Rattle.dsec_spec.specs.SignedZones.{of_one_set, sets_of, sets_to_sign}
 use Rattle.dsec_spec.proofs.Choosing.{filter_all, filter_like, filter_none}
-use Rattle.dsec_spec.proofs.Members.{first_in, later_in, in_more, in_either, in_front, in_back, in_map, none_passes, not_in_none, from_filter}
+use Rattle.dsec_spec.proofs.Members.{first_in, later_in, in_more, in_either, in_front, in_back, not_in_none, from_filter}
 use Rattle.dsec_spec.proofs.NameOrder.{not_before_itself, place_cmp_total}
 use Rattle.dsec_spec.proofs.SigningLaws.{signed_inside}
-use Rattle.dsec_sorted.specs.Sets.{AreOfOneSet, differ_in_ttl}
 use Rattle.dsec_chain.specs.Views.{IsPlaced}
 use Rattle.dsec_chain.specs.declared.owners.InsideOwner.{InsideOwner}
-use Rattle.dsec_sign.specs.Places.{IsFound, IsSignable, set_at}
+use Rattle.dsec_sign.specs.Places.{IsFound, set_at}
 use Rattle.dsec_sign.specs.Pushing.{IsOwner, Pushed}
 use Rattle.dsec_sign.specs.Runs.{AreApart, AreRuns, IsRun, joined}
 use Rattle.dsec_sign.specs.declared.zone_sets.SetAt.{SetAt}
@@ -396,40 +395,3 @@ collect_next apex records owners i o sets now inside lt at c p =
     let each = (inside.each m.0 q m.2).1 in
     subst (λ (x : Inside). Contains x.records r → place r.owner ≡ place x.name) m.3 (each r) g)
     (λ r g. subst (λ (x : Inside). Contains x.records r → place r.owner ≡ place x.name) at ((inside.each i o lt).1 r) g))
-
--- ---- what is known of each set
-
-pub run_of_one_set : (run : List Record) → IsRun run → AreOfOneSet run
-run_of_one_set run is r s h g =
-    let p = one_set_parts is.first r (is.one r h) in
-    let q = one_set_parts is.first s (is.one s g) in
-    (sym p.0 ∙ q.0, sym p.1 ∙ q.1, sym p.2 ∙ q.2)
-
--- each of the sets is one
-pub runs_of_one_set : (records : List Record) (sets : List SetAt) → AreRuns (map (set_at records) sets) → All (λ it. AreOfOneSet (set_at records it)) sets
-runs_of_one_set records sets runs k d lt =
-    let e : get_or (map (set_at records) sets) k (set_at records d) ≡ set_at records (get_or sets k d) = get_or-map (set_at records) sets k d (set_at records d) lt in
-    run_of_one_set (set_at records (get_or sets k d)) (subst IsRun e (runs.each k (set_at records d) (omega (arith, lt, length-map sets (set_at records)))))
-
--- records of a list in canonical order, from a place on, are in canonical order
-part_canonical : (records : List Record) (start size : ℕ) → IsCanonical records → start + size ≤ length records → IsCanonical (take size (drop start records))
-part_canonical records start size canonical within i j d lt lj =
-    let long : length (take size (drop start records)) ≡ size = length-take-le size (drop start records) (omega (arith, within, length-drop start records)) in
-    let low : j < size = omega (arith, lj, long) in
-    rw (get_or-take size (drop start records) i d (omega (arith, lt, low)), get_or-take size (drop start records) j d low, get_or-drop start records i d, get_or-drop start records j d)
-    (canonical (start + i) (start + j) d (omega (arith, lt)) (omega (arith, low, within)))
-
-none_differs : (records : List Record) (sets : List SetAt) → list_any differ_in_ttl (map (set_at records) sets) ≡ false → (k : ℕ) (d : SetAt) → k < length sets → differ_in_ttl (set_at records (get_or sets k d)) ≡ false
-none_differs records sets none k d lt =
-    none_passes differ_in_ttl (map (set_at records) sets) none (set_at records (get_or sets k d))
-    (in_map (set_at records) sets (get_or sets k d) (k, lt, get_or_default sets k (get_or sets k d) d lt))
-
--- sets that were found may be signed as they are, where each is of one TTL
-pub all_signable : (records : List Record) (sets : List SetAt) → IsCanonical records → All (IsFound records) sets → All (λ it. AreOfOneSet (set_at records it)) sets
-    → list_any differ_in_ttl (map (set_at records) sets) ≡ false → All (IsSignable records) sets
-all_signable records sets canonical found one none k d lt = record {
-  found = found k d lt;
-  one = one k d lt;
-  canonical = part_canonical records (get_or sets k d).start (get_or sets k d).size canonical (found k d lt).within;
-  ttls = none_differs records sets none k d lt;
-}

@@ -9,7 +9,7 @@ use Rattle.dsec_spec.proofs.Members.{at_index, in_more, none_passes, not_in_none
 use Rattle.dsec_sorted.proofs.OwnerRuns.{not_false, not_true}
 use Rattle.dsec_sorted.specs.Sets.{AreOfOneSet, and_then, records_at}
 use Rattle.dsec_sign.proofs.SetRuns.{one_set_of_parts}
-use Rattle.dsec_sign.proofs.ZoneSets.{run_of_one_set}
+use Rattle.dsec_sign.proofs.SignableSets.{run_of_one_set}
 
 pub one_set : (first : Record) (others : List Record) → not (list_any (λ r. not (of_one_set first r)) others) ≡ true → AreOfOneSet (first ∷ others)
 one_set first others h = run_of_one_set (first ∷ others) (record { first = first; others = others; is = refl; one = each })

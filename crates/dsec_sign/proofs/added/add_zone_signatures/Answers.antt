@@ -1,4 +1,4 @@
-use Rattle.dsec_sign.proofs.ZoneSets.{all_signable}
+use Rattle.dsec_sign.proofs.SignableSets.{all_signable}
 use Rattle.dsec_sign.proofs.added.add_zone_signatures.Goals as goal
 
 pub add_signatures-requires-clause-sets : goal.add_signatures-requires-clause-sets

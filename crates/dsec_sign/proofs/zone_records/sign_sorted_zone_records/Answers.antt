@@ -1,5 +1,5 @@
 use Rattle.dsec_sorted.specs.IterViews.{left_of}
-use Rattle.dsec_sign.proofs.ZoneSets.{all_signable}
+use Rattle.dsec_sign.proofs.SignableSets.{all_signable}
 use Rattle.dsec_sign.proofs.zone_records.sign_sorted_zone_records.Goals as goal
 
 pub sign_sets-requires : goal.sign_sets-requires

@@ -7,7 +7,8 @@ use Rattle.dsec_spec.proofs.CanonicalOrder.{canonical_ordered}
 use Rattle.dsec_sorted.specs.IterViews.{left_of}
 use Rattle.dsec_chain.specs.Views.{IsPlaced, inside_view}
 use Rattle.dsec_chain.specs.declared.owners.InsideOwner.{InsideOwner}
-use Rattle.dsec_sign.proofs.ZoneSets.{Collected, collect_next, collected_all, none_collected, owner_is, runs_of_one_set}
+use Rattle.dsec_sign.proofs.SignableSets.{runs_of_one_set}
+use Rattle.dsec_sign.proofs.ZoneSets.{Collected, collect_next, collected_all, none_collected, owner_is}
 use Rattle.dsec_sign.proofs.zone_sets.sets_to_sign.Goals as goal
 
 pub inside_owners-requires : goal.inside_owners-requires
