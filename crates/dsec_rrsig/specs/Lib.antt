@@ -4,3 +4,4 @@ pub mod Signers
 pub mod Messages
 pub mod Made
 pub mod Lent
+pub mod Failures

@@ -5,6 +5,7 @@ ghost use Rattle.dsec_spec.specs.Outside.{Rose};
 ghost use Rattle.dsec_spec.specs.Records as records;
 ghost use Rattle.dsec_spec.specs.Signatures as signatures;
 ghost use Rattle.dsec_wire.specs.Views.{key_view};
+ghost use Rattle.dsec_rrsig.specs.Failures.{CountsSigning};
 
 use crate::error::SignError;
 use dsec_name::NoMemory;
@@ -37,5 +38,6 @@ pub trait SignRaw {
         ensures at_most { IfOk result (λ signature. length signature.items ≤ 60000) }
         ensures kept { key self.new ≡ key self.old }
         ensures later { faults self.old ≤ faults self.new }
-        ensures failed { IsErrOf result SignError.Failed → Rose (faults self.old) (faults self.new) };
+        ensures failed { IsErrOf result SignError.Failed → Rose (faults self.old) (faults self.new) }
+        ensures counts { CountsSigning (faults self.old) (faults self.new) result };
 }

@@ -1,6 +1,6 @@
 //! The key of the stand-in for signatures.
 
-ghost use Rattle.std.specs.Prelude.{◌≡◌, ◌↔◌, IfOk, IsErrOf};
+ghost use Rattle.std.specs.Prelude.{◌≡◌, ◌↔◌, IfOk, IsErrOf, IsOk};
 ghost use Rattle.dsec_rrsig.specs.Keys.{HasAlgorithm, HasProtocol, IsShort, stand_in_signs};
 ghost use Rattle.dsec_wire.specs.Views.{key_view};
 
@@ -80,7 +80,10 @@ impl SignRaw for StandInKey {
         self.algorithm
     }
 
-    fn dnskey(&self) -> Result<Dnskey<'_>, NoMemory> {
+    fn dnskey(&self) -> Result<Dnskey<'_>, NoMemory>
+        ensures key { IfOk result (λ dnskey. key_view dnskey ≡ self.now) }
+        ensures ok { IsOk result }
+    {
         Ok(Dnskey {
             flags: self.flags,
             protocol: self.protocol,

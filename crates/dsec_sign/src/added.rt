@@ -11,7 +11,7 @@ ghost use Rattle.dsec_rrsig.specs.Signers.{period_of, signer_of};
 ghost use Rattle.dsec_sign.specs.Adding.{AddsInOrder, AreApart};
 ghost use Rattle.dsec_sign.specs.Places.{IsFound, IsSignable, set_at};
 ghost use Rattle.dsec_sign.specs.Refusals.{AreAllowed, IsSetsRefusal};
-ghost use Rattle.dsec_sign.specs.SignerFaults.{AreSameSigners, SomeRose};
+ghost use Rattle.dsec_sign.specs.SignerFaults.{AreSameSigners, CountRefusals, CountSignings, SomeRose};
 ghost use Rattle.dsec_sign.specs.ZoneSigning.{AddsZoneSignatures};
 
 use crate::allowed::allow;
@@ -40,6 +40,7 @@ pub(crate) fn add_zone_signatures<I: SignRaw>(
         (SomeRose I.faults keys.old keys.new) e) }
     ensures err { OnErr result (records.new.items ≡ records.old.items) }
     ensures same { AreSameSigners I.key I.faults keys.old keys.new }
+    ensures counts { CountRefusals I.faults keys.old keys.new result }
 {
     let sets = sets_among(alloc, apex, records)?;
     allow(records, &sets, keys, config)?;
@@ -74,6 +75,7 @@ fn add_signatures<I: SignRaw>(
     ensures err { OnErr result (records.new.items ≡ records.old.items) }
     ensures same { AreSameSigners I.key I.faults keys.old keys.new }
     ensures failed { IsErrOf result SignError.Failed → SomeRose I.faults keys.old keys.new }
+    ensures counts { CountSignings I.faults keys.old keys.new result }
 {
     let unsigned = records.len();
     if let Err(error) = sign_behind(alloc, records, sets, keys, config) {

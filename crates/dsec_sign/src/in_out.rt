@@ -4,7 +4,7 @@ ghost use Rattle.std.specs.Prelude.{IfErr, OnOk, map};
 ghost use Rattle.dsec_spec.specs.CanonicalRecords.{AreOfOneClass, IsCanonical};
 ghost use Rattle.dsec_rrsig.specs.Signers.{signer_of};
 ghost use Rattle.dsec_sign.specs.InOut.{EndsAs, EndsInPlaceAs, old_records, zone_records};
-ghost use Rattle.dsec_sign.specs.SignerFaults.{AreSameSigners, SomeRose};
+ghost use Rattle.dsec_sign.specs.SignerFaults.{AreSameSigners, CountRefusals, SomeRose};
 ghost use Rattle.dsec_sign.specs.ZoneSigning.{IsZoneRefusal, SignsZone};
 
 use crate::config::SigningConfig;
@@ -42,6 +42,7 @@ pub fn sign_zone<S: SignableZone, T: SignableZoneInPlace + SortedExtend, I: Sign
         (zone_records S.zone T.zone in_out.entry) (old_records T.zone T.records in_out.entry) new e)) }
     ensures canonical { EndsInPlaceAs T.zone in_out.entry in_out.exit IsCanonical }
     ensures same { AreSameSigners I.key I.faults keys.old keys.new }
+    ensures counts { CountRefusals I.faults keys.old keys.new result }
 {
     match in_out {
         SignableZoneInOut::SignInPlace(zone) => {

@@ -8,7 +8,7 @@ ghost use Rattle.dsec_spec.specs.SignedZones.{AreZoneSignatures, sets_to_sign as
 ghost use Rattle.dsec_sorted.specs.SetViews.{members_left};
 ghost use Rattle.dsec_rrsig.specs.Signers.{signer_of};
 ghost use Rattle.dsec_sign.specs.Refusals.{AreAllowed, IsSetsRefusal};
-ghost use Rattle.dsec_sign.specs.SignerFaults.{AreSameSigners, SomeRose};
+ghost use Rattle.dsec_sign.specs.SignerFaults.{AreSameSigners, CountRefusals, SomeRose};
 
 use crate::into::copied;
 use crate::zone_records::sign_sorted_zone_records;
@@ -43,7 +43,8 @@ pub trait Signable {
         ensures allowed { OnOk result (AreAllowed (zone_sets (place apex.now) (records self.now)) (map (signer_of I.key) keys.old) (record { inception = inception; expiration = expiration })) }
         ensures why { IfErr result (λ e. IsSetsRefusal (zone_sets (place apex.now) (records self.now)) (map (signer_of I.key) keys.old) (record { inception = inception; expiration = expiration })
             (SomeRose I.faults keys.old keys.new) e) }
-        ensures same { AreSameSigners I.key I.faults keys.old keys.new };
+        ensures same { AreSameSigners I.key I.faults keys.old keys.new }
+        ensures counts { CountRefusals I.faults keys.old keys.new result };
 }
 
 impl Signable for Rrset<'_> {

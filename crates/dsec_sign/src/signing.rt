@@ -6,7 +6,7 @@ ghost use Rattle.dsec_spec.specs.Signatures.{AreSignatures};
 ghost use Rattle.dsec_sorted.specs.SetViews.{members_of};
 ghost use Rattle.dsec_rrsig.specs.Signers.{period_of, signer_of};
 ghost use Rattle.dsec_sign.specs.Places.{IsSignable, set_at};
-ghost use Rattle.dsec_sign.specs.SignerFaults.{AddsOfSet, AddsSignatures, AreSameSigners, SomeRose, tags_of as signer_tags};
+ghost use Rattle.dsec_sign.specs.SignerFaults.{AddsOfSet, AddsSignatures, AreSameSigners, CountSignings, SomeRose, tags_of as signer_tags};
 
 use crate::zone_sets::SetAt;
 use dsec_name::NoMemory;
@@ -27,6 +27,7 @@ pub(crate) fn sign_sets<I: SignRaw>(
     ensures signed { IfOk result (λ all. AreSignatures I.signs (period_of config.now) (map (set_at records.now) sets.now) (map (signer_of I.key) keys.old) all.items) }
     ensures same { AreSameSigners I.key I.faults keys.old keys.new }
     ensures failed { IsErrOf result SignError.Failed → SomeRose I.faults keys.old keys.new }
+    ensures counts { CountSignings I.faults keys.old keys.new result }
 {
     let tags = tags_of(alloc, keys)?;
     let mut all = Vec::with_capacity(alloc, sets.len().saturating_mul(keys.len()))?;
@@ -49,6 +50,7 @@ fn sign_each<I: SignRaw>(
     ensures signed { OnOk result (AddsSignatures I.signs (period_of config.now) (map (set_at records.now) sets.now) (map (signer_of I.key) keys.old) out.old.items out.new.items) }
     ensures same { AreSameSigners I.key I.faults keys.old keys.new }
     ensures failed { IsErrOf result SignError.Failed → SomeRose I.faults keys.old keys.new }
+    ensures counts { CountSignings I.faults keys.old keys.new result }
 {
     let mut message = Vec::new(alloc);
     for set in sets {
@@ -71,6 +73,7 @@ pub(crate) fn sign_behind<I: SignRaw>(
     ensures front { take (length records.old.items) records.new.items ≡ records.old.items }
     ensures same { AreSameSigners I.key I.faults keys.old keys.new }
     ensures failed { IsErrOf result SignError.Failed → SomeRose I.faults keys.old keys.new }
+    ensures counts { CountSignings I.faults keys.old keys.new result }
 {
     let tags = tags_of(alloc, keys)?;
     records.reserve_exact(sets.len().saturating_mul(keys.len()))?;
@@ -93,6 +96,7 @@ fn sign_each_behind<I: SignRaw>(
     ensures front { take (length records.old.items) records.new.items ≡ records.old.items }
     ensures same { AreSameSigners I.key I.faults keys.old keys.new }
     ensures failed { IsErrOf result SignError.Failed → SomeRose I.faults keys.old keys.new }
+    ensures counts { CountSignings I.faults keys.old keys.new result }
 {
     let mut message = Vec::new(alloc);
     let mut made = Vec::new(alloc);
@@ -130,6 +134,7 @@ fn sign_one_behind<I: SignRaw>(
     ensures err { OnErr result (records.new.items ≡ records.old.items) }
     ensures same { AreSameSigners I.key I.faults keys.old keys.new }
     ensures failed { IsErrOf result SignError.Failed → SomeRose I.faults keys.old keys.new }
+    ensures counts { CountSignings I.faults keys.old keys.new result }
 {
     let members = members(records, set);
     sign_one(alloc, &members, keys, tags, config, message, made)?;
@@ -160,6 +165,7 @@ fn sign_one<I: SignRaw>(
     ensures signed { OnOk result (AddsOfSet I.signs (period_of config.now) (members_of set.now) (map (signer_of I.key) keys.old) out.old.items out.new.items) }
     ensures same { AreSameSigners I.key I.faults keys.old keys.new }
     ensures failed { IsErrOf result SignError.Failed → SomeRose I.faults keys.old keys.new }
+    ensures counts { CountSignings I.faults keys.old keys.new result }
 {
     for i in 0..keys.len() {
         let made = sign_set(alloc, &mut keys[i], tags[i], set, config, message)?;

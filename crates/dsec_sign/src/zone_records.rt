@@ -7,7 +7,7 @@ ghost use Rattle.dsec_spec.specs.SignedZones.{AreZoneSignatures, sets_to_sign as
 ghost use Rattle.dsec_sorted.specs.IterViews.{left_of};
 ghost use Rattle.dsec_rrsig.specs.Signers.{period_of, signer_of};
 ghost use Rattle.dsec_sign.specs.Refusals.{AreAllowed, IsSetsRefusal};
-ghost use Rattle.dsec_sign.specs.SignerFaults.{AreSameSigners, SomeRose};
+ghost use Rattle.dsec_sign.specs.SignerFaults.{AreSameSigners, CountRefusals, SomeRose};
 
 use crate::allowed::allow;
 use crate::signing::sign_sets;
@@ -35,6 +35,7 @@ pub fn sign_sorted_zone_records<I: SignRaw>(
     ensures why { IfErr result (λ e. IsSetsRefusal (zone_sets (place apex.now) (left_of records.entry)) (map (signer_of I.key) keys.old) (period_of config.now)
         (SomeRose I.faults keys.old keys.new) e) }
     ensures same { AreSameSigners I.key I.faults keys.old keys.new }
+    ensures counts { CountRefusals I.faults keys.old keys.new result }
 {
     let sets = sets_to_sign(alloc, apex, &records)?;
     allow(records.as_slice(), &sets, keys, config)?;

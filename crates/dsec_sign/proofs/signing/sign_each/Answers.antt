@@ -1,4 +1,4 @@
-use Rattle.std.proofs.Common.{◌<◌, List, map, subst, arith, length, get_or, rules}
+use Rattle.std.proofs.Common.{◌∙◌, ◌<◌, List, map, subst, arith, length, get_or, rules}
 use Rattle.std.proofs.lemmas.List.{length-map, get_or-map}
 use Rattle.dsec_spec.specs.Records.{Record}
 use Rattle.dsec_spec.specs.Signatures.{Signer}
@@ -6,12 +6,18 @@ use Rattle.dsec_rrsig.specs.Signers.{period_of, signer_of}
 use Rattle.dsec_sign.specs.Places.{set_at}
 use Rattle.dsec_sign.specs.SignerFaults.{AddsOfSet}
 use Rattle.dsec_sign.specs.declared.zone_sets.SetAt.{SetAt}
+use Rattle.dsec_sign.proofs.FailureSteps.{counts_as, counts_then}
 use Rattle.dsec_sign.proofs.SignerSteps.{rose_then, same_then, set_more}
 use Rattle.dsec_sign.proofs.signing.sign_each.Goals as goal
 
 pub returns-in_err-sign_one-clause-failed : goal.returns-in_err-sign_one-clause-failed
 returns-in_err-sign_one-clause-failed g c h =
     rose_then g.I.SignRaw.key g.I.SignRaw.faults c.args.keys.now c.loop-set.keys c.sign_one.new.keys c.loop-set.invariant.same (c.sign_one.ensures.failed (search rules))
+
+pub returns-in_err-sign_one-clause-counts : goal.returns-in_err-sign_one-clause-counts
+returns-in_err-sign_one-clause-counts g c =
+    counts_as g.I.SignRaw.faults c.args.keys.now _ c.from_residual.result c.in_err-sign_one.field-0.0 (search rules)
+    (counts_then g.I.SignRaw.faults c.args.keys.now c.loop-set.keys c.sign_one.new.keys c.in_err-sign_one.field-0.0 c.loop-set.invariant.quiet c.in_err-sign_one.ensures.counts)
 
 pub loop-set-preserved : goal.loop-set-preserved
 loop-set-preserved g c =
@@ -29,6 +35,7 @@ loop-set-preserved g c =
     (subst (λ (xs : List Record). AddsOfSet signs period xs (map (signer_of g.I.SignRaw.key) c.loop-set.keys) c.loop-set.out.items c.sign_one.new.out.items) c.members-members.ensures c.in_ok-sign_one.ensures.signed) in
     record {
       same = same_then g.I.SignRaw.key g.I.SignRaw.faults c.args.keys.now c.loop-set.keys c.sign_one.new.keys c.loop-set.invariant.same c.sign_one.ensures.same;
+      quiet = c.in_ok-sign_one.ensures.counts ∙ c.loop-set.invariant.quiet;
       adds = set_more signs period (map (set_at records) sets) signers i set c.args.out.now.items c.loop-set.out.items c.sign_one.new.out.items (omega (arith, lt, length-map sets (set_at records)))
           (get_or-map (set_at records) sets i zero set lt) c.loop-set.invariant.adds more;
     }

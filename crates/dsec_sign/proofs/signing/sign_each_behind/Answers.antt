@@ -6,6 +6,7 @@ use Rattle.dsec_rrsig.specs.Signers.{period_of, signer_of}
 use Rattle.dsec_sign.specs.Places.{set_at}
 use Rattle.dsec_sign.specs.SignerFaults.{AddsOfSet}
 use Rattle.dsec_sign.specs.declared.zone_sets.SetAt.{SetAt}
+use Rattle.dsec_sign.proofs.FailureSteps.{counts_as, counts_then}
 use Rattle.dsec_sign.proofs.SignerSteps.{rose_then, same_then, set_in_front, set_more, signable_in_front}
 use Rattle.dsec_sign.proofs.signing.sign_each_behind.Goals as goal
 
@@ -18,6 +19,11 @@ sign_one_behind-requires-clause-set g c =
 pub returns-in_err-sign_one_behind-clause-failed : goal.returns-in_err-sign_one_behind-clause-failed
 returns-in_err-sign_one_behind-clause-failed g c h =
     rose_then g.I.SignRaw.key g.I.SignRaw.faults c.args.keys.now c.loop-set.keys c.sign_one_behind.new.keys c.loop-set.invariant.same (c.sign_one_behind.ensures.failed (search rules))
+
+pub returns-in_err-sign_one_behind-clause-counts : goal.returns-in_err-sign_one_behind-clause-counts
+returns-in_err-sign_one_behind-clause-counts g c =
+    counts_as g.I.SignRaw.faults c.args.keys.now _ c.from_residual.result c.in_err-sign_one_behind.field-0.0 (search rules)
+    (counts_then g.I.SignRaw.faults c.args.keys.now c.loop-set.keys c.sign_one_behind.new.keys c.in_err-sign_one_behind.field-0.0 c.loop-set.invariant.quiet c.in_err-sign_one_behind.ensures.counts)
 
 pub loop-set-preserved : goal.loop-set-preserved
 loop-set-preserved g c =
@@ -41,6 +47,7 @@ loop-set-preserved g c =
     (subst (λ (xs : List Record). AddsOfSet signs period xs (map (signer_of g.I.SignRaw.key) c.loop-set.keys) here new) same c.in_ok-sign_one_behind.ensures.signed) in
     record {
       same = same_then g.I.SignRaw.key g.I.SignRaw.faults c.args.keys.now c.loop-set.keys c.sign_one_behind.new.keys c.loop-set.invariant.same c.sign_one_behind.ensures.same;
+      quiet = c.in_ok-sign_one_behind.ensures.counts ∙ c.loop-set.invariant.quiet;
       empty = c.in_ok-sign_one_behind.ensures.empty;
       adds = set_more signs period (map (set_at old) sets) signers i set old here new (omega (arith, lt, length-map sets (set_at old))) (get_or-map (set_at old) sets i zero set lt) adds more;
     }

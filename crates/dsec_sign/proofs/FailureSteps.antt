@@ -1,0 +1,69 @@
+-- Counts of faults, one key after the other.
+use Rattle.std.proofs.Common.{◌≡◌, ℕ, zero, suc, ◌<◌, List, [], ◌∷◌, Result, Ok, Err, length, map, get_or, slice_set, refl, sym, ap, ◌∙◌, subst, arith}
+use Rattle.std.proofs.lemmas.List.{length-map, get_or-map}
+use Rattle.dsec_spec.specs.Outside.{risen}
+use Rattle.dsec_rrsig.specs.Errors.{of_sign_error}
+use Rattle.dsec_rrsig.specs.Failures.{CountsError}
+use Rattle.dsec_rrsig.specs.Signers.{faults_of}
+use Rattle.dsec_rrsig.specs.declared.error.SignError.{SignError}
+use Rattle.dsec_rrsig.specs.declared.error.SignError.TheVariants as sign
+use Rattle.dsec_rrsig.specs.declared.signing_key.SigningKey.{SigningKey}
+use Rattle.dsec_sign.specs.SignerFaults.{CountErrors, CountRefusals, CountSignings, OneFailed, counts_of}
+
+mapped : {A B : Type 0} (f : A → B) (xs : List A) (i : ℕ) (y : A) → map f (slice_set xs i y) ≡ slice_set (map f xs) i (f y)
+mapped f [] i y = refl
+mapped f (x ∷ xs) zero y = refl
+mapped f (x ∷ xs) (suc i) y = ap (λ bs. f x ∷ bs) (mapped f xs i y)
+
+set_to_itself : (ns : List ℕ) (i : ℕ) → i < length ns → slice_set ns i (get_or ns i 0) ≡ ns
+set_to_itself [] i lt = absurd (omega arith)
+set_to_itself (n ∷ ns) zero lt = refl
+set_to_itself (n ∷ ns) (suc i) lt = ap (λ ms. n ∷ ms) (set_to_itself ns i (omega arith))
+
+module _ {I : Type 0} (count_of : I → ℕ) where
+  same_length : (old keys : List (SigningKey I)) → counts_of count_of keys ≡ counts_of count_of old → length keys ≡ length old
+  same_length old keys same = sym (length-map keys (faults_of count_of)) ∙ (ap length same ∙ length-map old (faults_of count_of))
+
+  -- the counts, once one of the keys was used
+  used : (old keys : List (SigningKey I)) (i : ℕ) (new : SigningKey I) → counts_of count_of keys ≡ counts_of count_of old
+      → counts_of count_of (slice_set keys i new) ≡ slice_set (counts_of count_of old) i (faults_of count_of new)
+  used old keys i new same = mapped (faults_of count_of) keys i new ∙ ap (λ (ns : List ℕ). slice_set ns i (faults_of count_of new)) same
+
+  before : (old keys : List (SigningKey I)) (i : ℕ) (d : SigningKey I) → counts_of count_of keys ≡ counts_of count_of old → i < length keys
+      → faults_of count_of (get_or keys i d) ≡ get_or (counts_of count_of old) i 0
+  before old keys i d same lt = sym (get_or-map (faults_of count_of) keys i d 0 lt) ∙ ap (λ (ns : List ℕ). get_or ns i 0) same
+
+  -- a key was used, and its count is as it was
+  pub quiet_once : (old keys : List (SigningKey I)) (i : ℕ) (new d : SigningKey I) → counts_of count_of keys ≡ counts_of count_of old → i < length keys
+      → faults_of count_of new ≡ faults_of count_of (get_or keys i d) → counts_of count_of (slice_set keys i new) ≡ counts_of count_of old
+  quiet_once old keys i new d same lt is =
+      let below : i < length (counts_of count_of old) = omega (arith, lt, same_length old keys same, length-map old (faults_of count_of)) in
+      used old keys i new same ∙ (ap (slice_set (counts_of count_of old) i) (is ∙ before old keys i d same lt) ∙ set_to_itself (counts_of count_of old) i below)
+
+  failed_once : (old keys : List (SigningKey I)) (i : ℕ) (new d : SigningKey I) → counts_of count_of keys ≡ counts_of count_of old → i < length keys
+      → faults_of count_of new ≡ risen (faults_of count_of (get_or keys i d)) → OneFailed count_of old (slice_set keys i new)
+  failed_once old keys i new d same lt is = record {
+    at = i;
+    within = omega (arith, lt, same_length old keys same);
+    is = used old keys i new same ∙ ap (slice_set (counts_of count_of old) i) (is ∙ ap risen (before old keys i d same lt));
+  }
+
+  -- a key was used, and gave no signature
+  pub counts_once : (old keys : List (SigningKey I)) (i : ℕ) (new d : SigningKey I) (e : SignError) → counts_of count_of keys ≡ counts_of count_of old → i < length keys
+      → CountsError (faults_of count_of (get_or keys i d)) (faults_of count_of new) e → CountErrors count_of old (slice_set keys i new) e
+  counts_once old keys i new d sign.Failed same lt counts = failed_once old keys i new d same lt counts
+  counts_once old keys i new d sign.NoMemory same lt counts = quiet_once old keys i new d same lt counts
+
+  -- a result that is this error
+  pub counts_as : {T : Type 0} (old new : List (SigningKey I)) (r : Result T SignError) (e : SignError) → r ≡ Err e → CountErrors count_of old new e → CountSignings count_of old new r
+  counts_as old new r e is counts = subst (λ (x : Result _ SignError). CountSignings count_of old new x) (sym is) counts
+
+  -- what is counted from a moment on at which all counts were as at first is counted from the first
+  pub counts_then : (old mid new : List (SigningKey I)) (e : SignError) → counts_of count_of mid ≡ counts_of count_of old
+      → CountErrors count_of mid new e → CountErrors count_of old new e
+  counts_then old mid new sign.Failed same counts = record {
+    at = counts.at;
+    within = let w = counts.within in omega (arith, w, same_length old mid same);
+    is = counts.is ∙ ap (λ (ns : List ℕ). slice_set ns counts.at (risen (get_or ns counts.at 0))) same;
+  }
+  counts_then old mid new sign.NoMemory same counts = counts ∙ same
