@@ -4,6 +4,7 @@ ghost use Rattle.std.specs.Prelude.{◌≡◌, ◌≤◌, IsErrOf, OnOk};
 ghost use Rattle.std.specs.Io.KnownBytes.{Appends};
 ghost use Rattle.dsec_spec.specs.Outside.{Rose, SentFront};
 ghost use Rattle.dsec_outside.specs.Faults.{CountsWrites};
+ghost use Rattle.dsec_record_text.specs.Parts.{SentPart};
 ghost use Rattle.dsec_record_text.specs.RecordText.{records_text};
 ghost use Rattle.dsec_record_text.specs.TextBack.{ReadsAs};
 
@@ -20,6 +21,7 @@ pub fn send_records<K: Sink>(alloc: Global, records: &[Record], sink: &mut K) ->
     ensures counts { CountsWrites (K.faults sink.old) (K.faults sink.new) result }
     ensures sent { OnOk result (Appends (K.written sink.old) (K.written sink.new) (records_text records.now)) }
     ensures front { SentFront (K.written sink.old) (K.written sink.new) (records_text records.now) }
+    ensures memory { IsErrOf result Halt.Memory → SentPart (K.written sink.old) (K.written sink.new) (records_text records.now) }
     ensures back { ReadsAs (records_text records.now) records.now }
 {
     law_of_records_text(records);

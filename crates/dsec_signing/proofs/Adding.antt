@@ -1,6 +1,6 @@
 -- A record that is inserted among records in canonical order is added to them.
-use Rattle.std.proofs.Common.{◌≡◌, ◌↔◌, ℕ, suc, Bool, true, false, cond, List, [], ◌∷◌, ◌++◌, ◌||◌, Option, Some, None, refl, sym, ap, ◌∙◌, subst, arith, inl, inr}
-use Rattle.std.specs.Prelude.{All, Contains, IsPermutation, find}
+use Rattle.std.proofs.Common.{◌≡◌, ◌↔◌, suc, Bool, true, false, cond, List, [], ◌∷◌, ◌++◌, Option, Some, None, refl, sym, ap, ◌∙◌, subst, arith, inl, inr}
+use Rattle.std.specs.Prelude.{Contains, IsPermutation, find}
 use Rattle.std.specs.List.{list_any}
 use Rattle.std.specs.Ordering.{ordering_reverse}
 use Rattle.std.specs.declared.cmp.Ordering.TheVariants.{Less, Equal, Greater}
@@ -14,7 +14,7 @@ use Rattle.dsec_spec.specs.Groups.{are_duplicates}
 use Rattle.dsec_spec.specs.CanonicalRecords.{IsCanonical, IsFirst, record_cmp}
 use Rattle.dsec_spec.specs.SignedZones.{IsUnion}
 use Rattle.dsec_spec.proofs.CanonicalOrder.{duplicates_tie, record_cmp_total}
-use Rattle.dsec_spec.proofs.Members.{first_in, from_find, from_no_find, in_back, in_either, in_front, in_more, later_in, not_in_none, some_passes}
+use Rattle.dsec_spec.proofs.Members.{first_in, from_find, from_no_find, in_either, in_more, later_in, not_in_none, some_passes}
 use Rattle.dsec_sorted.specs.Inserting.{IsNew, IsPresent}
 
 -- ---- what is found

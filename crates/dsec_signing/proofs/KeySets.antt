@@ -1,6 +1,6 @@
 -- The DNSKEY set at a zone's apex, by the places of its records.
 use Rattle.std.proofs.Common.{◌≡◌, ℕ, ◌+◌, ◌<◌, ◌&&◌, ◌==◌, ◌≤◌, Bool, true, false, cond, List, [], ◌∷◌, ◌++◌, length, take, get_or, Option, Some, None, refl, sym, ap, ◌∙◌, subst, append-nil, length-append, eqb-true, arith}
-use Rattle.std.specs.Prelude.{All, Contains, IfErr, Result, Ok, Err, filter, slice_get}
+use Rattle.std.specs.Prelude.{All, Contains, IfErr, Result, Ok, Err, slice_get}
 use Rattle.std.specs.Int.{w16, to_be_bytes}
 use Rattle.std.proofs.lemmas.List.Elements.{All-append, All-cons, All-nil, filter_more}
 use Rattle.std.proofs.lemmas.Option.{slice_get-get_or}

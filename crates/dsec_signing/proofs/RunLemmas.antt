@@ -1,13 +1,16 @@
 -- What a run of the command is, by what was read.
-use Rattle.std.proofs.Common.{◌≡◌, ℕ, ◌++◌, ◌+◌, ◌<◌, ◌≤◌, List, length, Option, Some, None, Result, Ok, Err, refl, sym, ap, ◌∙◌, subst, length-append, arith, inl, inr}
+use Rattle.std.proofs.Common.{◌≡◌, ℕ, ◌++◌, ◌<◌, ◌≤◌, List, length, Option, Some, None, Result, Ok, Err, refl, subst, length-append, arith, inl, inr}
 use Rattle.std.specs.Prelude.{◌⊎◌, IfSome}
 use Rattle.std.specs.Io.KnownBytes.{Consumes, IsAtEnd, Keeps}
 use Rattle.std.proofs.KnownBytes.{Keeps-refl}
 use Rattle.dsec_spec.specs.Records.{Record}
-use Rattle.dsec_outside.specs.Limit.{limit, line_past}
+use Rattle.dsec_outside.specs.Limit.{limit}
 use Rattle.dsec_outside.proofs.CallerLemmas.{holds-taken, line_past-append}
-use Rattle.dsec_signing.specs.Command.{HasRead, HasReadAll, IsSignRun, RefusedAt, SentFor, SignedFrom, UnsignedFrom, nothing, refused, signed, unsigned}
-use Rattle.dsec_signing.specs.Zone.{SaysSource, at_line, long, short}
+use Rattle.dsec_outside.specs.Statuses.{status_in}
+use Rattle.dsec_outside.specs.declared.sending.Halt.{Halt}
+use Rattle.dsec_outside.specs.declared.sending.Halt.TheVariants.{Memory, Write}
+use Rattle.dsec_signing.specs.Command.{HasRead, HasReadAll, IsSignRun, PartFrom, RefusedAt, SentFor, SignedFrom, UnsignedFrom, nothing, refused, signed, unsigned}
+use Rattle.dsec_signing.specs.Zone.{SaysSource, long, short}
 use Rattle.dsec_signing.specs.Making.{AnswersSigning}
 use Rattle.dsec_signing.specs.Reading.{AnswersSource}
 use Rattle.dsec_signing.specs.Signed.{IsUnsigned}
@@ -64,6 +67,11 @@ pub unsigned_of : (said : SignWords) (left rest before after : Option (List ℕ)
     → HasReadAll left rest (λ (all : List ℕ). UnsignedFrom said all before after)
 unsigned_of said left rest before after content taken whole h = record { content = content; read = taken; whole = whole (within content h.source h.reads); holds = h }
 
+pub short_of : (said : SignWords) (left rest before after : Option (List ℕ)) (content : List ℕ) → Consumes left rest content → (length content ≤ limit → IsAtEnd rest) → Keeps before after ⊎ PartFrom said content before after
+    → Keeps before after ⊎ HasReadAll left rest (λ (all : List ℕ). PartFrom said all before after)
+short_of said left rest before after content taken whole (inl kept) = inl kept
+short_of said left rest before after content taken whole (inr h) = inr (record { content = content; read = taken; whole = whole (within content h.source h.reads); holds = h })
+
 pub refused_of : (left rest before after : Option (List ℕ)) (content : List ℕ) → Consumes left rest content → RefusedAt content before after → HasRead left rest (λ (all : List ℕ). RefusedAt all before after)
 refused_of left rest before after content taken h = record { content = content; read = taken; holds = h }
 
@@ -108,15 +116,17 @@ more_statuses status (inr (inr (inr (inr e)))) = inr (inr (inr (inr (inr e))))
 
 -- what was done with the content is what the run did
 pub run_of : (said : SignWords) (status : ℕ) (left rest before after : Option (List ℕ)) (content : List ℕ) → Consumes left rest content → (length content ≤ limit → IsAtEnd rest)
-    → (status ≡ 0 → SignedFrom said content before after) → (status ≡ 3 → RefusedAt content before after) → (status ≡ 7 → UnsignedFrom said content before after) → SentFor said content before after
+    → (status ≡ 0 → SignedFrom said content before after) → (status ≡ 3 → RefusedAt content before after) → (status ≡ 7 → UnsignedFrom said content before after)
+    → (status ≡ 6 → Keeps before after ⊎ PartFrom said content before after) → SentFor said content before after
     → (status ≡ 0) ⊎ ((status ≡ 3) ⊎ ((status ≡ 5) ⊎ ((status ≡ 6) ⊎ (status ≡ 7)))) → IsSignRun said status left rest before after
-run_of said status left rest before after content taken whole done refuses not_signed sent statuses = record {
+run_of said status left rest before after content taken whole done refuses not_signed wants sent statuses = record {
   done = λ s. done_of said left rest before after content taken whole (done s);
   told = λ s. told_signed said left rest before after content taken whole (done s);
   refused = λ s. refused_of left rest before after content taken (refuses s);
   first = λ s. told_refusal left rest before after content taken whole (refuses s);
   unsigned = λ s. unsigned_of said left rest before after content taken whole (not_signed s);
   why = λ s. told_unsigned said left rest before after content taken whole (not_signed s);
+  short = λ s. short_of said left rest before after content taken whole (wants s);
   front = inr (sent_of said left rest before after content taken sent);
   made = made_of said left rest before after content taken whole sent;
   statuses = more_statuses status statuses;
@@ -131,6 +141,11 @@ pub unsigned_why : (X : Type 0) (view : X → List Record) (said : SignWords) (s
     → AnswersSigning view said source (Err error) → IsUnsigned said source e
 unsigned_why X view said source error e is answers = subst (λ (x : Unsigned). AnswersSigning view said source (Err x)) is answers
 
+-- at 6 memory was wanting
+pub memory_at_six : {T : Type 0} (r : Result T Halt) (halt : Halt) (n : ℕ) → r ≡ Err halt → n ≡ status_in halt → n ≡ 6 → r ≡ Err Memory
+memory_at_six r Memory n is at six = is
+memory_at_six r Write n is at six = let five : n ≡ 5 = at in absurd (omega (arith, five, six))
+
 -- a run that wanted memory before anything was read
 pub idle_run : (said : SignWords) (left sent : Option (List ℕ)) → IsSignRun said 6 left left sent sent
 idle_run said left sent = record {
@@ -140,6 +155,7 @@ idle_run said left sent = record {
   first = λ s. absurd (omega (arith, s));
   unsigned = λ s. absurd (omega (arith, s));
   why = λ s. absurd (omega (arith, s));
+  short = λ s. inl (Keeps-refl sent);
   front = inl (Keeps-refl sent);
   made = made_nothing said left sent;
   statuses = inr (inr (inr (inr (inl refl))));

@@ -3,6 +3,7 @@ use Rattle.std.specs.Prelude.{◌≡◌, ◌⊎◌, ◌++◌, ◌∷◌, [], ℕ
 use Rattle.std.specs.Io.KnownBytes.{Appends, Consumes, IsAtEnd, Keeps}
 use Rattle.dsec_spec.specs.Outside.{SentFront}
 use Rattle.dsec_spec.specs.Records.{Record}
+use Rattle.dsec_record_text.specs.Parts.{SentPart}
 use Rattle.dsec_record_text.specs.RecordText.{records_text}
 use Rattle.dsec_record_text.specs.TextBack.{ReadsAs}
 use Rattle.dsec_rrsig.specs.declared.error.SigningError.{SigningError}
@@ -25,6 +26,14 @@ pub record SignedFrom (words : SignWords) (content : List ℕ) (before after : O
   pub is_made : IsMade words source made
   pub sent : Appends before after (records_text made)
   pub back : ReadsAs (records_text made) made
+
+-- the same, but of that text a part went out, and not all
+pub record PartFrom (words : SignWords) (content : List ℕ) (before after : Option (List ℕ)) : Type 0 where
+  pub source : List Record
+  pub reads : SaysSource content (Ok source)
+  pub made : List Record
+  pub is_made : IsMade words source made
+  pub sent : SentPart before after (records_text made)
 
 -- the content is refused, and its first refused line was named
 pub record RefusedAt (content : List ℕ) (before after : Option (List ℕ)) : Type 0 where
@@ -63,7 +72,8 @@ pub record HasReadAll (left rest : Option (List ℕ)) (Holds : List ℕ → Type
   pub holds : Holds content
 
 -- A run of the command with these words ended with the status. Each of 0, 3 and 7 is said twice: of what was read, and, where the source
--- tells its octets, of its whole content. At any status nothing went out, or a front of what the content makes.
+-- tells its octets, of its whole content. At 6 nothing went out, or a part of the signed text, and never all of it. At any status nothing
+-- went out, or a front of what the content makes.
 pub record IsSignRun (words : SignWords) (status : ℕ) (left rest before after : Option (List ℕ)) : Type 0 where
   pub done : status ≡ 0 → HasReadAll left rest (λ content. SignedFrom words content before after)
   pub told : status ≡ 0 → IfSome left (λ content. SignedFrom words content before after)
@@ -71,6 +81,7 @@ pub record IsSignRun (words : SignWords) (status : ℕ) (left rest before after 
   pub first : status ≡ 3 → IfSome left (λ content. RefusedAt content before after)
   pub unsigned : status ≡ 7 → HasReadAll left rest (λ content. UnsignedFrom words content before after)
   pub why : status ≡ 7 → IfSome left (λ content. UnsignedFrom words content before after)
+  pub short : status ≡ 6 → Keeps before after ⊎ HasReadAll left rest (λ content. PartFrom words content before after)
   pub front : Keeps before after ⊎ HasRead left rest (λ content. SentFor words content before after)
   pub made : IfSome left (λ content. SentFor words content before after)
   pub statuses : (status ≡ 0) ⊎ ((status ≡ 3) ⊎ ((status ≡ 4) ⊎ ((status ≡ 5) ⊎ ((status ≡ 6) ⊎ (status ≡ 7)))))

@@ -1,14 +1,14 @@
 //! The command over any source and sink.
 
 ghost use Rattle.std.specs.Prelude.{◌≡◌, ◌≤◌, ◌⊎◌, ◌+◌, ◌++◌, All, IfOk, IsErrOf, OnOk, length};
-ghost use Rattle.std.specs.Io.KnownBytes.{Appends};
+ghost use Rattle.std.specs.Io.KnownBytes.{Appends, Keeps};
 ghost use Rattle.dsec_spec.specs.Numbers.{IN};
 ghost use Rattle.dsec_spec.specs.Outside.{Rose, SentFront};
 ghost use Rattle.dsec_outside.specs.Ends.{TakesAtMost};
 ghost use Rattle.dsec_outside.specs.Faults.{CountsWrites};
 ghost use Rattle.dsec_outside.specs.Limit.{limit};
 ghost use Rattle.dsec_outside.specs.Statuses.{counted_at};
-ghost use Rattle.dsec_signing.specs.Command.{IsSignRun, RefusedAt, SentFor, SignedFrom, UnsignedFrom, error_line};
+ghost use Rattle.dsec_signing.specs.Command.{IsSignRun, PartFrom, RefusedAt, SentFor, SignedFrom, UnsignedFrom, error_line};
 ghost use Rattle.dsec_rrsig.specs.Errors.{signing_error_text};
 ghost use Rattle.dsec_signing.specs.Refusals.{refused_text, word_text};
 ghost use Rattle.dsec_signing.specs.Reading.{AnswersSource};
@@ -52,6 +52,7 @@ fn sign_content<K: Sink>(alloc: Global, words: SignWords, content: Vec<u8>, sink
     ensures refused { result ≡ 3 → RefusedAt content.items (K.written sink.old) (K.written sink.new) }
     ensures unsigned { result ≡ 7 → UnsignedFrom words content.items (K.written sink.old) (K.written sink.new) }
     ensures front { SentFor words content.items (K.written sink.old) (K.written sink.new) }
+    ensures memory { result ≡ 6 → Keeps (K.written sink.old) (K.written sink.new) ⊎ PartFrom words content.items (K.written sink.old) (K.written sink.new) }
     ensures write { result ≡ 5 → Rose (K.faults sink.old) (K.faults sink.new) }
     ensures writes { K.faults sink.new ≡ counted_at 5 result (K.faults sink.old) }
     ensures statuses { (result ≡ 0) ⊎ ((result ≡ 3) ⊎ ((result ≡ 5) ⊎ ((result ≡ 6) ⊎ (result ≡ 7)))) }
@@ -91,6 +92,7 @@ fn refuse<K: Sink>(alloc: Global, refused: Refused, sink: &mut K) -> Result<(), 
     ensures counts { CountsWrites (K.faults sink.old) (K.faults sink.new) result }
     ensures sent { OnOk result (Appends (K.written sink.old) (K.written sink.new) (refused_text refused)) }
     ensures front { SentFront (K.written sink.old) (K.written sink.new) (refused_text refused) }
+    ensures memory { IsErrOf result Halt.Memory → Keeps (K.written sink.old) (K.written sink.new) }
 {
     let out = refusal(alloc, refused)?;
     send(sink, &out)
@@ -127,6 +129,7 @@ fn tell<K: Sink>(alloc: Global, error: SigningError, sink: &mut K) -> Result<(),
     ensures counts { CountsWrites (K.faults sink.old) (K.faults sink.new) result }
     ensures sent { OnOk result (Appends (K.written sink.old) (K.written sink.new) (error_line error)) }
     ensures front { SentFront (K.written sink.old) (K.written sink.new) (error_line error) }
+    ensures memory { IsErrOf result Halt.Memory → Keeps (K.written sink.old) (K.written sink.new) }
 {
     let out = reason(alloc, error)?;
     send(sink, &out)

@@ -5,12 +5,16 @@ use Rattle.dsec_spec.specs.Outside.{SentFront}
 use Rattle.dsec_outside.specs.Sending.{SentBut}
 use Rattle.dsec_outside.proofs.Pieces.{but_front, but_front_more, front_of, more_gathered, more_went, rest_went}
 use Rattle.dsec_record_text.specs.RecordText.{record_line, records_text}
-use Rattle.dsec_record_text.proofs.SentLines.{first_lines, one_more}
+use Rattle.dsec_record_text.proofs.SentLines.{first_lines, line_left, one_more, part_of}
 use Rattle.dsec_record_text.proofs.sending.send_records.Goals as goal
 
 pub returns-in_err-push_record_line-clause-front : goal.returns-in_err-push_record_line-clause-front
 returns-in_err-push_record_line-clause-front g c =
     but_front _ _ _ _ _ _ (first_lines c.args.records.now c.loop-it.it-index) c.loop-it.invariant.1
+
+pub returns-in_err-push_record_line-clause-memory : goal.returns-in_err-push_record_line-clause-memory
+returns-in_err-push_record_line-clause-memory g c h =
+    part_of _ _ _ _ _ _ (first_lines c.args.records.now c.loop-it.it-index) c.loop-it.invariant.1 (line_left c.args.records.now c.loop-it.it-index c.loop-it-test.true)
 
 pub returns-in_err-send_block-clause-front : goal.returns-in_err-send_block-clause-front
 returns-in_err-send_block-clause-front g c =

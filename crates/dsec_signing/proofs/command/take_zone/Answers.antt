@@ -1,4 +1,4 @@
-use Rattle.std.proofs.Common.{◌≡◌, List, Vec, Global, ap, subst}
+use Rattle.std.proofs.Common.{List, Vec, Global, subst}
 use Rattle.dsec_spec.specs.Records as records
 use Rattle.dsec_wire.specs.declared.record.Record.{Record}
 use Rattle.dsec_signing.specs.Reading.{AnswersSource}

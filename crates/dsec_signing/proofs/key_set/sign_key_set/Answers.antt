@@ -1,7 +1,6 @@
-use Rattle.std.proofs.Common.{◌≡◌, ◌∙◌, List, ap, arith, subst, sym}
+use Rattle.std.proofs.Common.{◌≡◌, ◌∙◌, ap, arith, subst, sym}
 use Rattle.dsec_spec.specs.Names.{place}
 use Rattle.dsec_spec.specs.Outside.{Rose}
-use Rattle.dsec_spec.specs.Records.{Record}
 use Rattle.dsec_spec.specs.Signatures.{Period}
 use Rattle.dsec_sorted.specs.SetViews.{members_of}
 use Rattle.dsec_sorted.specs.Sets.{AreOfOneSet, records_at}

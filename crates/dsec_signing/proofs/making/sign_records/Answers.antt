@@ -1,12 +1,11 @@
-use Rattle.std.proofs.Common.{◌≡◌, ◌∙◌, ◌∷◌, [], List, Err, ap, refl, subst, sym}
+use Rattle.std.proofs.Common.{◌≡◌, ◌∙◌, ◌∷◌, [], List, subst}
 use Rattle.std.proofs.lemmas.Result.{err_from_is_err_and}
 use Rattle.dsec_spec.specs.Names.{place}
 use Rattle.dsec_spec.specs.Records.{Record}
 use Rattle.dsec_spec.specs.Signatures.{Period, Signer}
-use Rattle.dsec_spec.specs.SignedZones.{IsUnion}
 use Rattle.dsec_rrsig.specs.Keys.{stand_in_signs}
 use Rattle.dsec_signing.specs.KeySets.{of_stand_in}
-use Rattle.dsec_signing.specs.Signed.{IsKeySetRefusal, IsKeySetSigned, IsMade, IsZoneSigned, config_of, key_record, keys_at, of_keys, of_zone, signer_of}
+use Rattle.dsec_signing.specs.Signed.{IsKeySetRefusal, IsKeySetSigned, config_of, keys_at, of_keys, of_zone, signer_of}
 use Rattle.dsec_sign.specs.ZoneSigning.{IsZoneRefusal, SignsZone}
 use Rattle.dsec_sign.specs.declared.config.SigningConfig.{SigningConfig}
 use Rattle.dsec_signing.proofs.MakingLemmas.{hindered, of_one_class}
