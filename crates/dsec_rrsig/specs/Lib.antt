@@ -5,3 +5,4 @@ pub mod Messages
 pub mod Made
 pub mod Lent
 pub mod Failures
+pub mod Asks

@@ -16,3 +16,7 @@ signer_of key_of it = record { owner = it.owner; key = key_of it.inner }
 -- how often what signs failed
 abbrev pub faults_of : {I : Type 0} → (I → ℕ) → SigningKey I → ℕ
 faults_of count_of it = count_of it.inner
+
+-- how often it was asked
+abbrev pub asked_of : {I : Type 0} → (I → ℕ) → SigningKey I → ℕ
+asked_of ask_of it = ask_of it.inner

@@ -9,6 +9,7 @@ ghost use Rattle.dsec_spec.specs.Outside.{Rose};
 ghost use Rattle.dsec_spec.specs.Signatures.{IsSignature, IsValidPeriod};
 ghost use Rattle.dsec_sorted.specs.SetViews.{members_of};
 ghost use Rattle.dsec_rrsig.specs.declared.error.SigningError.TheVariants as signing;
+ghost use Rattle.dsec_rrsig.specs.Asks.{AsksRefusal};
 ghost use Rattle.dsec_rrsig.specs.Failures.{CountsRefusal};
 ghost use Rattle.dsec_rrsig.specs.Made.{IsSetRefusal};
 ghost use Rattle.dsec_rrsig.specs.Messages.{first_type};
@@ -42,6 +43,7 @@ pub fn sign_rrset<I: SignRaw>(
     ensures kept { signer_of I.key key.new ≡ signer_of I.key key.old }
     ensures later { I.faults key.old.inner ≤ I.faults key.new.inner }
     ensures counts { CountsRefusal (I.faults key.old.inner) (I.faults key.new.inner) result }
+    ensures asks { AsksRefusal (I.asked key.old.inner) (I.asked key.new.inner) result }
 {
     let config = GenerateRrsigConfig::new(inception, expiration);
     sign_allowed(alloc, key, set, &config)
@@ -66,6 +68,7 @@ pub fn sign_sorted_rrset_in<I: SignRaw>(
     ensures kept { signer_of I.key key.new ≡ signer_of I.key key.old }
     ensures later { I.faults key.old.inner ≤ I.faults key.new.inner }
     ensures counts { CountsRefusal (I.faults key.old.inner) (I.faults key.new.inner) result }
+    ensures asks { AsksRefusal (I.asked key.old.inner) (I.asked key.new.inner) result }
 {
     let config = GenerateRrsigConfig::new(inception, expiration);
     sign_sorted_allowed(alloc, key, set, &config, scratch)
@@ -84,6 +87,7 @@ fn sign_allowed<I: SignRaw>(
     ensures kept { signer_of I.key key.new ≡ signer_of I.key key.old }
     ensures later { I.faults key.old.inner ≤ I.faults key.new.inner }
     ensures counts { CountsRefusal (I.faults key.old.inner) (I.faults key.new.inner) result }
+    ensures asks { AsksRefusal (I.asked key.old.inner) (I.asked key.new.inner) result }
 {
     allow(set.first().rtype(), config)?;
     let made = sign_unsorted(alloc, key, set, config)?;
@@ -105,6 +109,7 @@ fn sign_sorted_allowed<I: SignRaw>(
     ensures kept { signer_of I.key key.new ≡ signer_of I.key key.old }
     ensures later { I.faults key.old.inner ≤ I.faults key.new.inner }
     ensures counts { CountsRefusal (I.faults key.old.inner) (I.faults key.new.inner) result }
+    ensures asks { AsksRefusal (I.asked key.old.inner) (I.asked key.new.inner) result }
 {
     allow(set.first().rtype(), config)?;
     let tag = tag_of(key)?;

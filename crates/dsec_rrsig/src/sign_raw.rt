@@ -1,7 +1,7 @@
 //! What signs octets.
 
 ghost use Rattle.std.specs.Prelude.{◌≡◌, ◌≤◌, ℕ, length, IfOk, IsErrOf};
-ghost use Rattle.dsec_spec.specs.Outside.{Rose};
+ghost use Rattle.dsec_spec.specs.Outside.{Rose, risen};
 ghost use Rattle.dsec_spec.specs.Records as records;
 ghost use Rattle.dsec_spec.specs.Signatures as signatures;
 ghost use Rattle.dsec_wire.specs.Views.{key_view};
@@ -24,6 +24,9 @@ pub trait SignRaw {
     /// How often it failed: a count that stays at 2^64 - 1.
     ghost faults: { Self → ℕ };
 
+    /// How often it was asked: a count that stays at 2^64 - 1, and says nothing where it stands there.
+    ghost asked: { Self → ℕ };
+
     /// The algorithm of its signatures (RFC 4034 A.1).
     fn algorithm(&self) -> SecurityAlgorithm
         ensures { result ≡ (key self.now).algorithm };
@@ -39,5 +42,6 @@ pub trait SignRaw {
         ensures kept { key self.new ≡ key self.old }
         ensures later { faults self.old ≤ faults self.new }
         ensures failed { IsErrOf result SignError.Failed → Rose (faults self.old) (faults self.new) }
-        ensures counts { CountsSigning (faults self.old) (faults self.new) result };
+        ensures counts { CountsSigning (faults self.old) (faults self.new) result }
+        ensures asks { asked self.new ≡ risen (asked self.old) };
 }

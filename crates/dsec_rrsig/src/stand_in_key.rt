@@ -1,6 +1,7 @@
 //! The key of the stand-in for signatures.
 
 ghost use Rattle.std.specs.Prelude.{◌≡◌, ◌↔◌, IfOk, IsErrOf, IsOk};
+ghost use Rattle.dsec_spec.specs.Outside.{last_count};
 ghost use Rattle.dsec_rrsig.specs.Keys.{HasAlgorithm, HasProtocol, IsShort, stand_in_signs};
 ghost use Rattle.dsec_wire.specs.Views.{key_view};
 
@@ -68,13 +69,15 @@ impl StandInKey {
     }
 }
 
-/// It never fails: its count of faults stays at 0.
+/// It never fails: its count of faults stays at 0. How often it is asked isn't counted.
 impl SignRaw for StandInKey {
     ghost signs = { stand_in_signs };
 
     ghost key = { λ it. it };
 
     ghost faults = { λ _. 0 };
+
+    ghost asked = { λ _. last_count };
 
     fn algorithm(&self) -> SecurityAlgorithm {
         self.algorithm

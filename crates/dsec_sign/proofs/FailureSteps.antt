@@ -1,24 +1,14 @@
 -- Counts of faults, one key after the other.
-use Rattle.std.proofs.Common.{◌≡◌, ℕ, zero, suc, ◌<◌, List, [], ◌∷◌, Result, Ok, Err, length, map, get_or, slice_set, refl, sym, ap, ◌∙◌, subst, arith}
-use Rattle.std.proofs.lemmas.List.{length-map, get_or-map}
+use Rattle.std.proofs.Common.{◌≡◌, ℕ, ◌<◌, List, Result, Err, length, get_or, slice_set, sym, ap, ◌∙◌, subst, arith}
+use Rattle.std.proofs.lemmas.List.{length-map, get_or-map, map-set}
 use Rattle.dsec_spec.specs.Outside.{risen}
-use Rattle.dsec_rrsig.specs.Errors.{of_sign_error}
 use Rattle.dsec_rrsig.specs.Failures.{CountsError}
 use Rattle.dsec_rrsig.specs.Signers.{faults_of}
 use Rattle.dsec_rrsig.specs.declared.error.SignError.{SignError}
 use Rattle.dsec_rrsig.specs.declared.error.SignError.TheVariants as sign
 use Rattle.dsec_rrsig.specs.declared.signing_key.SigningKey.{SigningKey}
-use Rattle.dsec_sign.specs.SignerFaults.{CountErrors, CountRefusals, CountSignings, OneFailed, counts_of}
-
-mapped : {A B : Type 0} (f : A → B) (xs : List A) (i : ℕ) (y : A) → map f (slice_set xs i y) ≡ slice_set (map f xs) i (f y)
-mapped f [] i y = refl
-mapped f (x ∷ xs) zero y = refl
-mapped f (x ∷ xs) (suc i) y = ap (λ bs. f x ∷ bs) (mapped f xs i y)
-
-set_to_itself : (ns : List ℕ) (i : ℕ) → i < length ns → slice_set ns i (get_or ns i 0) ≡ ns
-set_to_itself [] i lt = absurd (omega arith)
-set_to_itself (n ∷ ns) zero lt = refl
-set_to_itself (n ∷ ns) (suc i) lt = ap (λ ms. n ∷ ms) (set_to_itself ns i (omega arith))
+use Rattle.dsec_sign.specs.SignerFaults.{CountErrors, CountSignings, OneFailed, counts_of}
+use Rattle.dsec_sign.proofs.SignerSteps.{mapped_set}
 
 module _ {I : Type 0} (count_of : I → ℕ) where
   same_length : (old keys : List (SigningKey I)) → counts_of count_of keys ≡ counts_of count_of old → length keys ≡ length old
@@ -27,7 +17,7 @@ module _ {I : Type 0} (count_of : I → ℕ) where
   -- the counts, once one of the keys was used
   used : (old keys : List (SigningKey I)) (i : ℕ) (new : SigningKey I) → counts_of count_of keys ≡ counts_of count_of old
       → counts_of count_of (slice_set keys i new) ≡ slice_set (counts_of count_of old) i (faults_of count_of new)
-  used old keys i new same = mapped (faults_of count_of) keys i new ∙ ap (λ (ns : List ℕ). slice_set ns i (faults_of count_of new)) same
+  used old keys i new same = map-set (faults_of count_of) keys i new ∙ ap (λ (ns : List ℕ). slice_set ns i (faults_of count_of new)) same
 
   before : (old keys : List (SigningKey I)) (i : ℕ) (d : SigningKey I) → counts_of count_of keys ≡ counts_of count_of old → i < length keys
       → faults_of count_of (get_or keys i d) ≡ get_or (counts_of count_of old) i 0
@@ -36,9 +26,7 @@ module _ {I : Type 0} (count_of : I → ℕ) where
   -- a key was used, and its count is as it was
   pub quiet_once : (old keys : List (SigningKey I)) (i : ℕ) (new d : SigningKey I) → counts_of count_of keys ≡ counts_of count_of old → i < length keys
       → faults_of count_of new ≡ faults_of count_of (get_or keys i d) → counts_of count_of (slice_set keys i new) ≡ counts_of count_of old
-  quiet_once old keys i new d same lt is =
-      let below : i < length (counts_of count_of old) = omega (arith, lt, same_length old keys same, length-map old (faults_of count_of)) in
-      used old keys i new same ∙ (ap (slice_set (counts_of count_of old) i) (is ∙ before old keys i d same lt) ∙ set_to_itself (counts_of count_of old) i below)
+  quiet_once old keys i new d same lt is = mapped_set (faults_of count_of) keys i new d lt is ∙ same
 
   failed_once : (old keys : List (SigningKey I)) (i : ℕ) (new d : SigningKey I) → counts_of count_of keys ≡ counts_of count_of old → i < length keys
       → faults_of count_of new ≡ risen (faults_of count_of (get_or keys i d)) → OneFailed count_of old (slice_set keys i new)

@@ -3,6 +3,7 @@ pub mod ZoneSets
 pub mod SignableSets
 pub mod SignerSteps
 pub mod FailureSteps
+pub mod AskSteps
 pub mod UnionLaws
 pub mod ZoneLaws
 pub mod SetClass

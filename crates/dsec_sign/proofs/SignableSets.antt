@@ -3,7 +3,6 @@ use Rattle.std.proofs.Common.{◌≡◌, ℕ, ◌+◌, ◌<◌, ◌≤◌, false
 use Rattle.std.specs.Prelude.{All}
 use Rattle.std.specs.List.{list_any}
 use Rattle.std.proofs.lemmas.List.{get_or-drop, get_or-take, get_or_default, get_or-map, length-map}
-use Rattle.dsec_spec.specs.Names.{place}
 use Rattle.dsec_spec.specs.Records.{Record}
 use Rattle.dsec_spec.specs.CanonicalRecords.{IsCanonical}
 use Rattle.dsec_spec.proofs.Members.{in_map, none_passes}

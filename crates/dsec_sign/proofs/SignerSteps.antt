@@ -4,7 +4,7 @@ use Rattle.std.proofs.lemmas.Bool.{cases_lt}
 use Rattle.std.specs.Prelude.{All}
 use Rattle.std.specs.List.{AllZip}
 use Rattle.dsec_spec.specs.Numbers.{RRSIG}
-use Rattle.std.proofs.lemmas.List.{append-nil, map-append, length-map, get_or-map, get_or_default}
+use Rattle.std.proofs.lemmas.List.{append-nil, map-append, map-set, set-get_or, get_or-set_same, get_or-set_other, length-map, get_or-map, get_or_default}
 use Rattle.std.proofs.lemmas.List.Elements.{All-cons}
 use Rattle.std.proofs.lemmas.Grind.{flat_map-append}
 use Rattle.std.proofs.Math.Seq.{take-suc}
@@ -23,28 +23,8 @@ use Rattle.dsec_sign.specs.SignerFaults.{AddsOfSet, AddsSignatures, AreSameSigne
 
 -- ---- keys of which one was used
 
-module _ {A : Type 0} where
-  set_here : (xs : List A) (i : ℕ) (y d : A) → i < length xs → get_or (slice_set xs i y) i d ≡ y
-  set_here [] i y d lt = absurd (omega arith)
-  set_here (x ∷ xs) zero y d lt = refl
-  set_here (x ∷ xs) (suc i) y d lt = set_here xs i y d (omega arith)
-
-  set_elsewhere : (xs : List A) (i k : ℕ) (y d : A) → (i ≡ k → ⊥) → get_or (slice_set xs i y) k d ≡ get_or xs k d
-  set_elsewhere [] i k y d other = refl
-  set_elsewhere (x ∷ xs) zero zero y d other = absurd (other refl)
-  set_elsewhere (x ∷ xs) zero (suc k) y d other = refl
-  set_elsewhere (x ∷ xs) (suc i) zero y d other = refl
-  set_elsewhere (x ∷ xs) (suc i) (suc k) y d other = set_elsewhere xs i k y d (λ e. other (ap suc e))
-
-  pub length_set : (xs : List A) (i : ℕ) (y : A) → length (slice_set xs i y) ≡ length xs
-  length_set [] i y = refl
-  length_set (x ∷ xs) zero y = refl
-  length_set (x ∷ xs) (suc i) y = ap suc (length_set xs i y)
-
-mapped_set : {A B : Type 0} (f : A → B) (xs : List A) (i : ℕ) (y d : A) → i < length xs → f y ≡ f (get_or xs i d) → map f (slice_set xs i y) ≡ map f xs
-mapped_set f [] i y d lt e = absurd (omega arith)
-mapped_set f (x ∷ xs) zero y d lt e = ap (λ b. b ∷ map f xs) e
-mapped_set f (x ∷ xs) (suc i) y d lt e = ap (λ bs. f x ∷ bs) (mapped_set f xs i y d (omega arith) e)
+pub mapped_set : {A B : Type 0} (f : A → B) (xs : List A) (i : ℕ) (y d : A) → i < length xs → f y ≡ f (get_or xs i d) → map f (slice_set xs i y) ≡ map f xs
+mapped_set f xs i y d lt e = map-set f xs i y ∙ (ap (slice_set (map f xs) i) (e ∙ sym (get_or-map f xs i d (f d) lt)) ∙ set-get_or (map f xs) i (f d))
 
 pub map-take : {A B : Type 0} (f : A → B) (n : ℕ) (xs : List A) → map f (take n xs) ≡ take n (map f xs)
 map-take f zero xs = refl
@@ -75,8 +55,8 @@ module _ {I : Type 0} (key_of : I → Key) (count_of : I → ℕ) where
     kept = mapped_set (signer_of key_of) keys i new d lt same;
     later = λ k e below. elim (same_or_not i k) [
       | inl is ↦ subst (λ (n : ℕ). faults_of count_of (get_or keys n e) ≤ faults_of count_of (get_or (slice_set keys i new) n e)) is
-          (rw (set_here keys i new e lt) (rw (get_or_default keys i e d lt) later))
-      | inr other ↦ rw (set_elsewhere keys i k new e other) (omega arith)
+          (rw (get_or-set_same keys i new e lt) (rw (get_or_default keys i e d lt) later))
+      | inr other ↦ rw (get_or-set_other keys i k new e (λ h. other (sym h))) (omega arith)
     ];
   }
     where
@@ -99,7 +79,7 @@ module _ {I : Type 0} (key_of : I → Key) (count_of : I → ℕ) where
         at = i;
         within = within;
         rose = λ e.
-            rw (set_here keys i new e lt) (rose_before (faults_of count_of (get_or old i e)) (faults_of count_of (get_or keys i e)) (faults_of count_of new) (same.later i e within)
+            rw (get_or-set_same keys i new e lt) (rose_before (faults_of count_of (get_or old i e)) (faults_of count_of (get_or keys i e)) (faults_of count_of new) (same.later i e within)
             (subst (λ (k : SigningKey I). Rose (faults_of count_of k) (faults_of count_of new)) (get_or_default keys i d e lt) rose));
       }
 

@@ -4,6 +4,7 @@ pub mod Pushing
 pub mod SignerFaults
 pub mod Refusals
 pub mod ZoneChains
+pub mod SignerAsks
 pub mod ZoneSigning
 pub mod Adding
 pub mod InOut

@@ -1,6 +1,6 @@
 //! Sets that are signed as the records of a zone (RFC 4035 2.2).
 
-ghost use Rattle.std.specs.Prelude.{◌≡◌, List, IfErr, IfOk, OnOk, map};
+ghost use Rattle.std.specs.Prelude.{◌≡◌, List, IfErr, IfOk, OnOk, length, map};
 ghost use Rattle.dsec_spec.specs.CanonicalRecords.{IsCanonical};
 ghost use Rattle.dsec_spec.specs.Names.{place};
 ghost use Rattle.dsec_spec.specs.Records as entries;
@@ -8,6 +8,7 @@ ghost use Rattle.dsec_spec.specs.SignedZones.{AreZoneSignatures, sets_to_sign as
 ghost use Rattle.dsec_sorted.specs.SetViews.{members_left};
 ghost use Rattle.dsec_rrsig.specs.Signers.{signer_of};
 ghost use Rattle.dsec_sign.specs.Refusals.{AreAllowed, IsSetsRefusal};
+ghost use Rattle.dsec_sign.specs.SignerAsks.{AskRefusals, asks_of};
 ghost use Rattle.dsec_sign.specs.SignerFaults.{AreSameSigners, CountRefusals, SomeRose};
 
 use crate::into::copied;
@@ -44,7 +45,8 @@ pub trait Signable {
         ensures why { IfErr result (λ e. IsSetsRefusal (zone_sets (place apex.now) (records self.now)) (map (signer_of I.key) keys.old) (record { inception = inception; expiration = expiration })
             (SomeRose I.faults keys.old keys.new) e) }
         ensures same { AreSameSigners I.key I.faults keys.old keys.new }
-        ensures counts { CountRefusals I.faults keys.old keys.new result };
+        ensures counts { CountRefusals I.faults keys.old keys.new result }
+        ensures asks { AskRefusals (length (zone_sets (place apex.now) (records self.now))) (asks_of I.asked keys.old) (asks_of I.asked keys.new) result };
 }
 
 impl Signable for Rrset<'_> {

@@ -4,6 +4,7 @@ ghost use Rattle.std.specs.Prelude.{◌≡◌, List, IfErr, OnOk, map};
 ghost use Rattle.dsec_spec.specs.CanonicalRecords.{AreOfOneClass, IsCanonical};
 ghost use Rattle.dsec_spec.specs.Records as entries;
 ghost use Rattle.dsec_rrsig.specs.Signers.{signer_of};
+ghost use Rattle.dsec_sign.specs.SignerAsks.{AskZone, asks_of};
 ghost use Rattle.dsec_sign.specs.SignerFaults.{AreSameSigners, CountRefusals, SomeRose};
 ghost use Rattle.dsec_sign.specs.ZoneSigning.{IsZoneRefusal, SignsZone};
 
@@ -38,7 +39,8 @@ pub trait SignableZone {
         ensures why { IfErr result (λ e. IsZoneRefusal config.now (map (signer_of I.key) keys.old) (SomeRose I.faults keys.old keys.new) apex.now
             (zone self.now) (T.records out.old) (T.records out.new) e) }
         ensures same { AreSameSigners I.key I.faults keys.old keys.new }
-        ensures counts { CountRefusals I.faults keys.old keys.new result };
+        ensures counts { CountRefusals I.faults keys.old keys.new result }
+        ensures asks { AskZone config.now.denial apex.now (zone self.now) (asks_of I.asked keys.old) (asks_of I.asked keys.new) result };
 }
 
 impl SignableZone for Vec<Record> {
@@ -91,7 +93,8 @@ pub trait SignableZoneInPlace {
             (zone self.old) (zone self.old) (zone self.new) e) }
         ensures canonical { IsCanonical (zone self.new) }
         ensures same { AreSameSigners I.key I.faults keys.old keys.new }
-        ensures counts { CountRefusals I.faults keys.old keys.new result };
+        ensures counts { CountRefusals I.faults keys.old keys.new result }
+        ensures asks { AskZone config.now.denial apex.now (zone self.old) (asks_of I.asked keys.old) (asks_of I.asked keys.new) result };
 }
 
 impl SignableZoneInPlace for Vec<Record> {

@@ -1,5 +1,6 @@
 //! A signer of one's own, behind the trait `SignRaw`.
 
+ghost use Rattle.dsec_spec.specs.Outside.{last_count};
 ghost use Rattle.dsec_rrsig.specs.Keys.{stand_in_signs};
 
 use dsec_name::NoMemory;
@@ -20,12 +21,15 @@ pub struct Device {
     pub faults: u64,
 }
 
+/// How often it is asked isn't counted.
 impl SignRaw for Device {
     ghost signs = { stand_in_signs };
 
     ghost key = { λ device. device.key };
 
     ghost faults = { λ device. device.faults };
+
+    ghost asked = { λ _. last_count };
 
     fn algorithm(&self) -> SecurityAlgorithm {
         self.key.algorithm()

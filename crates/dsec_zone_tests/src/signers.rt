@@ -16,7 +16,7 @@ pub(crate) struct FailingKey {
     pub(crate) key: StandInKey,
     /// The number of the call that fails; the first call has the number 0.
     pub(crate) failing: u64,
-    /// How many calls were made.
+    /// How many calls were made: a count that stays at 2^64 - 1.
     pub(crate) calls: u64,
     /// How many of them failed: a count that stays at 2^64 - 1.
     pub(crate) faults: u64,
@@ -28,6 +28,8 @@ impl SignRaw for FailingKey {
     ghost key = { λ it. it.key };
 
     ghost faults = { λ it. it.faults };
+
+    ghost asked = { λ it. it.calls };
 
     fn algorithm(&self) -> SecurityAlgorithm {
         self.key.algorithm()

@@ -1,4 +1,4 @@
-use Rattle.std.proofs.Common.{◌≡◌, ◌∙◌, List, map, sym, subst}
+use Rattle.std.proofs.Common.{◌≡◌, ◌∙◌, List, length, map, sym, subst, inr, Err, rules}
 use Rattle.dsec_spec.specs.Names.{place}
 use Rattle.dsec_spec.specs.CanonicalRecords.{AreOfOneClass, IsCanonical}
 use Rattle.dsec_spec.specs.Records.{Record}
@@ -6,9 +6,12 @@ use Rattle.dsec_spec.specs.Signatures.{Period}
 use Rattle.dsec_spec.specs.SignedZones.{AreZoneSignatures, IsUnion, sets_to_sign}
 use Rattle.dsec_sorted.specs.IterViews.{left_of}
 use Rattle.dsec_rrsig.specs.Signers.{period_of, signer_of}
+use Rattle.dsec_rrsig.specs.declared.error.SignError.TheVariants as sign
 use Rattle.dsec_sign.specs.Refusals.{AreAllowed, IsSetsRefusal}
+use Rattle.dsec_sign.specs.SignerAsks.{AreAsked, asks_of}
 use Rattle.dsec_sign.specs.SignerFaults.{SomeRose}
 use Rattle.dsec_sign.specs.ZoneChains.{IsChainOf}
+use Rattle.dsec_sign.proofs.AskSteps.{asked_at_most, refused_asked}
 use Rattle.dsec_sign.proofs.ZoneLaws.{sets_refused, whole_class, zone_signed}
 use Rattle.dsec_sign.proofs.into.sign_into.Goals as goal
 
@@ -67,3 +70,33 @@ returns-clause-why g c =
     let why = subst (λ (xs : List Record). IsSetsRefusal (sets_to_sign (place apex) xs) signers (period_of c.rrsigs-rrsigs.result) cause c.in-Err.error) left c.in-Err.ensures.why in
     sets_refused config signers cause apex zone chain whole (g.T.SortedExtend.records c.args.out.now) (g.T.SortedExtend.records c.sorted_extend.new.self) c.in-Err.error made c.in_ok-sorted_extend.ensures.ok merged
     (subst (λ (p : Period). IsSetsRefusal (sets_to_sign (place apex) whole) signers p cause c.in-Err.error) c.rrsigs-rrsigs.ensures why)
+
+pub returns-in-Ok-sorted_extend-clause-asks : goal.returns-in-Ok-sorted_extend-clause-asks
+returns-in-Ok-sorted_extend-clause-asks g c =
+    let zone = c.args.zone.now in
+    let apex = c.args.apex.now in
+    let chain = c.in_ok-chain.chain.items in
+    let whole = c.in_ok-whole.whole.items in
+    let old = asks_of g.I.SignRaw.asked c.args.keys.now in
+    let new = asks_of g.I.SignRaw.asked c.sign_sorted_zone_records.new.keys in
+    let made = subst (λ (xs : List Record). IsChainOf c.args.config.now.denial apex xs chain) c.owners_of.ensures c.in_ok-chain.ensures.chain in
+    let merged = subst (λ (xs : List Record). IsUnion zone xs whole) c.deref.ensures.value c.in_ok-whole.ensures in
+    let left : left_of c.owners_of-2.result ≡ whole = c.owners_of-2.ensures ∙ c.deref-2.ensures.value in
+    let asks : AreAsked (length (sets_to_sign (place apex) whole)) old new =
+    subst (λ (xs : List Record). AreAsked (length (sets_to_sign (place apex) xs)) old new) left c.in-Ok.ensures.asks in
+    inr (record { chain = chain; made = made; whole = whole; merged = merged; asks = asks })
+
+pub returns-in-Ok-clause-asks : goal.returns-in-Ok-clause-asks
+returns-in-Ok-clause-asks g c =
+    let zone = c.args.zone.now in
+    let apex = c.args.apex.now in
+    let chain = c.in_ok-chain.chain.items in
+    let whole = c.in_ok-whole.whole.items in
+    let old = asks_of g.I.SignRaw.asked c.args.keys.now in
+    let new = asks_of g.I.SignRaw.asked c.sign_sorted_zone_records.new.keys in
+    let made = subst (λ (xs : List Record). IsChainOf c.args.config.now.denial apex xs chain) c.owners_of.ensures c.in_ok-chain.ensures.chain in
+    let merged = subst (λ (xs : List Record). IsUnion zone xs whole) c.deref.ensures.value c.in_ok-whole.ensures in
+    let left : left_of c.owners_of-2.result ≡ whole = c.owners_of-2.ensures ∙ c.deref-2.ensures.value in
+    let asks : AreAsked (length (sets_to_sign (place apex) whole)) old new =
+    subst (λ (xs : List Record). AreAsked (length (sets_to_sign (place apex) xs)) old new) left c.in-Ok.ensures.asks in
+    inr (record { chain = chain; made = made; whole = whole; merged = merged; asks = refused_asked {T = Unit {0}} (length (sets_to_sign (place apex) whole)) old new (Err c.from.result) sign.NoMemory (search rules) (asked_at_most (length (sets_to_sign (place apex) whole)) old new asks) })

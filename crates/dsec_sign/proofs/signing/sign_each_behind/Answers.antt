@@ -1,4 +1,4 @@
-use Rattle.std.proofs.Common.{◌≡◌, ◌∙◌, ◌<◌, List, map, sym, ap, subst, arith, length, get_or, rules}
+use Rattle.std.proofs.Common.{◌≡◌, ◌∙◌, ◌<◌, List, map, ap, subst, arith, length, get_or, rules, ℕ, refl}
 use Rattle.std.proofs.lemmas.List.{length-map, get_or-map}
 use Rattle.dsec_spec.specs.Records.{Record}
 use Rattle.dsec_spec.specs.Signatures.{Signer}
@@ -6,8 +6,10 @@ use Rattle.dsec_rrsig.specs.Signers.{period_of, signer_of}
 use Rattle.dsec_sign.specs.Places.{set_at}
 use Rattle.dsec_sign.specs.SignerFaults.{AddsOfSet}
 use Rattle.dsec_sign.specs.declared.zone_sets.SetAt.{SetAt}
+use Rattle.dsec_sign.specs.SignerAsks.{AreAsked, asks_of}
+use Rattle.dsec_sign.proofs.AskSteps.{asks_as, none_asked, set_asked, set_in_vain}
 use Rattle.dsec_sign.proofs.FailureSteps.{counts_as, counts_then}
-use Rattle.dsec_sign.proofs.SignerSteps.{rose_then, same_then, set_in_front, set_more, signable_in_front}
+use Rattle.dsec_sign.proofs.SignerSteps.{rose_then, same_at_first, no_sets, same_then, set_in_front, set_more, signable_in_front}
 use Rattle.dsec_sign.proofs.signing.sign_each_behind.Goals as goal
 
 pub sign_one_behind-requires-clause-set : goal.sign_one_behind-requires-clause-set
@@ -24,6 +26,31 @@ pub returns-in_err-sign_one_behind-clause-counts : goal.returns-in_err-sign_one_
 returns-in_err-sign_one_behind-clause-counts g c =
     counts_as g.I.SignRaw.faults c.args.keys.now _ c.from_residual.result c.in_err-sign_one_behind.field-0.0 (search rules)
     (counts_then g.I.SignRaw.faults c.args.keys.now c.loop-set.keys c.sign_one_behind.new.keys c.in_err-sign_one_behind.field-0.0 c.loop-set.invariant.quiet c.in_err-sign_one_behind.ensures.counts)
+
+pub returns-in_err-sign_one_behind-clause-asks : goal.returns-in_err-sign_one_behind-clause-asks
+returns-in_err-sign_one_behind-clause-asks g c =
+    let sets = map (set_at c.args.records.now.items) c.args.sets.now in
+    let lt : c.loop-set.set-index < length sets = omega (arith, c.loop-set-test.true, length-map c.args.sets.now (set_at c.args.records.now.items)) in
+    let old = asks_of g.I.SignRaw.asked c.args.keys.now in
+    asks_as (length sets) old _ c.from_residual.result c.in_err-sign_one_behind.field-0.0 (search rules)
+    (set_in_vain c.loop-set.set-index (length sets) old (asks_of g.I.SignRaw.asked c.loop-set.keys) (asks_of g.I.SignRaw.asked c.sign_one_behind.new.keys) lt c.loop-set.invariant.asks c.in_err-sign_one_behind.ensures.asks)
+
+pub returns-clause-asks : goal.returns-clause-asks
+returns-clause-asks g c =
+    let all : c.loop-set.set-index ≡ length (map (set_at c.args.records.now.items) c.args.sets.now) = omega (arith, c.loop-set.auto.set-index-end, c.loop-set-test.false, length-map c.args.sets.now (set_at c.args.records.now.items)) in
+    subst (λ (n : ℕ). AreAsked n (asks_of g.I.SignRaw.asked c.args.keys.now) (asks_of g.I.SignRaw.asked c.loop-set.keys)) all c.loop-set.invariant.asks
+
+pub loop-set-init : goal.loop-set-init
+loop-set-init g c =
+    let sets = map (set_at c.args.records.now.items) c.args.sets.now in
+    let signers = map (signer_of g.I.SignRaw.key) c.args.keys.now in
+    record {
+      same = same_at_first g.I.SignRaw.key g.I.SignRaw.faults c.args.keys.now;
+      quiet = refl;
+      asks = none_asked (asks_of g.I.SignRaw.asked c.args.keys.now);
+      empty = search rules;
+      adds = no_sets g.I.SignRaw.signs (period_of c.args.config.now) sets signers c.args.records.now.items;
+    }
 
 pub loop-set-preserved : goal.loop-set-preserved
 loop-set-preserved g c =
@@ -48,6 +75,7 @@ loop-set-preserved g c =
     record {
       same = same_then g.I.SignRaw.key g.I.SignRaw.faults c.args.keys.now c.loop-set.keys c.sign_one_behind.new.keys c.loop-set.invariant.same c.sign_one_behind.ensures.same;
       quiet = c.in_ok-sign_one_behind.ensures.counts ∙ c.loop-set.invariant.quiet;
+      asks = set_asked i (asks_of g.I.SignRaw.asked c.args.keys.now) (asks_of g.I.SignRaw.asked c.loop-set.keys) (asks_of g.I.SignRaw.asked c.sign_one_behind.new.keys) c.loop-set.invariant.asks c.in_ok-sign_one_behind.ensures.asks;
       empty = c.in_ok-sign_one_behind.ensures.empty;
       adds = set_more signs period (map (set_at old) sets) signers i set old here new (omega (arith, lt, length-map sets (set_at old))) (get_or-map (set_at old) sets i zero set lt) adds more;
     }

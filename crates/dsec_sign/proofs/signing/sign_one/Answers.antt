@@ -4,6 +4,8 @@ use Rattle.dsec_spec.specs.Signatures.{Signer}
 use Rattle.dsec_sorted.specs.SetViews.{members_of}
 use Rattle.dsec_rrsig.specs.Signers.{period_of, signer_of}
 use Rattle.dsec_rrsig.specs.declared.error.SignError.TheVariants as sign
+use Rattle.dsec_sign.specs.SignerAsks.{asks_of}
+use Rattle.dsec_sign.proofs.AskSteps.{all_asked, asked_in_vain, asked_more, asked_once, asks_as}
 use Rattle.dsec_sign.proofs.FailureSteps.{counts_as, counts_once, quiet_once}
 use Rattle.dsec_sign.proofs.SignerSteps.{key_more, rose_once, same_once, same_then, tag_there}
 use Rattle.dsec_sign.proofs.signing.sign_one.Goals as goal
@@ -40,6 +42,24 @@ returns-in_err-push_one-clause-counts g c =
     counts_as g.I.SignRaw.faults c.args.keys.now _ c.from_residual-in_err-push_one.result sign.NoMemory (search rules)
     (quiet_once g.I.SignRaw.faults c.args.keys.now keys c.loop-i.i c.sign_set.new.key c.index-keys-i.result c.loop-i.invariant.quiet lt c.in_ok-made.ensures.counts)
 
+pub returns-in_err-made-clause-asks : goal.returns-in_err-made-clause-asks
+returns-in_err-made-clause-asks g c =
+    let keys = c.loop-i.keys in
+    let lt : c.loop-i.i < length keys = omega (arith, c.loop-i.auto.keys, c.loop-i-test.true) in
+    asks_as 1 (asks_of g.I.SignRaw.asked c.args.keys.now) _ c.from_residual.result c.in_err-made.field-0.0 (search rules)
+    (asked_in_vain g.I.SignRaw.asked c.args.keys.now keys c.loop-i.i c.sign_set.new.key c.index-keys-i.result c.in_err-made.field-0.0 c.loop-i.invariant.asks lt c.in_err-made.ensures.asks)
+
+pub returns-in_err-push_one-clause-asks : goal.returns-in_err-push_one-clause-asks
+returns-in_err-push_one-clause-asks g c =
+    let keys = c.loop-i.keys in
+    let lt : c.loop-i.i < length keys = omega (arith, c.loop-i.auto.keys, c.loop-i-test.true) in
+    asks_as 1 (asks_of g.I.SignRaw.asked c.args.keys.now) _ c.from_residual-in_err-push_one.result sign.NoMemory (search rules)
+    (asked_once g.I.SignRaw.asked c.args.keys.now keys c.loop-i.i c.sign_set.new.key c.index-keys-i.result c.loop-i.invariant.asks lt c.in_ok-made.ensures.asks)
+
+pub returns-clause-asks : goal.returns-clause-asks
+returns-clause-asks g c =
+    all_asked g.I.SignRaw.asked c.args.keys.now c.loop-i.keys c.loop-i.i c.loop-i.invariant.asks (omega (arith, c.loop-i.auto.keys, c.loop-i-test.false))
+
 pub returns-in_err-push_one-clause-same : goal.returns-in_err-push_one-clause-same
 returns-in_err-push_one-clause-same g c =
     let keys = c.loop-i.keys in
@@ -61,6 +81,7 @@ loop-i-preserved g c =
       same = same_then g.I.SignRaw.key g.I.SignRaw.faults c.args.keys.now keys _ c.loop-i.invariant.same
           (same_once g.I.SignRaw.key g.I.SignRaw.faults keys c.loop-i.i c.sign_set.new.key d lt c.sign_set.ensures.kept c.sign_set.ensures.later);
       quiet = quiet_once g.I.SignRaw.faults c.args.keys.now keys c.loop-i.i c.sign_set.new.key d c.loop-i.invariant.quiet lt c.in_ok-made.ensures.counts;
+      asks = asked_more g.I.SignRaw.asked c.args.keys.now keys c.loop-i.i c.sign_set.new.key d c.loop-i.invariant.asks lt c.in_ok-made.ensures.asks;
       adds = rw (c.in_ok-push_one.ensures) (key_more g.I.SignRaw.signs (period_of c.args.config.now) (members_of c.args.set.now) signers c.loop-i.i by c.args.out.now.items c.loop-i.out.items c.in_ok-made.made
           long mine c.loop-i.invariant.adds c.in_ok-made.ensures.signed);
     }

@@ -1,10 +1,13 @@
-use Rattle.std.proofs.Common.{◌≡◌, ◌∙◌, List, map, sym, ap, subst}
+use Rattle.std.proofs.Common.{◌≡◌, ◌∙◌, List, map, sym, ap, subst, rules}
 use Rattle.dsec_spec.specs.CanonicalRecords.{IsCanonical}
 use Rattle.dsec_spec.specs.Records.{Record}
 use Rattle.dsec_sorted.specs.SetViews.{members_of}
 use Rattle.dsec_rrsig.specs.Signers.{period_of, signer_of}
 use Rattle.dsec_sign.specs.Places.{set_at}
 use Rattle.dsec_sign.specs.SignerFaults.{AddsOfSet}
+use Rattle.dsec_rrsig.specs.declared.error.SignError.TheVariants as sign
+use Rattle.dsec_sign.specs.SignerAsks.{asks_of}
+use Rattle.dsec_sign.proofs.AskSteps.{asked_at_most, asks_as}
 use Rattle.dsec_sign.proofs.SignerSteps.{appended}
 use Rattle.dsec_sign.proofs.signing.sign_one_behind.Goals as goal
 
@@ -26,3 +29,9 @@ returns-clause-signed g c =
     subst (λ (xs : List Record). AddsOfSet signs period set signers xs c.sign_one.new.out.items) c.requires.empty
     (subst (λ (xs : List Record). AddsOfSet signs period xs signers c.args.made.now.items c.sign_one.new.out.items) is c.in_ok-sign_one.ensures.signed) in
     appended signs period set signers c.sign_one.new.out.items old c.append.new.self.items made c.in_ok-append.ensures.items
+
+pub returns-in_err-append-clause-asks : goal.returns-in_err-append-clause-asks
+returns-in_err-append-clause-asks g c =
+    let old = asks_of g.I.SignRaw.asked c.args.keys.now in
+    let new = asks_of g.I.SignRaw.asked c.sign_one.new.keys in
+    asks_as 1 old new c.from_residual-in_err-append.result sign.NoMemory (search rules) (asked_at_most 1 old new c.in_ok-sign_one.ensures.asks)

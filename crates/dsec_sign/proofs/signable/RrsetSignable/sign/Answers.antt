@@ -1,7 +1,12 @@
-use Rattle.std.proofs.Common.{◌∙◌, List, sym, subst}
+use Rattle.std.proofs.Common.{◌∙◌, List, length, sym, subst, rules}
+use Rattle.dsec_spec.specs.Names.{place}
+use Rattle.dsec_spec.specs.SignedZones.{sets_to_sign}
 use Rattle.dsec_spec.specs.CanonicalRecords.{AreOfOneClass}
 use Rattle.dsec_spec.specs.Records.{Record}
 use Rattle.dsec_sorted.specs.SetViews.{members_of}
+use Rattle.dsec_rrsig.specs.declared.error.SigningError.TheVariants as signing
+use Rattle.dsec_sign.specs.SignerAsks.{asks_of}
+use Rattle.dsec_sign.proofs.AskSteps.{refused_unasked}
 use Rattle.dsec_sign.proofs.SetClass.{class_of_set}
 use Rattle.dsec_sign.proofs.signable.RrsetSignable.sign.Goals as goal
 
@@ -14,3 +19,7 @@ pub sign_sorted_zone_records-requires-clause-class : goal.sign_sorted_zone_recor
 sign_sorted_zone_records-requires-clause-class g c =
     subst (λ (xs : List Record). AreOfOneClass xs) (sym (c.owners_of.ensures ∙ (c.deref.ensures.value ∙ c.in_ok-records.ensures)))
     (class_of_set (members_of c.args.self.now) c.args.self.now.one_set)
+
+pub returns-in_err-records-clause-asks : goal.returns-in_err-records-clause-asks
+returns-in_err-records-clause-asks g c =
+    refused_unasked (length (sets_to_sign (place c.args.apex.now) (members_of c.args.self.now))) (asks_of g.I.SignRaw.asked c.args.keys.now) c.from_residual.result signing.OutOfMemory (search rules)
