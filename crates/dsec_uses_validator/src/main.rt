@@ -55,7 +55,7 @@ fn main(rt: HostRuntime) -> Result<()> {
         if rt.read_line(&mut line)? == 0 {
             break;
         }
-        let word = line.trim_end().as_bytes();
+        let word = line.trim().as_bytes();
         let octets = read_hex(alloc, word).ok().context("no hex")?;
         let mut reply = Message::from_octets(octets.into_vec()).map_err(Error::msg)?;
         // The moment is in seconds since 1970.

@@ -33,14 +33,11 @@ impl<'a> Upstream for Resolver<'a> {
         let asked = println!(self.rt; "ask {name} {rtype}");
         // No octets where the question can't be written, and at the end of the input.
         let read = asked.and_then(|_| self.rt.read_line(&mut line));
-        let word = line.trim_end().as_bytes();
-        match (read.unwrap_or(0), read_hex(alloc, word)) {
-            (1.., Ok(reply)) => Ok(reply.into_vec()),
-            (1.., Err(ReadError::NoMemory)) => Err(AskError::NoMemory),
-            _ => {
-                self.faults = self.faults.saturating_add(1);
-                Err(AskError::Failed)
-            }
+        match (read.unwrap_or(0), read_hex(alloc, line.trim().as_bytes())) {
+            (1.., Ok(reply)) => return Ok(reply.into_vec()),
+            (1.., Err(ReadError::NoMemory)) => return Err(AskError::NoMemory),
+            _ => self.faults = self.faults.saturating_add(1),
         }
+        Err(AskError::Failed)
     }
 }
