@@ -6,16 +6,11 @@ use dsec_number::Rtype;
 use dsec_sign::{SigningKey, StandInKey};
 use dsec_wire::Record;
 
-/// The record of a zone's key, of which there is to be one.
-pub fn key_record(records: &[Record]) -> Result<Record> {
+/// The record of a zone's key, of which there is to be one, and the key with a device that signs by it.
+pub fn own_key(records: &[Record]) -> Result<(Record, SigningKey<Device>)> {
     let mut keys = records.iter().filter(|one| one.rtype() == Rtype::DNSKEY);
     let own = keys.next().context("no key")?;
     ensure!(keys.next().is_none(), "several keys");
-    Ok(own.clone()?)
-}
-
-/// The key of a record, with a device that signs by it.
-pub fn own_key(own: &Record) -> Result<SigningKey<Device>> {
     let Some(dnskey) = own.rdata().dnskey() else {
         bail!("no key");
     };
@@ -24,5 +19,6 @@ pub fn own_key(own: &Record) -> Result<SigningKey<Device>> {
         left: 100,
         faults: 0,
     };
-    Ok(SigningKey::new(own.owner().clone()?, dnskey.flags, device))
+    let key = SigningKey::new(own.owner().clone()?, dnskey.flags, device);
+    Ok((own.clone()?, key))
 }

@@ -18,7 +18,7 @@ use dsec_record_text::send_records;
 use dsec_sign::{SignableZoneInPlace, SigningConfig, SigningKey, sign_rrset};
 use dsec_signing::read_zone;
 use dsec_sorted::{DenialConfig, Rrset, SortedRecords, is_of_one_class};
-use keys::{key_record, own_key};
+use keys::own_key;
 use std::alloc::Global;
 use std::{io, slice};
 
@@ -39,8 +39,7 @@ fn sign(
 
 /// Signs a zone, its key too.
 fn sign_whole(alloc: Global, zone: &mut SortedRecords) -> Result<()> {
-    let own = key_record(zone.as_slice())?;
-    let mut key = own_key(&own)?;
+    let (own, mut key) = own_key(zone.as_slice())?;
     let (inception, expiration) = (Timestamp::from_int(0), Timestamp::from_int(1000));
     let config = SigningConfig::new(DenialConfig::Nsec, inception, expiration);
     sign(alloc, own.owner(), zone, &config, &mut key)?;
