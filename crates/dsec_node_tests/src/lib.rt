@@ -4,6 +4,8 @@
 #[cfg(test)]
 mod admission;
 #[cfg(test)]
+mod admitting;
+#[cfg(test)]
 mod gaps;
 #[cfg(test)]
 mod key_lines;
