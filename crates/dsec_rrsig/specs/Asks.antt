@@ -1,15 +1,10 @@
 -- How often calls ask what signs.
-use Rattle.std.specs.Prelude.{◌≡◌, ◌⊎◌, ℕ, zero, suc, Result, Ok, Err}
+use Rattle.std.specs.Prelude.{◌≡◌, ◌⊎◌, ℕ, Result, Ok, Err}
 use Rattle.dsec_spec.specs.Outside.{risen}
 use Rattle.dsec_rrsig.specs.declared.error.SignError.{SignError}
 use Rattle.dsec_rrsig.specs.declared.error.SignError.TheVariants as sign
 use Rattle.dsec_rrsig.specs.declared.error.SigningError.{SigningError}
 use Rattle.dsec_rrsig.specs.declared.error.SigningError.TheVariants as signing
-
--- a count that rose so often
-abbrev pub risen_by : ℕ → ℕ → ℕ
-risen_by before zero = before
-risen_by before (suc more) = risen (risen_by before more)
 
 -- it was asked once, or not at all
 abbrev pub OnceAtMost : ℕ → ℕ → Type 0

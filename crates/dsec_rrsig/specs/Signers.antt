@@ -13,10 +13,6 @@ period_of it = record { inception = it.inception; expiration = it.expiration }
 abbrev pub signer_of : {I : Type 0} → (I → Key) → SigningKey I → Signer
 signer_of key_of it = record { owner = it.owner; key = key_of it.inner }
 
--- how often what signs failed
-abbrev pub faults_of : {I : Type 0} → (I → ℕ) → SigningKey I → ℕ
-faults_of count_of it = count_of it.inner
-
--- how often it was asked
-abbrev pub asked_of : {I : Type 0} → (I → ℕ) → SigningKey I → ℕ
-asked_of ask_of it = ask_of it.inner
+-- how often what signs failed, or was asked
+abbrev pub count_in : {I : Type 0} → (I → ℕ) → SigningKey I → ℕ
+count_in count_of it = count_of it.inner

@@ -1,16 +1,17 @@
 -- How often keys were asked, one key and one set after the other.
 use Rattle.std.proofs.Common.{◌≡◌, ℕ, zero, suc, ◌+◌, ◌<◌, ◌≤◌, List, [], ◌∷◌, Result, Err, length, map, get_or, slice_set, refl, sym, ap, ◌∙◌, subst, inl, inr, arith}
 use Rattle.std.proofs.lemmas.List.{length-map, get_or-map, map-set}
-use Rattle.dsec_spec.specs.Outside.{risen}
-use Rattle.dsec_rrsig.specs.Asks.{AsksError, risen_by}
+use Rattle.dsec_spec.specs.Outside.{risen, risen_by}
+use Rattle.dsec_rrsig.specs.Asks.{AsksError}
 use Rattle.dsec_rrsig.specs.Errors.{of_sign_error}
-use Rattle.dsec_rrsig.specs.Signers.{asked_of}
+use Rattle.dsec_rrsig.specs.Signers.{count_in}
 use Rattle.dsec_rrsig.specs.declared.error.SignError.{SignError}
 use Rattle.dsec_rrsig.specs.declared.error.SignError.TheVariants as sign
 use Rattle.dsec_rrsig.specs.declared.error.SigningError.{SigningError}
 use Rattle.dsec_rrsig.specs.declared.error.SigningError.TheVariants as signing
 use Rattle.dsec_rrsig.specs.declared.signing_key.SigningKey.{SigningKey}
-use Rattle.dsec_sign.specs.SignerAsks.{AreAsked, AreAskedAtMost, AskRefusals, AskSignings, RoseAtMost, asks_of}
+use Rattle.dsec_sign.specs.SignerAsks.{AreAsked, AreAskedAtMost, AskRefusals, AskSignings, RoseAtMost}
+use Rattle.dsec_sign.specs.SignerFaults.{counts_of}
 use Rattle.dsec_sign.proofs.SignerSteps.{mapped_set}
 
 -- the counts, of which the first so many rose
@@ -49,36 +50,36 @@ some_raised (suc i) (n ∷ ns) = (record { times = 1; few = omega arith; is = re
 
 module _ {I : Type 0} (ask_of : I → ℕ) where
   -- one more was asked
-  pub asked_more : (old keys : List (SigningKey I)) (i : ℕ) (new d : SigningKey I) → asks_of ask_of keys ≡ raised i (asks_of ask_of old) → i < length keys
-      → asked_of ask_of new ≡ risen (asked_of ask_of (get_or keys i d)) → asks_of ask_of (slice_set keys i new) ≡ raised (i + 1) (asks_of ask_of old)
+  pub asked_more : (old keys : List (SigningKey I)) (i : ℕ) (new d : SigningKey I) → counts_of ask_of keys ≡ raised i (counts_of ask_of old) → i < length keys
+      → count_in ask_of new ≡ risen (count_in ask_of (get_or keys i d)) → counts_of ask_of (slice_set keys i new) ≡ raised (i + 1) (counts_of ask_of old)
   asked_more old keys i new d same lt is =
-      let ns = asks_of ask_of old in
-      let one : get_or (raised i ns) i 0 ≡ asked_of ask_of (get_or keys i d) = ap (λ (ms : List ℕ). get_or ms i 0) (sym same) ∙ get_or-map (asked_of ask_of) keys i d 0 lt in
-      let within : i < length ns = omega (arith, lt, length-map keys (asked_of ask_of), ap length same, length_raised i ns) in
+      let ns = counts_of ask_of old in
+      let one : get_or (raised i ns) i 0 ≡ count_in ask_of (get_or keys i d) = ap (λ (ms : List ℕ). get_or ms i 0) (sym same) ∙ get_or-map (count_in ask_of) keys i d 0 lt in
+      let within : i < length ns = omega (arith, lt, length-map keys (count_in ask_of), ap length same, length_raised i ns) in
       let next : suc i ≡ i + 1 = omega arith in
-      map-set (asked_of ask_of) keys i new ∙ (ap (λ (ms : List ℕ). slice_set ms i (asked_of ask_of new)) same
+      map-set (count_in ask_of) keys i new ∙ (ap (λ (ms : List ℕ). slice_set ms i (count_in ask_of new)) same
       ∙ (ap (λ (m : ℕ). slice_set (raised i ns) i m) (is ∙ ap risen (sym one)) ∙ (raise_next ns i within ∙ ap (λ (k : ℕ). raised k ns) next)))
 
   -- then each was asked once at most
-  pub asked_once : (old keys : List (SigningKey I)) (i : ℕ) (new d : SigningKey I) → asks_of ask_of keys ≡ raised i (asks_of ask_of old) → i < length keys
-      → asked_of ask_of new ≡ risen (asked_of ask_of (get_or keys i d)) → AreAskedAtMost 1 (asks_of ask_of old) (asks_of ask_of (slice_set keys i new))
+  pub asked_once : (old keys : List (SigningKey I)) (i : ℕ) (new d : SigningKey I) → counts_of ask_of keys ≡ raised i (counts_of ask_of old) → i < length keys
+      → count_in ask_of new ≡ risen (count_in ask_of (get_or keys i d)) → AreAskedAtMost 1 (counts_of ask_of old) (counts_of ask_of (slice_set keys i new))
   asked_once old keys i new d same lt is =
-      subst (λ (ms : List ℕ). AreAskedAtMost 1 (asks_of ask_of old) ms) (sym (asked_more old keys i new d same lt is)) (some_raised (i + 1) (asks_of ask_of old))
+      subst (λ (ms : List ℕ). AreAskedAtMost 1 (counts_of ask_of old) ms) (sym (asked_more old keys i new d same lt is)) (some_raised (i + 1) (counts_of ask_of old))
 
   -- also where it gave no signature
-  pub asked_in_vain : (old keys : List (SigningKey I)) (i : ℕ) (new d : SigningKey I) (e : SignError) → asks_of ask_of keys ≡ raised i (asks_of ask_of old) → i < length keys
-      → AsksError (asked_of ask_of (get_or keys i d)) (asked_of ask_of new) e → AreAskedAtMost 1 (asks_of ask_of old) (asks_of ask_of (slice_set keys i new))
+  pub asked_in_vain : (old keys : List (SigningKey I)) (i : ℕ) (new d : SigningKey I) (e : SignError) → counts_of ask_of keys ≡ raised i (counts_of ask_of old) → i < length keys
+      → AsksError (count_in ask_of (get_or keys i d)) (count_in ask_of new) e → AreAskedAtMost 1 (counts_of ask_of old) (counts_of ask_of (slice_set keys i new))
   asked_in_vain old keys i new d sign.Failed same lt asks = asked_once old keys i new d same lt asks
   asked_in_vain old keys i new d sign.NoMemory same lt asks = elim asks [
-    | inl none ↦ subst (λ (ms : List ℕ). AreAskedAtMost 1 (asks_of ask_of old) ms) (sym (mapped_set (asked_of ask_of) keys i new d lt none ∙ same)) (some_raised i (asks_of ask_of old))
+    | inl none ↦ subst (λ (ms : List ℕ). AreAskedAtMost 1 (counts_of ask_of old) ms) (sym (mapped_set (count_in ask_of) keys i new d lt none ∙ same)) (some_raised i (counts_of ask_of old))
     | inr once ↦ asked_once old keys i new d same lt once
   ]
 
   -- all were asked
-  pub all_asked : (old keys : List (SigningKey I)) (i : ℕ) → asks_of ask_of keys ≡ raised i (asks_of ask_of old) → length keys ≤ i → AreAsked 1 (asks_of ask_of old) (asks_of ask_of keys)
+  pub all_asked : (old keys : List (SigningKey I)) (i : ℕ) → counts_of ask_of keys ≡ raised i (counts_of ask_of old) → length keys ≤ i → AreAsked 1 (counts_of ask_of old) (counts_of ask_of keys)
   all_asked old keys i same le =
-      let ns = asks_of ask_of old in
-      let within : length ns ≤ i = omega (arith, le, length-map keys (asked_of ask_of), ap length same, length_raised i ns) in
+      let ns = counts_of ask_of old in
+      let within : length ns ≤ i = omega (arith, le, length-map keys (count_in ask_of), ap length same, length_raised i ns) in
       same ∙ all_raised ns i within
 
 -- ---- for one set after the other

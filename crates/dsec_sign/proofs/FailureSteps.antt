@@ -3,7 +3,7 @@ use Rattle.std.proofs.Common.{◌≡◌, ℕ, ◌<◌, List, Result, Err, length
 use Rattle.std.proofs.lemmas.List.{length-map, get_or-map, map-set}
 use Rattle.dsec_spec.specs.Outside.{risen}
 use Rattle.dsec_rrsig.specs.Failures.{CountsError}
-use Rattle.dsec_rrsig.specs.Signers.{faults_of}
+use Rattle.dsec_rrsig.specs.Signers.{count_in}
 use Rattle.dsec_rrsig.specs.declared.error.SignError.{SignError}
 use Rattle.dsec_rrsig.specs.declared.error.SignError.TheVariants as sign
 use Rattle.dsec_rrsig.specs.declared.signing_key.SigningKey.{SigningKey}
@@ -12,24 +12,24 @@ use Rattle.dsec_sign.proofs.SignerSteps.{mapped_set}
 
 module _ {I : Type 0} (count_of : I → ℕ) where
   same_length : (old keys : List (SigningKey I)) → counts_of count_of keys ≡ counts_of count_of old → length keys ≡ length old
-  same_length old keys same = sym (length-map keys (faults_of count_of)) ∙ (ap length same ∙ length-map old (faults_of count_of))
+  same_length old keys same = sym (length-map keys (count_in count_of)) ∙ (ap length same ∙ length-map old (count_in count_of))
 
   -- the counts, once one of the keys was used
   used : (old keys : List (SigningKey I)) (i : ℕ) (new : SigningKey I) → counts_of count_of keys ≡ counts_of count_of old
-      → counts_of count_of (slice_set keys i new) ≡ slice_set (counts_of count_of old) i (faults_of count_of new)
-  used old keys i new same = map-set (faults_of count_of) keys i new ∙ ap (λ (ns : List ℕ). slice_set ns i (faults_of count_of new)) same
+      → counts_of count_of (slice_set keys i new) ≡ slice_set (counts_of count_of old) i (count_in count_of new)
+  used old keys i new same = map-set (count_in count_of) keys i new ∙ ap (λ (ns : List ℕ). slice_set ns i (count_in count_of new)) same
 
   before : (old keys : List (SigningKey I)) (i : ℕ) (d : SigningKey I) → counts_of count_of keys ≡ counts_of count_of old → i < length keys
-      → faults_of count_of (get_or keys i d) ≡ get_or (counts_of count_of old) i 0
-  before old keys i d same lt = sym (get_or-map (faults_of count_of) keys i d 0 lt) ∙ ap (λ (ns : List ℕ). get_or ns i 0) same
+      → count_in count_of (get_or keys i d) ≡ get_or (counts_of count_of old) i 0
+  before old keys i d same lt = sym (get_or-map (count_in count_of) keys i d 0 lt) ∙ ap (λ (ns : List ℕ). get_or ns i 0) same
 
   -- a key was used, and its count is as it was
   pub quiet_once : (old keys : List (SigningKey I)) (i : ℕ) (new d : SigningKey I) → counts_of count_of keys ≡ counts_of count_of old → i < length keys
-      → faults_of count_of new ≡ faults_of count_of (get_or keys i d) → counts_of count_of (slice_set keys i new) ≡ counts_of count_of old
-  quiet_once old keys i new d same lt is = mapped_set (faults_of count_of) keys i new d lt is ∙ same
+      → count_in count_of new ≡ count_in count_of (get_or keys i d) → counts_of count_of (slice_set keys i new) ≡ counts_of count_of old
+  quiet_once old keys i new d same lt is = mapped_set (count_in count_of) keys i new d lt is ∙ same
 
   failed_once : (old keys : List (SigningKey I)) (i : ℕ) (new d : SigningKey I) → counts_of count_of keys ≡ counts_of count_of old → i < length keys
-      → faults_of count_of new ≡ risen (faults_of count_of (get_or keys i d)) → OneFailed count_of old (slice_set keys i new)
+      → count_in count_of new ≡ risen (count_in count_of (get_or keys i d)) → OneFailed count_of old (slice_set keys i new)
   failed_once old keys i new d same lt is = record {
     at = i;
     within = omega (arith, lt, same_length old keys same);
@@ -38,7 +38,7 @@ module _ {I : Type 0} (count_of : I → ℕ) where
 
   -- a key was used, and gave no signature
   pub counts_once : (old keys : List (SigningKey I)) (i : ℕ) (new d : SigningKey I) (e : SignError) → counts_of count_of keys ≡ counts_of count_of old → i < length keys
-      → CountsError (faults_of count_of (get_or keys i d)) (faults_of count_of new) e → CountErrors count_of old (slice_set keys i new) e
+      → CountsError (count_in count_of (get_or keys i d)) (count_in count_of new) e → CountErrors count_of old (slice_set keys i new) e
   counts_once old keys i new d sign.Failed same lt counts = failed_once old keys i new d same lt counts
   counts_once old keys i new d sign.NoMemory same lt counts = quiet_once old keys i new d same lt counts
 

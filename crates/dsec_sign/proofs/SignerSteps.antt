@@ -13,7 +13,7 @@ use Rattle.dsec_spec.specs.Outside.{Rose}
 use Rattle.dsec_spec.specs.Records.{Key, Record}
 use Rattle.dsec_spec.specs.Trying.{pairs}
 use Rattle.dsec_spec.specs.Signatures.{Signs, Signer, Period, IsSignature, AreSignatures}
-use Rattle.dsec_rrsig.specs.Signers.{faults_of, signer_of}
+use Rattle.dsec_rrsig.specs.Signers.{count_in, signer_of}
 use Rattle.dsec_rrsig.specs.declared.signing_key.SigningKey.{SigningKey}
 use Rattle.dsec_spec.specs.CanonicalRecords.{IsCanonical}
 use Rattle.dsec_sorted.specs.Sets.{AreOfOneSet, differ_in_ttl}
@@ -50,11 +50,11 @@ module _ {I : Type 0} (key_of : I → Key) (count_of : I → ℕ) where
 
   -- one of the keys was used
   pub same_once : (keys : List (SigningKey I)) (i : ℕ) (new d : SigningKey I) → i < length keys → signer_of key_of new ≡ signer_of key_of (get_or keys i d)
-      → faults_of count_of (get_or keys i d) ≤ faults_of count_of new → AreSameSigners key_of count_of keys (slice_set keys i new)
+      → count_in count_of (get_or keys i d) ≤ count_in count_of new → AreSameSigners key_of count_of keys (slice_set keys i new)
   same_once keys i new d lt same later = record {
     kept = mapped_set (signer_of key_of) keys i new d lt same;
     later = λ k e below. elim (same_or_not i k) [
-      | inl is ↦ subst (λ (n : ℕ). faults_of count_of (get_or keys n e) ≤ faults_of count_of (get_or (slice_set keys i new) n e)) is
+      | inl is ↦ subst (λ (n : ℕ). count_in count_of (get_or keys n e) ≤ count_in count_of (get_or (slice_set keys i new) n e)) is
           (rw (get_or-set_same keys i new e lt) (rw (get_or_default keys i e d lt) later))
       | inr other ↦ rw (get_or-set_other keys i k new e (λ h. other (sym h))) (omega arith)
     ];
@@ -71,7 +71,7 @@ module _ {I : Type 0} (key_of : I → Key) (count_of : I → ℕ) where
 
   -- and failed
   pub rose_once : (old keys : List (SigningKey I)) (i : ℕ) (new d : SigningKey I) → AreSameSigners key_of count_of old keys → i < length keys
-      → Rose (faults_of count_of (get_or keys i d)) (faults_of count_of new) → SomeRose count_of old (slice_set keys i new)
+      → Rose (count_in count_of (get_or keys i d)) (count_in count_of new) → SomeRose count_of old (slice_set keys i new)
   rose_once old keys i new d same lt rose =
       let long = same_length old keys same in
       let within : i < length old = omega (arith, lt, long) in
@@ -79,8 +79,8 @@ module _ {I : Type 0} (key_of : I → Key) (count_of : I → ℕ) where
         at = i;
         within = within;
         rose = λ e.
-            rw (get_or-set_same keys i new e lt) (rose_before (faults_of count_of (get_or old i e)) (faults_of count_of (get_or keys i e)) (faults_of count_of new) (same.later i e within)
-            (subst (λ (k : SigningKey I). Rose (faults_of count_of k) (faults_of count_of new)) (get_or_default keys i d e lt) rose));
+            rw (get_or-set_same keys i new e lt) (rose_before (count_in count_of (get_or old i e)) (count_in count_of (get_or keys i e)) (count_in count_of new) (same.later i e within)
+            (subst (λ (k : SigningKey I). Rose (count_in count_of k) (count_in count_of new)) (get_or_default keys i d e lt) rose));
       }
 
   -- a count that rose since then rose since the beginning
@@ -91,7 +91,7 @@ module _ {I : Type 0} (key_of : I → Key) (count_of : I → ℕ) where
       record {
         at = rose.at;
         within = within;
-        rose = λ d. rose_before (faults_of count_of (get_or old rose.at d)) (faults_of count_of (get_or mid rose.at d)) (faults_of count_of (get_or new rose.at d)) (same.later rose.at d within) (rose.rose d);
+        rose = λ d. rose_before (count_in count_of (get_or old rose.at d)) (count_in count_of (get_or mid rose.at d)) (count_in count_of (get_or new rose.at d)) (same.later rose.at d within) (rose.rose d);
       }
 
   -- the tag of a key

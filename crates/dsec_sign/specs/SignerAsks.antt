@@ -2,20 +2,14 @@
 use Rattle.std.specs.Prelude.{◌≡◌, ◌≤◌, ◌⊎◌, ℕ, List, Result, Ok, Err, OnOk, length, map}
 use Rattle.std.specs.List.{AllZip}
 use Rattle.dsec_spec.specs.Names.{Labels, place}
+use Rattle.dsec_spec.specs.Outside.{risen_by}
 use Rattle.dsec_spec.specs.Records.{Record}
 use Rattle.dsec_spec.specs.SignedZones.{IsUnion, sets_to_sign}
 use Rattle.dsec_sorted.specs.declared.config.DenialConfig.{DenialConfig}
-use Rattle.dsec_rrsig.specs.Asks.{risen_by}
-use Rattle.dsec_rrsig.specs.Signers.{asked_of}
 use Rattle.dsec_rrsig.specs.declared.error.SignError.{SignError}
 use Rattle.dsec_rrsig.specs.declared.error.SigningError.{SigningError}
 use Rattle.dsec_rrsig.specs.declared.error.SigningError.TheVariants as signing
-use Rattle.dsec_rrsig.specs.declared.signing_key.SigningKey.{SigningKey}
 use Rattle.dsec_sign.specs.ZoneChains.{IsChainOf}
-
--- how often keys were asked
-abbrev pub asks_of : {I : Type 0} → (I → ℕ) → List (SigningKey I) → List ℕ
-asks_of ask_of keys = map (asked_of ask_of) keys
 
 -- each was asked so often
 abbrev pub AreAsked : ℕ → List ℕ → List ℕ → Type 0

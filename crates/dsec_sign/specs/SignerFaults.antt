@@ -5,7 +5,7 @@ use Rattle.dsec_spec.specs.KeyTag.{key_tag}
 use Rattle.dsec_spec.specs.Outside.{Rose, risen}
 use Rattle.dsec_spec.specs.Records.{Key, Record}
 use Rattle.dsec_spec.specs.Signatures.{Signs, Signer, Period, AreSignatures, IsSignature}
-use Rattle.dsec_rrsig.specs.Signers.{faults_of, signer_of}
+use Rattle.dsec_rrsig.specs.Signers.{count_in, signer_of}
 use Rattle.dsec_rrsig.specs.declared.error.SignError.{SignError}
 use Rattle.dsec_rrsig.specs.declared.error.SignError.TheVariants as sign
 use Rattle.dsec_rrsig.specs.declared.error.SigningError.{SigningError}
@@ -19,17 +19,17 @@ tags_of signers = map (λ (by : Signer). key_tag by.key) signers
 -- the keys are of the signers that they were, and no count of faults fell
 pub record AreSameSigners {I : Type 0} (key_of : I → Key) (count_of : I → ℕ) (old new : List (SigningKey I)) : Type 0 where
   pub kept : map (signer_of key_of) new ≡ map (signer_of key_of) old
-  pub later : (k : ℕ) (d : SigningKey I) → k < length old → faults_of count_of (slice_index_or old k d) ≤ faults_of count_of (slice_index_or new k d)
+  pub later : (k : ℕ) (d : SigningKey I) → k < length old → count_in count_of (slice_index_or old k d) ≤ count_in count_of (slice_index_or new k d)
 
 -- the count of faults of one of the keys rose
 pub record SomeRose {I : Type 0} (count_of : I → ℕ) (old new : List (SigningKey I)) : Type 0 where
   pub at : ℕ
   pub within : at < length old
-  pub rose : (d : SigningKey I) → Rose (faults_of count_of (slice_index_or old at d)) (faults_of count_of (slice_index_or new at d))
+  pub rose : (d : SigningKey I) → Rose (count_in count_of (slice_index_or old at d)) (count_in count_of (slice_index_or new at d))
 
--- the counts of faults of keys
+-- how often each of keys failed, or was asked
 abbrev pub counts_of : {I : Type 0} → (I → ℕ) → List (SigningKey I) → List ℕ
-counts_of count_of keys = map (faults_of count_of) keys
+counts_of count_of keys = map (count_in count_of) keys
 
 -- of the keys one failed, and once: its count rose by one, and all others are as they were
 pub record OneFailed {I : Type 0} (count_of : I → ℕ) (old new : List (SigningKey I)) : Type 0 where

@@ -8,8 +8,8 @@ ghost use Rattle.dsec_spec.specs.SignedZones.{AreZoneSignatures, sets_to_sign as
 ghost use Rattle.dsec_sorted.specs.SetViews.{members_left};
 ghost use Rattle.dsec_rrsig.specs.Signers.{signer_of};
 ghost use Rattle.dsec_sign.specs.Refusals.{AreAllowed, IsSetsRefusal};
-ghost use Rattle.dsec_sign.specs.SignerAsks.{AskRefusals, asks_of};
-ghost use Rattle.dsec_sign.specs.SignerFaults.{AreSameSigners, CountRefusals, SomeRose};
+ghost use Rattle.dsec_sign.specs.SignerAsks.{AskRefusals};
+ghost use Rattle.dsec_sign.specs.SignerFaults.{AreSameSigners, CountRefusals, SomeRose, counts_of};
 
 use crate::into::copied;
 use crate::zone_records::sign_sorted_zone_records;
@@ -46,7 +46,7 @@ pub trait Signable {
             (SomeRose I.faults keys.old keys.new) e) }
         ensures same { AreSameSigners I.key I.faults keys.old keys.new }
         ensures counts { CountRefusals I.faults keys.old keys.new result }
-        ensures asks { AskRefusals (length (zone_sets (place apex.now) (records self.now))) (asks_of I.asked keys.old) (asks_of I.asked keys.new) result };
+        ensures asks { AskRefusals (length (zone_sets (place apex.now) (records self.now))) (counts_of I.asked keys.old) (counts_of I.asked keys.new) result };
 }
 
 impl Signable for Rrset<'_> {

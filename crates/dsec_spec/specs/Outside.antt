@@ -1,7 +1,8 @@
 -- The outside: counts that stay at their last value, faults and their causes, what went out, and what an
 -- upstream answers.
-use Rattle.std.specs.Prelude.{◌≡◌, ℕ, ◌+◌, ◌-◌, ◌^◌, ◌≤◌, ◌==◌, ◌&&◌, min, List, [], ◌∷◌, ◌++◌, take, Bool, find, Option, None, Some, IfSome, Result, OnErr, if◌then◌else◌}
+use Rattle.std.specs.Prelude.{◌≡◌, ℕ, zero, suc, ◌+◌, ◌-◌, ◌^◌, ◌≤◌, ◌==◌, ◌&&◌, min, List, [], ◌∷◌, ◌++◌, take, Bool, find, Option, None, Some, IfSome, Result, OnErr, if◌then◌else◌}
 use Rattle.std.specs.List.{list_any}
+use Rattle.std.specs.Option.{option_map}
 use Rattle.std.specs.Io.KnownBytes.{Appends}
 use Rattle.dsec_spec.specs.Names.{Labels, place, same_place}
 
@@ -12,6 +13,11 @@ last_count = 2 ^ 64 - 1
 -- a count that rises by one, or stays at its last value
 abbrev pub risen : ℕ → ℕ
 risen before = min (before + 1) last_count
+
+-- a count that rose so often, or stands at its last value
+abbrev pub risen_by : ℕ → ℕ → ℕ
+risen_by before zero = before
+risen_by before (suc more) = risen (risen_by before more)
 
 -- a count rose, or stands at its last value
 abbrev pub Rose : ℕ → ℕ → Type 0
@@ -64,3 +70,7 @@ IsReplyOf told name rtype reply = IfSome told (λ table. asked_of table name rty
 -- where the table is told, it has no reply to the question
 abbrev pub HasNoReply : Option Table → Labels → ℕ → Type 0
 HasNoReply told name rtype = IfSome told (λ table. asked_of table name rtype ≡ None)
+
+-- what was heard so far with one answer more, where it is told
+abbrev pub heard_more : Option (List Entry) → Entry → Option (List Entry)
+heard_more told entry = option_map (λ heard. heard ++ entry ∷ []) told

@@ -8,8 +8,8 @@ use Rattle.dsec_sorted.specs.IterViews.{left_of}
 use Rattle.dsec_rrsig.specs.Signers.{period_of, signer_of}
 use Rattle.dsec_rrsig.specs.declared.error.SignError.TheVariants as sign
 use Rattle.dsec_sign.specs.Refusals.{AreAllowed, IsSetsRefusal}
-use Rattle.dsec_sign.specs.SignerAsks.{AreAsked, asks_of}
-use Rattle.dsec_sign.specs.SignerFaults.{SomeRose}
+use Rattle.dsec_sign.specs.SignerAsks.{AreAsked}
+use Rattle.dsec_sign.specs.SignerFaults.{SomeRose, counts_of}
 use Rattle.dsec_sign.specs.ZoneChains.{IsChainOf}
 use Rattle.dsec_sign.proofs.AskSteps.{asked_at_most, refused_asked}
 use Rattle.dsec_sign.proofs.ZoneLaws.{sets_refused, whole_class, zone_signed}
@@ -77,8 +77,8 @@ returns-in-Ok-sorted_extend-clause-asks g c =
     let apex = c.args.apex.now in
     let chain = c.in_ok-chain.chain.items in
     let whole = c.in_ok-whole.whole.items in
-    let old = asks_of g.I.SignRaw.asked c.args.keys.now in
-    let new = asks_of g.I.SignRaw.asked c.sign_sorted_zone_records.new.keys in
+    let old = counts_of g.I.SignRaw.asked c.args.keys.now in
+    let new = counts_of g.I.SignRaw.asked c.sign_sorted_zone_records.new.keys in
     let made = subst (λ (xs : List Record). IsChainOf c.args.config.now.denial apex xs chain) c.owners_of.ensures c.in_ok-chain.ensures.chain in
     let merged = subst (λ (xs : List Record). IsUnion zone xs whole) c.deref.ensures.value c.in_ok-whole.ensures in
     let left : left_of c.owners_of-2.result ≡ whole = c.owners_of-2.ensures ∙ c.deref-2.ensures.value in
@@ -92,8 +92,8 @@ returns-in-Ok-clause-asks g c =
     let apex = c.args.apex.now in
     let chain = c.in_ok-chain.chain.items in
     let whole = c.in_ok-whole.whole.items in
-    let old = asks_of g.I.SignRaw.asked c.args.keys.now in
-    let new = asks_of g.I.SignRaw.asked c.sign_sorted_zone_records.new.keys in
+    let old = counts_of g.I.SignRaw.asked c.args.keys.now in
+    let new = counts_of g.I.SignRaw.asked c.sign_sorted_zone_records.new.keys in
     let made = subst (λ (xs : List Record). IsChainOf c.args.config.now.denial apex xs chain) c.owners_of.ensures c.in_ok-chain.ensures.chain in
     let merged = subst (λ (xs : List Record). IsUnion zone xs whole) c.deref.ensures.value c.in_ok-whole.ensures in
     let left : left_of c.owners_of-2.result ≡ whole = c.owners_of-2.ensures ∙ c.deref-2.ensures.value in

@@ -4,7 +4,7 @@ use Rattle.dsec_spec.specs.Signatures.{Signer}
 use Rattle.dsec_sorted.specs.SetViews.{members_of}
 use Rattle.dsec_rrsig.specs.Signers.{period_of, signer_of}
 use Rattle.dsec_rrsig.specs.declared.error.SignError.TheVariants as sign
-use Rattle.dsec_sign.specs.SignerAsks.{asks_of}
+use Rattle.dsec_sign.specs.SignerFaults.{counts_of}
 use Rattle.dsec_sign.proofs.AskSteps.{all_asked, asked_in_vain, asked_more, asked_once, asks_as}
 use Rattle.dsec_sign.proofs.FailureSteps.{counts_as, counts_once, quiet_once}
 use Rattle.dsec_sign.proofs.SignerSteps.{key_more, rose_once, same_once, same_then, tag_there}
@@ -46,14 +46,14 @@ pub returns-in_err-made-clause-asks : goal.returns-in_err-made-clause-asks
 returns-in_err-made-clause-asks g c =
     let keys = c.loop-i.keys in
     let lt : c.loop-i.i < length keys = omega (arith, c.loop-i.auto.keys, c.loop-i-test.true) in
-    asks_as 1 (asks_of g.I.SignRaw.asked c.args.keys.now) _ c.from_residual.result c.in_err-made.field-0.0 (search rules)
+    asks_as 1 (counts_of g.I.SignRaw.asked c.args.keys.now) _ c.from_residual.result c.in_err-made.field-0.0 (search rules)
     (asked_in_vain g.I.SignRaw.asked c.args.keys.now keys c.loop-i.i c.sign_set.new.key c.index-keys-i.result c.in_err-made.field-0.0 c.loop-i.invariant.asks lt c.in_err-made.ensures.asks)
 
 pub returns-in_err-push_one-clause-asks : goal.returns-in_err-push_one-clause-asks
 returns-in_err-push_one-clause-asks g c =
     let keys = c.loop-i.keys in
     let lt : c.loop-i.i < length keys = omega (arith, c.loop-i.auto.keys, c.loop-i-test.true) in
-    asks_as 1 (asks_of g.I.SignRaw.asked c.args.keys.now) _ c.from_residual-in_err-push_one.result sign.NoMemory (search rules)
+    asks_as 1 (counts_of g.I.SignRaw.asked c.args.keys.now) _ c.from_residual-in_err-push_one.result sign.NoMemory (search rules)
     (asked_once g.I.SignRaw.asked c.args.keys.now keys c.loop-i.i c.sign_set.new.key c.index-keys-i.result c.loop-i.invariant.asks lt c.in_ok-made.ensures.asks)
 
 pub returns-clause-asks : goal.returns-clause-asks

@@ -4,9 +4,8 @@ use Rattle.dsec_spec.specs.Records.{Record}
 use Rattle.dsec_sorted.specs.SetViews.{members_of}
 use Rattle.dsec_rrsig.specs.Signers.{period_of, signer_of}
 use Rattle.dsec_sign.specs.Places.{set_at}
-use Rattle.dsec_sign.specs.SignerFaults.{AddsOfSet}
+use Rattle.dsec_sign.specs.SignerFaults.{AddsOfSet, counts_of}
 use Rattle.dsec_rrsig.specs.declared.error.SignError.TheVariants as sign
-use Rattle.dsec_sign.specs.SignerAsks.{asks_of}
 use Rattle.dsec_sign.proofs.AskSteps.{asked_at_most, asks_as}
 use Rattle.dsec_sign.proofs.SignerSteps.{appended}
 use Rattle.dsec_sign.proofs.signing.sign_one_behind.Goals as goal
@@ -32,6 +31,6 @@ returns-clause-signed g c =
 
 pub returns-in_err-append-clause-asks : goal.returns-in_err-append-clause-asks
 returns-in_err-append-clause-asks g c =
-    let old = asks_of g.I.SignRaw.asked c.args.keys.now in
-    let new = asks_of g.I.SignRaw.asked c.sign_one.new.keys in
+    let old = counts_of g.I.SignRaw.asked c.args.keys.now in
+    let new = counts_of g.I.SignRaw.asked c.sign_one.new.keys in
     asks_as 1 old new c.from_residual-in_err-append.result sign.NoMemory (search rules) (asked_at_most 1 old new c.in_ok-sign_one.ensures.asks)

@@ -5,7 +5,7 @@ use Rattle.dsec_spec.specs.CanonicalRecords.{AreOfOneClass}
 use Rattle.dsec_spec.specs.Records.{Record}
 use Rattle.dsec_sorted.specs.SetViews.{members_of}
 use Rattle.dsec_rrsig.specs.declared.error.SigningError.TheVariants as signing
-use Rattle.dsec_sign.specs.SignerAsks.{asks_of}
+use Rattle.dsec_sign.specs.SignerFaults.{counts_of}
 use Rattle.dsec_sign.proofs.AskSteps.{refused_unasked}
 use Rattle.dsec_sign.proofs.SetClass.{class_of_set}
 use Rattle.dsec_sign.proofs.signable.RrsetSignable.sign.Goals as goal
@@ -22,4 +22,4 @@ sign_sorted_zone_records-requires-clause-class g c =
 
 pub returns-in_err-records-clause-asks : goal.returns-in_err-records-clause-asks
 returns-in_err-records-clause-asks g c =
-    refused_unasked (length (sets_to_sign (place c.args.apex.now) (members_of c.args.self.now))) (asks_of g.I.SignRaw.asked c.args.keys.now) c.from_residual.result signing.OutOfMemory (search rules)
+    refused_unasked (length (sets_to_sign (place c.args.apex.now) (members_of c.args.self.now))) (counts_of g.I.SignRaw.asked c.args.keys.now) c.from_residual.result signing.OutOfMemory (search rules)
