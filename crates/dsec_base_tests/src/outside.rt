@@ -3,9 +3,9 @@
 use dsec_name::Name;
 use dsec_number::Rtype;
 use dsec_outside::{
-    AskError, Failed, FailingSink, FailingSource, FailingUpstream, FixedUpstream, OctetsSink,
-    OctetsSource, PIECE, Reading, Replies, Sink, Source, Stop, TableUpstream, Upstream, Writing,
-    read_all, write_all,
+    AskError, Failed, FailingSink, FailingSource, FailingUpstream, FixedUpstream, Heard,
+    HearingUpstream, OctetsSink, OctetsSource, PIECE, Reading, Replies, Sink, Source, Stop,
+    TableUpstream, Upstream, Writing, read_all, write_all,
 };
 use std::alloc::Global;
 use std::io::Cursor;
@@ -222,4 +222,30 @@ fn one_answer_to_all(rt: HostRuntime) {
     };
     assert!(rt; answers(rt.alloc(), &mut fixed, "a.", Rtype::DS, Some(b"same")));
     assert!(rt; fixed.asked == 1);
+}
+
+/// Whether a question was heard in these letters with this reply, or none.
+fn is_heard(alloc: Global, heard: &Heard, name: &str, rtype: Rtype, reply: Option<&[u8]>) -> bool {
+    let Ok(name) = Name::parse(alloc, name) else {
+        return false;
+    };
+    let is_reply = match &heard.reply {
+        Some(octets) => reply == Some(octets.as_slice()),
+        None => reply.is_none(),
+    };
+    is_reply && heard.rtype == rtype && heard.name.is_identical(&name)
+}
+
+#[test]
+fn what_is_heard_is_kept(rt: HostRuntime) -> Result<(), Fail> {
+    let mut upstream = HearingUpstream::new(rt.alloc(), table(rt.alloc())?);
+    assert!(rt; answers(rt.alloc(), &mut upstream, "A.", Rtype::A, Some(b"first")));
+    assert!(rt; answers(rt.alloc(), &mut upstream, "c.", Rtype::NS, None));
+    let [first, second] = upstream.heard.as_slice() else {
+        return Err(Fail::new("heard"));
+    };
+    assert!(rt; is_heard(rt.alloc(), first, "A.", Rtype::A, Some(b"first")));
+    assert!(rt; is_heard(rt.alloc(), second, "c.", Rtype::NS, None));
+    assert!(rt; upstream.asked == 2 && upstream.inner.faults == 1);
+    Ok(())
 }

@@ -78,12 +78,12 @@ impl<V: Verifier> ValidationContext<V> {
         now: u64,
     ) -> Result<Verdict<V>, Error>
         ensures handled { IsHandling (world_at V.accepts self.old.anchors self.old.config now) self.old.config.max_cname_dname message.old (U.table upstream.old)
-            (record { held = Some (held_in self.old.nodes); asked = U.asked upstream.old; faults = U.faults upstream.old })
-            (record { held = Some (held_in self.new.nodes); asked = U.asked upstream.new; faults = U.faults upstream.new }) result message.new }
+            (record { held = Some (held_in self.old.nodes); asked = U.asked upstream.old; faults = U.faults upstream.old; heard = U.heard upstream.old })
+            (record { held = Some (held_in self.new.nodes); asked = U.asked upstream.new; faults = U.faults upstream.new; heard = U.heard upstream.new }) result message.new }
         ensures sound { IfOk result (λ v. IsJustified (world_at V.accepts self.old.anchors self.old.config now) self.old.config.max_cname_dname message.old v.outcome v.outcome.state) }
         ensures told { IfSome (U.table upstream.old) (λ t. HoldsTable (world_at V.accepts self.old.anchors self.old.config now) (replies_of t) (Some (held_in self.old.nodes))
             → IsByTable (world_at V.accepts self.old.anchors self.old.config now) self.old.config.max_cname_dname message.old
-            (record { held = Some (held_in self.new.nodes); asked = U.asked upstream.new; faults = U.faults upstream.new }) result message.new (replies_of t)) }
+            (record { held = Some (held_in self.new.nodes); asked = U.asked upstream.new; faults = U.faults upstream.new; heard = U.heard upstream.new }) result message.new (replies_of t)) }
         ensures complete { IfSome (U.table upstream.old) (λ t. HoldsTable (world_at V.accepts self.old.anchors self.old.config now) (replies_of t) (Some (held_in self.old.nodes))
             → IsPlainAnswer (world_at V.accepts self.old.anchors self.old.config now) (replies_of t) message.old
             → IsVerdict (λ v. v.outcome.state ≡ secure) self.old.anchors self.old.config.max_cname_dname message.old result) }

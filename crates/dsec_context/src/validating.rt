@@ -39,12 +39,12 @@ pub fn validate_in<V: Verifier, C: Caches<V>, M: Memo<V>, U: Upstream>(
     now: u64,
 ) -> Result<Verdict<V>, Error>
     ensures handled { IsHandling (world_of V.accepts anchors.now (bounds_of config.now) now) config.now.max_cname_dname message.old (U.table upstream.old)
-        (record { held = C.held caches.old; asked = U.asked upstream.old; faults = U.faults upstream.old })
-        (record { held = C.held caches.new; asked = U.asked upstream.new; faults = U.faults upstream.new }) result message.new }
+        (record { held = C.held caches.old; asked = U.asked upstream.old; faults = U.faults upstream.old; heard = U.heard upstream.old })
+        (record { held = C.held caches.new; asked = U.asked upstream.new; faults = U.faults upstream.new; heard = U.heard upstream.new }) result message.new }
     ensures sound { IfOk result (λ v. IsJustified (world_of V.accepts anchors.now (bounds_of config.now) now) config.now.max_cname_dname message.old v.outcome v.outcome.state) }
     ensures told { IfSome (U.table upstream.old) (λ t. HoldsTable (world_of V.accepts anchors.now (bounds_of config.now) now) (replies_of t) (C.held caches.old)
         → IsByTable (world_of V.accepts anchors.now (bounds_of config.now) now) config.now.max_cname_dname message.old
-        (record { held = C.held caches.new; asked = U.asked upstream.new; faults = U.faults upstream.new }) result message.new (replies_of t)) }
+        (record { held = C.held caches.new; asked = U.asked upstream.new; faults = U.faults upstream.new; heard = U.heard upstream.new }) result message.new (replies_of t)) }
     ensures complete { IfSome (U.table upstream.old) (λ t. HoldsTable (world_of V.accepts anchors.now (bounds_of config.now) now) (replies_of t) (C.held caches.old)
         → IsPlainAnswer (world_of V.accepts anchors.now (bounds_of config.now) now) (replies_of t) message.old
         → IsVerdict (λ v. v.outcome.state ≡ secure) anchors.now config.now.max_cname_dname message.old result) }

@@ -1,14 +1,15 @@
 -- Questions are counted one by one.
-use Rattle.std.proofs.Common.{◌≡◌, ℕ, suc, ◌+◌, List, [], ◌∷◌, ◌++◌, length, Option, Some, None, IfSome, refl, ap, ◌∙◌, arith}
+use Rattle.std.proofs.Common.{◌≡◌, ℕ, suc, ◌+◌, List, [], ◌∷◌, ◌++◌, length, Option, Some, None, IfSome, refl, sym, ap, ◌∙◌, subst, arith}
 use Rattle.std.specs.Prelude.{filter, is_none}
 use Rattle.std.proofs.lemmas.List.{length-append}
 use Rattle.std.proofs.lemmas.List.Elements.{filter-append}
 use Rattle.dsec_spec.specs.Names.{Place}
-use Rattle.dsec_spec.specs.Outside.{Table, risen}
+use Rattle.dsec_spec.specs.Outside.{Entry, Table, risen, risen_by}
 use Rattle.dsec_nodes.specs.Machine.{Question as Asked}
 use Rattle.dsec_nodes.specs.InStep.{AskedOf}
 use Rattle.dsec_course.proofs.Lists.{all_both}
-use Rattle.dsec_lookup.specs.Outside.{Outside, replies_of, risen_by, failures, AreCounted, faults_after}
+use Rattle.dsec_lookup.specs.Outside.{Outside, replies_of, failures, AreCounted, HeardMore, faults_after}
+use Rattle.dsec_lookup.proofs.HeardLaws.{heard_none, heard_then}
 
 -- one question with its reply
 abbrev pub one : Place → ℕ → Option (List ℕ) → Asked
@@ -45,28 +46,40 @@ told_more (Some t) asked name rtype octets h e =
 -- one more question is counted
 pub counted_more : (table : Option Table) (before now next : Outside) (asked : List Asked) (name : Place) (rtype : ℕ) (octets : Option (List ℕ))
     → AreCounted table before now asked 0 → next.asked ≡ risen now.asked → next.faults ≡ faults_after now.faults octets
-    → IfSome table (λ t. replies_of t name rtype ≡ octets) → AreCounted table before next (asked ++ one name rtype octets ∷ []) 0
-counted_more table before now next asked name rtype octets c a f t = record {
+    → HeardMore now.heard next.heard (one name rtype octets ∷ []) → IfSome table (λ t. replies_of t name rtype ≡ octets)
+    → AreCounted table before next (asked ++ one name rtype octets ∷ []) 0
+counted_more table before now next asked name rtype octets c a f h t = record {
   questions = a ∙ (ap risen c.questions ∙ ap (risen_by before.asked) (one_longer asked (one name rtype octets)));
   faults = f ∙ (ap (λ (n : ℕ). faults_after n octets) c.faults ∙ one_failure asked name rtype octets before.faults);
   told = told_more table asked name rtype octets c.told t;
+  heard = heard_then before.heard now.heard next.heard asked (one name rtype octets ∷ []) c.heard h;
 }
+
+-- nothing more was heard
+heard_on : (told now next : Option (List Entry)) (asked : List Asked) → next ≡ now → HeardMore told now asked → HeardMore told next asked
+heard_on told now next asked e h = subst (λ (z : Option (List Entry)). HeardMore told z asked) (sym e) h
 
 -- nothing more is counted
 pub counted_same : (table : Option Table) (before now next : Outside) (asked : List Asked) → AreCounted table before now asked 0 → next.asked ≡ now.asked
-    → next.faults ≡ now.faults → AreCounted table before next asked 0
-counted_same table before now next asked c a f = record { questions = a ∙ c.questions; faults = f ∙ c.faults; told = c.told }
+    → next.faults ≡ now.faults → next.heard ≡ now.heard → AreCounted table before next asked 0
+counted_same table before now next asked c a f h =
+    record { questions = a ∙ c.questions; faults = f ∙ c.faults; told = c.told; heard = heard_on before.heard now.heard next.heard asked h c.heard }
 
 -- a question that found no memory
 pub counted_lost : (table : Option Table) (before now next : Outside) (asked : List Asked) → AreCounted table before now asked 0
-    → next.asked ≡ risen now.asked → next.faults ≡ now.faults → AreCounted table before next asked 1
-counted_lost table before now next asked c a f =
+    → next.asked ≡ risen now.asked → next.faults ≡ now.faults → next.heard ≡ now.heard → AreCounted table before next asked 1
+counted_lost table before now next asked c a f h =
     let e : suc (length asked + 0) ≡ length asked + 1 = omega arith in
-    record { questions = a ∙ (ap risen c.questions ∙ ap (risen_by before.asked) e); faults = f ∙ c.faults; told = c.told }
+    record {
+      questions = a ∙ (ap risen c.questions ∙ ap (risen_by before.asked) e);
+      faults = f ∙ c.faults;
+      told = c.told;
+      heard = heard_on before.heard now.heard next.heard asked h c.heard;
+    }
 
 -- before anything was asked
 pub counted_none : (table : Option Table) (before : Outside) → AreCounted table before before [] 0
-counted_none table before = record { questions = refl; faults = refl; told = by table }
+counted_none table before = record { questions = refl; faults = refl; told = by table; heard = heard_none before.heard }
   where
     by : (t : Option Table) → IfSome t (λ x. AskedOf (replies_of x) [])
     by None = tt

@@ -1,8 +1,8 @@
 -- What a call sees of the outside: the nodes that caches hold, and the counts of questions and of failures (RFC 4035 4.3, 4.5).
-use Rattle.std.specs.Prelude.{◌≡◌, ◌⊎◌, ℕ, zero, suc, ◌+◌, ◌==◌, ◌&&◌, List, length, filter, find, is_none, Contains, Option, Some, None, IfSome}
+use Rattle.std.specs.Prelude.{◌≡◌, ◌⊎◌, ℕ, ◌+◌, ◌==◌, ◌&&◌, List, [], ◌∷◌, ◌++◌, length, filter, map, find, is_none, Contains, Option, Some, None, IfSome}
 use Rattle.dsec_spec.specs.Names.{Place, place, same_place}
 use Rattle.dsec_spec.specs.Accepts.{Accepts}
-use Rattle.dsec_spec.specs.Outside.{Table, reply_of, risen}
+use Rattle.dsec_spec.specs.Outside.{Entry, Table, reply_of, risen, risen_by}
 use Rattle.dsec_nodes.specs.World.{World, Replies}
 use Rattle.dsec_nodes.specs.Nodes.{Node, Kept}
 use Rattle.dsec_nodes.specs.Machine.{Question as Asked, Input, node, stored, reply}
@@ -15,27 +15,34 @@ use Rattle.dsec_course.specs.Hearing.{IsOfTable}
 abbrev pub replies_of : Table → Replies
 replies_of table p rtype = reply_of (find (λ entry. same_place (place entry.name) p && (entry.rtype == rtype)) table)
 
--- a count that rose by so many, or stands at its last value
-abbrev pub risen_by : ℕ → ℕ → ℕ
-risen_by before zero = before
-risen_by before (suc more) = risen (risen_by before more)
-
--- what a call sees of the outside: which nodes are held, where that is told, and how many questions were asked and have failed
+-- what a call sees of the outside: which nodes are held and what the upstream has heard, where that is told, and how many questions were asked and
+-- have failed
 pub record Outside : Type 0 where
   pub held : Option Held
   pub asked : ℕ
   pub faults : ℕ
+  pub heard : Option (List Entry)
+
+-- a question that was heard with its reply, by its place
+abbrev pub asked_by : Entry → Asked
+asked_by entry = record { name = place entry.name; rtype = entry.rtype; reply = entry.reply }
+
+-- these questions with their replies were heard, in this order, and nothing besides, where it is told what was heard
+abbrev pub HeardMore : Option (List Entry) → Option (List Entry) → List Asked → Type 0
+HeardMore None now asked = now ≡ None
+HeardMore (Some before) now asked = (more : List Entry) × (now ≡ Some (before ++ more)) × (map asked_by more ≡ asked)
 
 -- how many of these questions have failed
 abbrev pub failures : List Asked → ℕ
 failures asked = length (filter (λ q. is_none q.reply) asked)
 
--- These questions were asked, each with the reply that the upstream's table has to it, where that is told, and so many more, which found no
--- memory: the counts rose by them, and by those that failed (RFC 1035 4.1)
+-- These questions were asked, each with the reply that the upstream's table has to it, where that is told, and they are what it has heard, where
+-- it tells that; and so many more, which found no memory: the counts rose by them, and by those that failed (RFC 1035 4.1)
 pub record AreCounted (table : Option Table) (before after : Outside) (asked : List Asked) (lost : ℕ) : Type 0 where
   pub questions : after.asked ≡ risen_by before.asked (length asked + lost)
   pub faults : after.faults ≡ risen_by before.faults (failures asked)
   pub told : IfSome table (λ t. AskedOf (replies_of t) asked)
+  pub heard : HeardMore before.heard after.heard asked
 
 -- a node stands among those that are held; where it isn't told which are, any may
 abbrev pub IsAmong : Option Held → Node → Type 0
@@ -63,14 +70,14 @@ faults_after before None = risen before
 faults_after before (Some octets) = before
 
 -- A step was served by this input: a node that is held for the name, or none; a node put, which may be forgotten; or the reply to the question,
--- which the upstream's table has where that is told, and which counts
+-- which the upstream's table has where that is told, and which counts and is heard
 abbrev pub IsServed : Accepts → Option Table → Outside → Outside → CourseStep → Input → Type 0
 IsServed accepts table before after (get_node name) (node o) =
-    Keeps before.held after.held × (after.asked ≡ before.asked) × (after.faults ≡ before.faults)
+    Keeps before.held after.held × (after.asked ≡ before.asked) × (after.faults ≡ before.faults) × (after.heard ≡ before.heard)
     × IfSome o (λ n. Kept accepts n × IsHeld before.held name n)
 IsServed accepts table before after (put_node name n) stored =
-    Adds before.held after.held name n × (after.asked ≡ before.asked) × (after.faults ≡ before.faults)
+    Adds before.held after.held name n × (after.asked ≡ before.asked) × (after.faults ≡ before.faults) × (after.heard ≡ before.heard)
 IsServed accepts table before after (ask_for name rtype) (reply octets) =
     (after.held ≡ before.held) × (after.asked ≡ risen before.asked) × (after.faults ≡ faults_after before.faults octets)
-    × IfSome table (λ t. replies_of t name rtype ≡ octets)
+    × HeardMore before.heard after.heard (record { name = name; rtype = rtype; reply = octets } ∷ []) × IfSome table (λ t. replies_of t name rtype ≡ octets)
 IsServed accepts table before after _ _ = ⊥

@@ -1,12 +1,12 @@
 //! Nodes got from caches and put into them, and questions asked of an upstream (RFC 4035 4.3, 4.5).
 
-ghost use Rattle.std.specs.Prelude.{◌≡◌, IfOk, IfSome, OnErr};
+ghost use Rattle.std.specs.Prelude.{◌≡◌, ◌∷◌, [], IfOk, IfSome, OnErr};
 ghost use Rattle.std.specs.Arc.{arc_value};
 ghost use Rattle.dsec_spec.specs.Names.{place};
 ghost use Rattle.dsec_spec.specs.Outside.{risen};
 ghost use Rattle.dsec_nodes.specs.Nodes.{Kept};
 ghost use Rattle.dsec_node.specs.Caches.{Adds, IsHeld, Keeps};
-ghost use Rattle.dsec_lookup.specs.Outside.{faults_after, replies_of};
+ghost use Rattle.dsec_lookup.specs.Outside.{HeardMore, faults_after, replies_of};
 
 use dsec_crypto::Verifier;
 use dsec_name::{Name, NoMemory, Octets};
@@ -46,6 +46,7 @@ pub fn put_node<V: Verifier, C: Caches<V>>(caches: &mut C, name: Name, node: &Ar
 }
 
 /// The upstream's reply to a question, or none where it failed.
+#[tactic(auto, using(crate::proofs::HeardLaws::heard_one))]
 pub fn reply_to<U: Upstream>(
     alloc: Global,
     upstream: &mut U,
@@ -56,6 +57,8 @@ pub fn reply_to<U: Upstream>(
     ensures faults { IfOk result (λ reply. U.faults upstream.new ≡ faults_after (U.faults upstream.old) reply) }
     ensures no_fault { OnErr result (U.faults upstream.new ≡ U.faults upstream.old) }
     ensures counted { U.asked upstream.new ≡ risen (U.asked upstream.old) }
+    ensures heard { IfOk result (λ reply. HeardMore (U.heard upstream.old) (U.heard upstream.new) (record { name = place name.now; rtype = rtype; reply = reply } ∷ [])) }
+    ensures unheard { OnErr result (U.heard upstream.new ≡ U.heard upstream.old) }
     ensures same_table { U.table upstream.new ≡ U.table upstream.old }
 {
     match upstream.ask(alloc, name, rtype) {

@@ -3,6 +3,7 @@
 ghost use Rattle.std.specs.Prelude.{◌≡◌, ◌≤◌, ◌⊎◌, None, Some, Contains, IfOk, IsErrOf};
 ghost use Rattle.dsec_spec.specs.Outside.{HasNoReply, IsReplyOf, Rose, risen};
 ghost use Rattle.dsec_outside.specs.Faults.{CountsFailure};
+ghost use Rattle.dsec_outside.specs.Hearing.{Notes};
 
 use crate::replies::Replies;
 use crate::upstream::{AskError, Upstream};
@@ -43,6 +44,8 @@ impl Upstream for TableUpstream {
 
     ghost asked = { λ upstream. upstream.asked };
 
+    ghost heard = { λ _. None };
+
     fn ask(&mut self, alloc: Global, name: &Name, rtype: Rtype) -> Result<Vec<u8>, AskError> {
         self.asked = self.asked.saturating_add(1);
         if let Some(reply) = self.replies.reply(name, rtype) {
@@ -69,6 +72,8 @@ impl<'a> Upstream for FixedUpstream<'a> {
 
     ghost asked = { λ upstream. upstream.asked };
 
+    ghost heard = { λ _. None };
+
     fn ask(&mut self, alloc: Global, name: &Name, rtype: Rtype) -> Result<Vec<u8>, AskError>
         ensures fixed { IfOk result (λ reply. reply.items ≡ self.old.reply.now) }
         ensures reply { IfOk result (λ reply. IsReplyOf None name.now rtype reply.items) }
@@ -77,6 +82,7 @@ impl<'a> Upstream for FixedUpstream<'a> {
         ensures failed { IsErrOf result AskError.Failed → Rose 0 0 }
         ensures counts { CountsFailure 0 0 result }
         ensures counted { self.new.asked ≡ risen self.old.asked }
+        ensures noted { Notes None None name.now rtype result }
     {
         self.asked = self.asked.saturating_add(1);
         Ok(self.reply.to_vec(alloc)?)
@@ -103,6 +109,8 @@ impl<'a, U: Upstream> Upstream for FailingUpstream<'a, U> {
 
     ghost asked = { λ upstream. upstream.asked };
 
+    ghost heard = { λ _. None };
+
     fn ask(&mut self, alloc: Global, name: &Name, rtype: Rtype) -> Result<Vec<u8>, AskError>
         ensures as_listed { Contains self.old.failing.now self.old.asked → IsErrOf result AskError.Failed }
         ensures inner_reply { IfOk result (λ reply. IsReplyOf (U.table self.old.inner) name.now rtype reply.items) }
@@ -115,6 +123,7 @@ impl<'a, U: Upstream> Upstream for FailingUpstream<'a, U> {
         ensures failed { IsErrOf result AskError.Failed → Rose self.old.faults self.new.faults }
         ensures counts { CountsFailure self.old.faults self.new.faults result }
         ensures counted { self.new.asked ≡ risen self.old.asked }
+        ensures noted { Notes None None name.now rtype result }
     {
         let fails = self.failing.contains(&self.asked);
         self.asked = self.asked.saturating_add(1);

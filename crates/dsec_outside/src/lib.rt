@@ -3,6 +3,7 @@
 #![tactic(auto)]
 
 mod answers;
+mod heard;
 mod limit;
 mod memory;
 mod replies;
@@ -14,6 +15,7 @@ mod upstream;
 mod whole;
 
 pub use answers::{FailingUpstream, FixedUpstream, TableUpstream};
+pub use heard::{Heard, HearingUpstream};
 pub use limit::line_past;
 pub use memory::{FailingSink, FailingSource, OctetsSink, OctetsSource};
 pub use replies::Replies;

@@ -1,8 +1,9 @@
 //! Who is asked, and what may come of it.
 
-ghost use Rattle.std.specs.Prelude.{◌≡◌, ◌≤◌, ℕ, Option, IfOk, IsErrOf};
-ghost use Rattle.dsec_spec.specs.Outside.{HasNoReply, IsReplyOf, Rose, Table, risen};
+ghost use Rattle.std.specs.Prelude.{◌≡◌, ◌≤◌, ℕ, List, Option, IfOk, IsErrOf};
+ghost use Rattle.dsec_spec.specs.Outside.{Entry, HasNoReply, IsReplyOf, Rose, Table, risen};
 ghost use Rattle.dsec_outside.specs.Faults.{CountsFailure};
+ghost use Rattle.dsec_outside.specs.Hearing.{Notes};
 ghost use Rattle.dsec_outside.specs.declared.upstream.AskError.TheVariants.{NoMemory};
 
 use dsec_name::Name;
@@ -48,6 +49,9 @@ pub trait Upstream {
     /// How many questions were asked: a count that stays at 2^64 - 1.
     ghost asked: { Self → ℕ };
 
+    /// What was heard, where it tells it: each question with its reply, or none where it failed, in order.
+    ghost heard: { Self → Option (List Entry) };
+
     /// The reply to the question of a name and a type, a message as it came (RFC 1035 4.1).
     fn ask(&mut self, alloc: Global, name: &Name, rtype: Rtype) -> Result<Vec<u8>, AskError>
         ensures same_table { table self.new ≡ table self.old }
@@ -56,5 +60,6 @@ pub trait Upstream {
         ensures later { faults self.old ≤ faults self.new }
         ensures failed { IsErrOf result AskError.Failed → Rose (faults self.old) (faults self.new) }
         ensures counts { CountsFailure (faults self.old) (faults self.new) result }
-        ensures counted { asked self.new ≡ risen (asked self.old) };
+        ensures counted { asked self.new ≡ risen (asked self.old) }
+        ensures noted { Notes (heard self.old) (heard self.new) name.now rtype result };
 }

@@ -140,12 +140,12 @@ ends_without_memory w most message table before now r course s none =
 -- a question found no memory, while it was waited for
 pub ends_at_a_question : (w : World) (most : ℕ) (message : List ℕ) (table : Option Table) (before now next : Outside) (r : Run) (course : Course)
     → IsServing w most message table before now r → next.held ≡ now.held → next.asked ≡ risen now.asked → next.faults ≡ now.faults
-    → (course.waits ≡ for_nothing → ⊥) → IsJudging w most message table before next (judgement_at w course (Err NoMemory))
-ends_at_a_question w most message table before now next r course s same a f waits =
+    → next.heard ≡ now.heard → (course.waits ≡ for_nothing → ⊥) → IsJudging w most message table before next (judgement_at w course (Err NoMemory))
+ends_at_a_question w most message table before now next r course s same a f heard waits =
     let call : IsCall w most message table before next (Err NoMemory) = record {
       asked = asked_in r.course;
       lost = 1;
-      counted = counted_lost table before now next (asked_in r.course) s.counted a f;
+      counted = counted_lost table before now next (asked_in r.course) s.counted a f heard;
       few = omega arith;
       puts = r.puts;
       holds_more = subst (λ (z : Option Held). HoldsMore before.held z r.puts) (sym same) s.holds_more;

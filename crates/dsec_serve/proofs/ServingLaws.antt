@@ -110,8 +110,8 @@ serving_goes_on w most message table before now next r i s served = by r.step i 
     h = serving_holds w most message table before now r s
 
     unasked : (j : Input) → asked_in (ran_on w r j).course ≡ asked_in r.course → next.asked ≡ now.asked → next.faults ≡ now.faults
-        → AreCounted table before next (asked_in (ran_on w r j).course) 0
-    unasked j e a f = subst (λ (qs : List Asked). AreCounted table before next qs 0) (sym e) (counted_same table before now next (asked_in r.course) s.counted a f)
+        → next.heard ≡ now.heard → AreCounted table before next (asked_in (ran_on w r j).course) 0
+    unasked j e a f h = subst (λ (qs : List Asked). AreCounted table before next qs 0) (sym e) (counted_same table before now next (asked_in r.course) s.counted a f h)
 
     from : (name : Place) (o : Option Node) → IfSome o (λ n. Kept w.accepts n × IsHeld now.held name n) → GivenFrom held r.puts (node o)
     from name None x = tt
@@ -119,18 +119,18 @@ serving_goes_on w most message table before now next r i s served = by r.step i 
 
     by : (x : CourseStep) (j : Input) → r.step ≡ x → IsServed w.accepts table now next x j → IsServing w most message table before next (ran_on w r j)
     by (get_node name) (node o) e y =
-        on_by w most message table before now next r (node o) s (subst (λ (z : CourseStep). Awaits z r.course.waits) e h.awaits o) (from name o y.3)
-        (unasked (node o) (run_got w most message held r name o h e) y.1 y.2) (more_kept before.held now.held next.held r.puts s.holds_more y.0)
+        on_by w most message table before now next r (node o) s (subst (λ (z : CourseStep). Awaits z r.course.waits) e h.awaits o) (from name o y.4)
+        (unasked (node o) (run_got w most message held r name o h e) y.1 y.2 y.3) (more_kept before.held now.held next.held r.puts s.holds_more y.0)
     by (put_node name n) stored e y =
         on_by w most message table before now next r stored s (subst (λ (z : CourseStep). Awaits z r.course.waits) e h.awaits) tt
-        (unasked stored (run_put w most message held r name n h e) y.1 y.2)
+        (unasked stored (run_put w most message held r name n h e) y.1 y.2 y.3)
         (more_added before.held now.held next.held r.puts name n s.holds_more y.0
         (serving_listed w most message table before now r s n (subst (λ (z : CourseStep). Contains (put_by z) n) (sym e) (first_in n [])))
         (named_by w most message name n r.course.waits (subst (λ (z : CourseStep). CourseStepSound w most message z r.course.waits) e h.sound.1)))
     by (ask_for name rtype) (reply octets) e y =
         on_by w most message table before now next r (reply octets) s (subst (λ (z : CourseStep). Awaits z r.course.waits) e h.awaits octets).0 tt
         (subst (λ (qs : List Asked). AreCounted table before next qs 0) (sym (run_asked w most message held r name rtype octets h e))
-        (counted_more table before now next (asked_in r.course) name rtype octets s.counted y.1 y.2 y.3))
+        (counted_more table before now next (asked_in r.course) name rtype octets s.counted y.1 y.2 y.3 y.4))
         (subst (λ (z : Option Held). HoldsMore before.held z r.puts) (sym y.0) s.holds_more)
     by (get_node name) begin e y = absurd y
     by (get_node name) stored e y = absurd y

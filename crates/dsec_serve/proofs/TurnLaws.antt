@@ -81,9 +81,9 @@ asked_waits (ask_for name rtype) waits e a over = (subst (Awaits (ask_for name r
 -- a question that found no memory
 pub unanswered : (w : World) (most : ℕ) (message : List ℕ) (table : Option Table) (before now next : Outside) (old : Course) (step : CourseStep)
     → IsAt w most message table before now old step → asks step ≡ 1 → next.held ≡ now.held → next.asked ≡ risen now.asked → next.faults ≡ now.faults
-    → IsJudging w most message table before next (judgement_at w old (Err NoMemory))
-unanswered w most message table before now next old step (r, at, its, s) one same a f =
-    ends_at_a_question w most message table before now next r old s same a f
+    → next.heard ≡ now.heard → IsJudging w most message table before next (judgement_at w old (Err NoMemory))
+unanswered w most message table before now next old step (r, at, its, s) one same a f heard =
+    ends_at_a_question w most message table before now next r old s same a f heard
     (asked_waits step old.waits one (at_awaits w most message table before now old step (r, at, its, s)))
 
 -- the beginning

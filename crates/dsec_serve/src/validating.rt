@@ -49,12 +49,12 @@ pub fn judge_in<V: Verifier, C: Caches<V>, M: Memo<V>, U: Upstream>(
     now: u64,
 ) -> Judgement<V>
     ensures judging { IsJudging (world_of V.accepts anchors.now (bounds_of config.now) now) config.now.max_cname_dname message.now (U.table upstream.old)
-        (record { held = C.held caches.old; asked = U.asked upstream.old; faults = U.faults upstream.old })
-        (record { held = C.held caches.new; asked = U.asked upstream.new; faults = U.faults upstream.new }) result }
+        (record { held = C.held caches.old; asked = U.asked upstream.old; faults = U.faults upstream.old; heard = U.heard upstream.old })
+        (record { held = C.held caches.new; asked = U.asked upstream.new; faults = U.faults upstream.new; heard = U.heard upstream.new }) result }
     ensures sound { IfOk result.answer (λ v. IsJustified (world_of V.accepts anchors.now (bounds_of config.now) now) config.now.max_cname_dname message.now v.outcome v.outcome.state) }
     ensures told { IfSome (U.table upstream.old) (λ t. HoldsTable (world_of V.accepts anchors.now (bounds_of config.now) now) (replies_of t) (C.held caches.old)
         → AgreesWith (world_of V.accepts anchors.now (bounds_of config.now) now) config.now.max_cname_dname message.now
-        (record { held = C.held caches.new; asked = U.asked upstream.new; faults = U.faults upstream.new }) result.answer (replies_of t)) }
+        (record { held = C.held caches.new; asked = U.asked upstream.new; faults = U.faults upstream.new; heard = U.heard upstream.new }) result.answer (replies_of t)) }
     ensures complete { IfSome (U.table upstream.old) (λ t. HoldsTable (world_of V.accepts anchors.now (bounds_of config.now) now) (replies_of t) (C.held caches.old)
         → IsPlainAnswer (world_of V.accepts anchors.now (bounds_of config.now) now) (replies_of t) message.now
         → OkOrNoMemory (λ v. v.outcome.state ≡ secure) result.answer) }
@@ -97,8 +97,8 @@ fn counted<V: Verifier, C: Caches<V>, M: Memo<V>, U: Upstream, L: Ledger>(
     requires parts { blank.parts ≡ L.parts }
     requires shared { 0 < L.parts }
     ensures judging { IsJudging (world_of V.accepts anchors.now (bounds_of config.now) now) config.now.max_cname_dname message.now (U.table upstream.old)
-        (record { held = C.held caches.old; asked = U.asked upstream.old; faults = U.faults upstream.old })
-        (record { held = C.held caches.new; asked = U.asked upstream.new; faults = U.faults upstream.new }) result }
+        (record { held = C.held caches.old; asked = U.asked upstream.old; faults = U.faults upstream.old; heard = U.heard upstream.old })
+        (record { held = C.held caches.new; asked = U.asked upstream.new; faults = U.faults upstream.new; heard = U.heard upstream.new }) result }
     ensures same_table { U.table upstream.new ≡ U.table upstream.old }
 {
     let Ok(own) = anchors_copy(alloc, anchors) else {
@@ -143,8 +143,8 @@ fn begin<V: Verifier, C: Caches<V>, M: Memo<V>, U: Upstream, L: Ledger>(
     requires begun { (message : List ℕ) × (begun validation.old.anchors (most_of validation.old) message ≡ Ok validation.old.course) × (most_questions validation.old.anchors (most_of validation.old) message ≤ 33422850) }
     ensures judging { (message : List ℕ) → begun validation.old.anchors (most_of validation.old) message ≡ Ok validation.old.course
         → IsJudging (world_by V.accepts validation.old) (most_of validation.old) message (U.table upstream.old)
-        (record { held = C.held caches.old; asked = U.asked upstream.old; faults = U.faults upstream.old })
-        (record { held = C.held caches.new; asked = U.asked upstream.new; faults = U.faults upstream.new }) (judgement_at (world_by V.accepts validation.old) validation.new.course result) }
+        (record { held = C.held caches.old; asked = U.asked upstream.old; faults = U.faults upstream.old; heard = U.heard upstream.old })
+        (record { held = C.held caches.new; asked = U.asked upstream.new; faults = U.faults upstream.new; heard = U.heard upstream.new }) (judgement_at (world_by V.accepts validation.old) validation.new.course result) }
     ensures same { validation.new ≡ with_course validation.old validation.new.course }
     ensures same_table { U.table upstream.new ≡ U.table upstream.old }
 {
@@ -166,11 +166,11 @@ fn finish<V: Verifier, C: Caches<V>, M: Memo<V>, U: Upstream, L: Ledger>(
 ) -> Result<Verdict<V>, Error>
     requires unasked { length (asked_in validation.old.course) ≡ 0 }
     requires at { (most : ℕ) × (message : List ℕ) × (before : Outside)
-        × IsAt (world_by V.accepts validation.old) most message (U.table upstream.old) before (record { held = C.held caches.old; asked = U.asked upstream.old; faults = U.faults upstream.old }) validation.old.course (step_view step) × (most_questions validation.old.anchors most message ≤ 33422850) }
+        × IsAt (world_by V.accepts validation.old) most message (U.table upstream.old) before (record { held = C.held caches.old; asked = U.asked upstream.old; faults = U.faults upstream.old; heard = U.heard upstream.old }) validation.old.course (step_view step) × (most_questions validation.old.anchors most message ≤ 33422850) }
     ensures judging { (most : ℕ) (message : List ℕ) (before : Outside)
-        → IsAt (world_by V.accepts validation.old) most message (U.table upstream.old) before (record { held = C.held caches.old; asked = U.asked upstream.old; faults = U.faults upstream.old }) validation.old.course (step_view step)
+        → IsAt (world_by V.accepts validation.old) most message (U.table upstream.old) before (record { held = C.held caches.old; asked = U.asked upstream.old; faults = U.faults upstream.old; heard = U.heard upstream.old }) validation.old.course (step_view step)
         → IsJudging (world_by V.accepts validation.old) most message (U.table upstream.old) before
-        (record { held = C.held caches.new; asked = U.asked upstream.new; faults = U.faults upstream.new }) (judgement_at (world_by V.accepts validation.old) validation.new.course result) }
+        (record { held = C.held caches.new; asked = U.asked upstream.new; faults = U.faults upstream.new; heard = U.heard upstream.new }) (judgement_at (world_by V.accepts validation.old) validation.new.course result) }
     ensures same { validation.new ≡ with_course validation.old validation.new.course }
     ensures same_table { U.table upstream.new ≡ U.table upstream.old }
 {

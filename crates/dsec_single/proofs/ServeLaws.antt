@@ -104,9 +104,9 @@ module _ (w : World) (table : Option Table) (before now next : Outside) (top tar
   waits x e = subst (λ (y : Step). WalkAwaits y t.walk) e holds.awaits
 
   unasked : (i : Input) → Answers t.walk.phase i → asked_after t.walk i ≡ t.walk.asked → next.asked ≡ now.asked → next.faults ≡ now.faults
-      → AreCounted table before next (trip_on w t i).walk.asked 0
-  unasked i a e b f = subst (λ (qs : List Asked). AreCounted table before next qs 0)
-      (sym (asked_is w (WasHeld w.accepts before.held) top target t i holds a ∙ e)) (counted_same table before now next t.walk.asked s.counted b f)
+      → next.heard ≡ now.heard → AreCounted table before next (trip_on w t i).walk.asked 0
+  unasked i a e b f h = subst (λ (qs : List Asked). AreCounted table before next qs 0)
+      (sym (asked_is w (WasHeld w.accepts before.held) top target t i holds a ∙ e)) (counted_same table before now next t.walk.asked s.counted b f h)
 
   from_held : (name : Place) (o : Option Node) → IfSome o (λ n. Kept w.accepts n × IsHeld now.held name n)
       → GivenFrom (WasHeld w.accepts before.held) t.puts (node o)
@@ -126,14 +126,14 @@ module _ (w : World) (table : Option Table) (before now next : Outside) (top tar
   pub trip_gets : (name : Place) (o : Option Node) → t.step ≡ node_get name → IsServed w.accepts table now next (get_node name) (node o)
       → IsTrip w table before next top target 0 (trip_on w t (node o))
   trip_gets name o e y =
-      on_by w table before now next top target t (node o) s (waits (node_get name) e o) (from_held name o y.3)
-      (unasked (node o) (waits (node_get name) e o) refl y.1 y.2) (more_kept before.held now.held next.held t.puts s.holds_more y.0)
+      on_by w table before now next top target t (node o) s (waits (node_get name) e o) (from_held name o y.4)
+      (unasked (node o) (waits (node_get name) e o) refl y.1 y.2 y.3) (more_kept before.held now.held next.held t.puts s.holds_more y.0)
 
   -- a node is put
   pub trip_puts : (name : Place) (n : Node) → t.step ≡ node_put name n → IsServed w.accepts table now next (put_node name n) stored
       → IsTrip w table before next top target 0 (trip_on w t stored)
   trip_puts name n e y =
-      on_by w table before now next top target t stored s (waits (node_put name n) e) tt (unasked stored (waits (node_put name n) e) refl y.1 y.2)
+      on_by w table before now next top target t stored s (waits (node_put name n) e) tt (unasked stored (waits (node_put name n) e) refl y.1 y.2 y.3)
       (more_added before.held now.held next.held t.puts name n s.holds_more y.0
       (trip_listed w table before now top target 0 t s n (subst (λ (x : Step). Contains (put_in x) n) (sym e) (first_in n [])))
       (subst (λ (x : Step). PutUnder w t.walk.top x) e holds.put_is).0.0.1)
@@ -144,13 +144,13 @@ module _ (w : World) (table : Option Table) (before now next : Outside) (top tar
   trip_hears name rtype octets e y =
       on_by w table before now next top target t (reply octets) s ((waits (ask name rtype) e).0 octets) tt
       (subst (λ (qs : List Asked). AreCounted table before next qs 0) (sym (asked_one name rtype octets e))
-      (counted_more table before now next t.walk.asked name rtype octets s.counted y.1 y.2 y.3))
+      (counted_more table before now next t.walk.asked name rtype octets s.counted y.1 y.2 y.3 y.4))
       (subst (λ (z : Option Held). HoldsMore before.held z t.puts) (sym y.0) s.holds_more)
 
   -- a question finds no memory
   pub trip_lost : (name : Place) (rtype : ℕ) → t.step ≡ ask name rtype → next.held ≡ now.held → next.asked ≡ risen now.asked → next.faults ≡ now.faults
-      → IsTrip w table before next top target 1 t
-  trip_lost name rtype e same a f =
+      → next.heard ≡ now.heard → IsTrip w table before next top target 1 t
+  trip_lost name rtype e same a f h =
       let held : Node → Type 0 = WasHeld w.accepts before.held in
       let one : Asked = record { name = name; rtype = rtype; reply = None } in
       let more = few_of w held top target (trip_on w t (reply None))
@@ -162,7 +162,7 @@ module _ (w : World) (table : Option Table) (before now next : Outside) (top tar
         inputs = s.inputs;
         given = s.given;
         comes_to = s.comes_to;
-        counted = counted_lost table before now next t.walk.asked s.counted a f;
+        counted = counted_lost table before now next t.walk.asked s.counted a f h;
         few = omega (arith, more, longer);
         holds_more = subst (λ (z : Option Held). HoldsMore before.held z t.puts) (sym same) s.holds_more;
       }

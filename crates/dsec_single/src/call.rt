@@ -45,14 +45,14 @@ pub fn validate_with_vc<V: Verifier, C: Caches<V>, M: Memo<V>, U: Upstream>(
     now: u64,
 ) -> Result<WithContext<V>, NoMemory>
     ensures call { IsSingleCall (world_of V.accepts anchors.now (bounds_of config.now) now) group.now (U.table upstream.old)
-        (record { held = C.held caches.old; asked = U.asked upstream.old; faults = U.faults upstream.old })
-        (record { held = C.held caches.new; asked = U.asked upstream.new; faults = U.faults upstream.new }) (answered result (λ it. it.told.answer)) }
+        (record { held = C.held caches.old; asked = U.asked upstream.old; faults = U.faults upstream.old; heard = U.heard upstream.old })
+        (record { held = C.held caches.new; asked = U.asked upstream.new; faults = U.faults upstream.new; heard = U.heard upstream.new }) (answered result (λ it. it.told.answer)) }
     ensures target { IfOk result (λ it. place it.target ≡ zone_for (world_of V.accepts anchors.now (bounds_of config.now) now) group.now) }
     ensures sound { IfOk result (λ it. IsSoundOn (world_of V.accepts anchors.now (bounds_of config.now) now) group.now (place it.target) it.told) }
     ensures justified { IfOk result (λ it. CanBeTold V.accepts group.now (place it.target) it.told) }
     ensures told { IfSome (U.table upstream.old) (λ t. HoldsTable (world_of V.accepts anchors.now (bounds_of config.now) now) (replies_of t) (C.held caches.old)
         → AgreesOn (world_of V.accepts anchors.now (bounds_of config.now) now) group.now
-        (record { held = C.held caches.new; asked = U.asked upstream.new; faults = U.faults upstream.new }) (answered result (λ it. it.told.answer)) (replies_of t)) }
+        (record { held = C.held caches.new; asked = U.asked upstream.new; faults = U.faults upstream.new; heard = U.heard upstream.new }) (answered result (λ it. it.told.answer)) (replies_of t)) }
     ensures same_table { U.table upstream.new ≡ U.table upstream.old }
 {
     let setting = Setting {
@@ -85,8 +85,8 @@ fn counted<V: Verifier, C: Caches<V>, M: Memo<V>, U: Upstream, L: Ledger>(
     requires parts { blank.parts ≡ L.parts }
     requires shared { 0 < L.parts }
     ensures call { IsSingleCall (world_in V.accepts setting.now) group.now (U.table upstream.old)
-        (record { held = C.held caches.old; asked = U.asked upstream.old; faults = U.faults upstream.old })
-        (record { held = C.held caches.new; asked = U.asked upstream.new; faults = U.faults upstream.new }) (answered result (λ it. it.told.answer)) }
+        (record { held = C.held caches.old; asked = U.asked upstream.old; faults = U.faults upstream.old; heard = U.heard upstream.old })
+        (record { held = C.held caches.new; asked = U.asked upstream.new; faults = U.faults upstream.new; heard = U.heard upstream.new }) (answered result (λ it. it.told.answer)) }
     ensures target { IfOk result (λ it. place it.target ≡ zone_for (world_in V.accepts setting.now) group.now) }
     ensures sound { IfOk result (λ it. IsSoundOn (world_in V.accepts setting.now) group.now (place it.target) it.told) }
     ensures justified { IfOk result (λ it. CanBeTold V.accepts group.now (place it.target) it.told) }
@@ -146,8 +146,8 @@ fn walked<V: Verifier, C: Caches<V>, M: Memo<V>, U: Upstream, L: Ledger>(
     requires way { way_of (world_in V.accepts setting.now) group.now ≡ by_walk (place top) }
     requires target { place zone ≡ target_in group.now (Some (place top)) }
     ensures call { IsSingleCall (world_in V.accepts setting.now) group.now (U.table upstream.old)
-        (record { held = C.held caches.old; asked = U.asked upstream.old; faults = U.faults upstream.old })
-        (record { held = C.held caches.new; asked = U.asked upstream.new; faults = U.faults upstream.new }) (answered result (λ it. it.told.answer)) }
+        (record { held = C.held caches.old; asked = U.asked upstream.old; faults = U.faults upstream.old; heard = U.heard upstream.old })
+        (record { held = C.held caches.new; asked = U.asked upstream.new; faults = U.faults upstream.new; heard = U.heard upstream.new }) (answered result (λ it. it.told.answer)) }
     ensures target { IfOk result (λ it. place it.target ≡ zone_for (world_in V.accepts setting.now) group.now) }
     ensures sound { IfOk result (λ it. IsSoundOn (world_in V.accepts setting.now) group.now (place it.target) it.told) }
     ensures justified { IfOk result (λ it. CanBeTold V.accepts group.now (place it.target) it.told) }

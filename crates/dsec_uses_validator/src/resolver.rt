@@ -27,6 +27,8 @@ impl<'a> Upstream for Resolver<'a> {
 
     ghost asked = { λ resolver. resolver.asked };
 
+    ghost heard = { λ _. None };
+
     fn ask(&mut self, alloc: Global, name: &Name, rtype: Rtype) -> Result<Vec<u8>, AskError> {
         self.asked = self.asked.saturating_add(1);
         let mut line = String::new(alloc);

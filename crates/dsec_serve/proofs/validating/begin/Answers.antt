@@ -22,7 +22,7 @@ pub finish-requires-clause-at : goal.finish-requires-clause-at
 finish-requires-clause-at g c =
     let begun = c.requires.begun in
     let most = most_of c.args.validation.now in
-    let before : Outside = record { held = g.C.Caches.held c.args.caches.now; asked = g.U.Upstream.asked c.args.upstream.now; faults = g.U.Upstream.faults c.args.upstream.now } in (
+    let before : Outside = record { held = g.C.Caches.held c.args.caches.now; asked = g.U.Upstream.asked c.args.upstream.now; faults = g.U.Upstream.faults c.args.upstream.now; heard = g.U.Upstream.heard c.args.upstream.now } in (
       most,
       begun.0,
       before,
@@ -36,8 +36,8 @@ finish-requires-clause-at g c =
 pub returns-in-Ok-clause-judging : goal.returns-in-Ok-clause-judging
 returns-in-Ok-clause-judging g c = λ message begins.
     let most = most_of c.args.validation.now in
-    let before : Outside = record { held = g.C.Caches.held c.args.caches.now; asked = g.U.Upstream.asked c.args.upstream.now; faults = g.U.Upstream.faults c.args.upstream.now } in
-    let after : Outside = record { held = g.C.Caches.held c.finish.new.caches; asked = g.U.Upstream.asked c.finish.new.upstream; faults = g.U.Upstream.faults c.finish.new.upstream } in
+    let before : Outside = record { held = g.C.Caches.held c.args.caches.now; asked = g.U.Upstream.asked c.args.upstream.now; faults = g.U.Upstream.faults c.args.upstream.now; heard = g.U.Upstream.heard c.args.upstream.now } in
+    let after : Outside = record { held = g.C.Caches.held c.finish.new.caches; asked = g.U.Upstream.asked c.finish.new.upstream; faults = g.U.Upstream.faults c.finish.new.upstream; heard = g.U.Upstream.heard c.finish.new.upstream } in
     carried (λ (w : World) (t : Option Table). IsAt w most message t before before c.advance.new.self.course (step_view c.in-Ok.step))
     (λ (w : World) (t : Option Table). IsJudging w most message t before after (judgement_at w c.finish.new.validation.course c.finish.result))
     (world_by g.V.Verifier.accepts c.advance.new.self) (world_by g.V.Verifier.accepts c.args.validation.now)
@@ -50,7 +50,7 @@ pub returns-in-Err-clause-judging : goal.returns-in-Err-clause-judging
 returns-in-Err-clause-judging g c = λ message begins.
     let w = world_by g.V.Verifier.accepts c.args.validation.now in
     let most = most_of c.args.validation.now in
-    let before : Outside = record { held = g.C.Caches.held c.args.caches.now; asked = g.U.Upstream.asked c.args.upstream.now; faults = g.U.Upstream.faults c.args.upstream.now } in
+    let before : Outside = record { held = g.C.Caches.held c.args.caches.now; asked = g.U.Upstream.asked c.args.upstream.now; faults = g.U.Upstream.faults c.args.upstream.now; heard = g.U.Upstream.heard c.args.upstream.now } in
     subst (λ r. ComesTo w most message (g.U.Upstream.table c.args.upstream.now) before before c.advance.new.self.course r) c.in-Err.is
     (first_turned w most message (g.U.Upstream.table c.args.upstream.now) before c.args.validation.now.course c.advance.new.self.course c.advance.result begins
     c.advance.ensures.exact)

@@ -11,30 +11,30 @@ use Rattle.dsec_single.proofs.call.counted.Goals as goal
 pub returns-in_default-clause-call : goal.returns-in_default-clause-call
 returns-in_default-clause-call g c =
     unbegun_call (world_in g.V.Verifier.accepts c.args.setting.now) c.args.group.now (g.U.Upstream.table c.args.upstream.now)
-    (record { held = g.C.Caches.held c.args.caches.now; asked = g.U.Upstream.asked c.args.upstream.now; faults = g.U.Upstream.faults c.args.upstream.now })
+    (record { held = g.C.Caches.held c.args.caches.now; asked = g.U.Upstream.asked c.args.upstream.now; faults = g.U.Upstream.faults c.args.upstream.now; heard = g.U.Upstream.heard c.args.upstream.now })
 
 pub returns-then-is_empty-clause-call : goal.returns-then-is_empty-clause-call
 returns-then-is_empty-clause-call g c =
     (told_without_set (world_in g.V.Verifier.accepts c.args.setting.now) c.args.group.now (g.U.Upstream.table c.args.upstream.now)
-    (record { held = g.C.Caches.held c.args.caches.now; asked = g.U.Upstream.asked c.args.upstream.now; faults = g.U.Upstream.faults c.args.upstream.now }) (place c.without_set.result.target) c.without_set.result.told
+    (record { held = g.C.Caches.held c.args.caches.now; asked = g.U.Upstream.asked c.args.upstream.now; faults = g.U.Upstream.faults c.args.upstream.now; heard = g.U.Upstream.heard c.args.upstream.now }) (place c.without_set.result.target) c.without_set.result.told
     (none_of c.rr_set.result.now c.args.group.now.records c.if-is_empty.ensures c.rr_set.ensures.records) c.without_set.ensures.told).call
 
 pub returns-then-is_empty-clause-sound : goal.returns-then-is_empty-clause-sound
 returns-then-is_empty-clause-sound g c =
     (told_without_set (world_in g.V.Verifier.accepts c.args.setting.now) c.args.group.now (g.U.Upstream.table c.args.upstream.now)
-    (record { held = g.C.Caches.held c.args.caches.now; asked = g.U.Upstream.asked c.args.upstream.now; faults = g.U.Upstream.faults c.args.upstream.now }) (place c.without_set.result.target) c.without_set.result.told
+    (record { held = g.C.Caches.held c.args.caches.now; asked = g.U.Upstream.asked c.args.upstream.now; faults = g.U.Upstream.faults c.args.upstream.now; heard = g.U.Upstream.heard c.args.upstream.now }) (place c.without_set.result.target) c.without_set.result.told
     (none_of c.rr_set.result.now c.args.group.now.records c.if-is_empty.ensures c.rr_set.ensures.records) c.without_set.ensures.told).sound
 
 pub returns-then-is_empty-clause-justified : goal.returns-then-is_empty-clause-justified
 returns-then-is_empty-clause-justified g c =
     (told_without_set (world_in g.V.Verifier.accepts c.args.setting.now) c.args.group.now (g.U.Upstream.table c.args.upstream.now)
-    (record { held = g.C.Caches.held c.args.caches.now; asked = g.U.Upstream.asked c.args.upstream.now; faults = g.U.Upstream.faults c.args.upstream.now }) (place c.without_set.result.target) c.without_set.result.told
+    (record { held = g.C.Caches.held c.args.caches.now; asked = g.U.Upstream.asked c.args.upstream.now; faults = g.U.Upstream.faults c.args.upstream.now; heard = g.U.Upstream.heard c.args.upstream.now }) (place c.without_set.result.target) c.without_set.result.told
     (none_of c.rr_set.result.now c.args.group.now.records c.if-is_empty.ensures c.rr_set.ensures.records) c.without_set.ensures.told).justified
 
 pub returns-then-is_empty-clause-target : goal.returns-then-is_empty-clause-target
 returns-then-is_empty-clause-target g c =
     c.without_set.ensures.target ∙ zone_without_set (world_in g.V.Verifier.accepts c.args.setting.now) c.args.group.now (g.U.Upstream.table c.args.upstream.now)
-    (record { held = g.C.Caches.held c.args.caches.now; asked = g.U.Upstream.asked c.args.upstream.now; faults = g.U.Upstream.faults c.args.upstream.now }) (none_of c.rr_set.result.now c.args.group.now.records c.if-is_empty.ensures c.rr_set.ensures.records)
+    (record { held = g.C.Caches.held c.args.caches.now; asked = g.U.Upstream.asked c.args.upstream.now; faults = g.U.Upstream.faults c.args.upstream.now; heard = g.U.Upstream.heard c.args.upstream.now }) (none_of c.rr_set.result.now c.args.group.now.records c.if-is_empty.ensures c.rr_set.ensures.records)
 
 pub walked-requires-clause-has_records : goal.walked-requires-clause-has_records
 walked-requires-clause-has_records g c =
@@ -48,23 +48,23 @@ walked-requires-clause-way g c =
 pub returns-clause-call : goal.returns-clause-call
 returns-clause-call g c =
     (told_without_island (world_in g.V.Verifier.accepts c.args.setting.now) c.args.group.now (g.U.Upstream.table c.args.upstream.now)
-    (record { held = g.C.Caches.held c.args.caches.now; asked = g.U.Upstream.asked c.args.upstream.now; faults = g.U.Upstream.faults c.args.upstream.now }) (place c.without_island.result.target) c.without_island.result.told
+    (record { held = g.C.Caches.held c.args.caches.now; asked = g.U.Upstream.asked c.args.upstream.now; faults = g.U.Upstream.faults c.args.upstream.now; heard = g.U.Upstream.heard c.args.upstream.now }) (place c.without_island.result.target) c.without_island.result.told
     (some_of c.rr_set.result.now c.args.group.now.records c.if-is_empty.ensures c.rr_set.ensures.records) (sym c.in-Ok.ensures.island ∙ ap (option_map place) c.in-None.is) c.without_island.ensures.told).call
 
 pub returns-clause-sound : goal.returns-clause-sound
 returns-clause-sound g c =
     (told_without_island (world_in g.V.Verifier.accepts c.args.setting.now) c.args.group.now (g.U.Upstream.table c.args.upstream.now)
-    (record { held = g.C.Caches.held c.args.caches.now; asked = g.U.Upstream.asked c.args.upstream.now; faults = g.U.Upstream.faults c.args.upstream.now }) (place c.without_island.result.target) c.without_island.result.told
+    (record { held = g.C.Caches.held c.args.caches.now; asked = g.U.Upstream.asked c.args.upstream.now; faults = g.U.Upstream.faults c.args.upstream.now; heard = g.U.Upstream.heard c.args.upstream.now }) (place c.without_island.result.target) c.without_island.result.told
     (some_of c.rr_set.result.now c.args.group.now.records c.if-is_empty.ensures c.rr_set.ensures.records) (sym c.in-Ok.ensures.island ∙ ap (option_map place) c.in-None.is) c.without_island.ensures.told).sound
 
 pub returns-clause-justified : goal.returns-clause-justified
 returns-clause-justified g c =
     (told_without_island (world_in g.V.Verifier.accepts c.args.setting.now) c.args.group.now (g.U.Upstream.table c.args.upstream.now)
-    (record { held = g.C.Caches.held c.args.caches.now; asked = g.U.Upstream.asked c.args.upstream.now; faults = g.U.Upstream.faults c.args.upstream.now }) (place c.without_island.result.target) c.without_island.result.told
+    (record { held = g.C.Caches.held c.args.caches.now; asked = g.U.Upstream.asked c.args.upstream.now; faults = g.U.Upstream.faults c.args.upstream.now; heard = g.U.Upstream.heard c.args.upstream.now }) (place c.without_island.result.target) c.without_island.result.told
     (some_of c.rr_set.result.now c.args.group.now.records c.if-is_empty.ensures c.rr_set.ensures.records) (sym c.in-Ok.ensures.island ∙ ap (option_map place) c.in-None.is) c.without_island.ensures.told).justified
 
 pub returns-clause-target : goal.returns-clause-target
 returns-clause-target g c =
     ap place c.without_island.ensures.target ∙ (c.in-Ok.ensures.zone ∙ (ap (target_of c.args.group.now) (sym c.in-Ok.ensures.island ∙ ap (option_map place) c.in-None.is)
     ∙ zone_without_island (world_in g.V.Verifier.accepts c.args.setting.now) c.args.group.now (g.U.Upstream.table c.args.upstream.now)
-    (record { held = g.C.Caches.held c.args.caches.now; asked = g.U.Upstream.asked c.args.upstream.now; faults = g.U.Upstream.faults c.args.upstream.now }) (some_of c.rr_set.result.now c.args.group.now.records c.if-is_empty.ensures c.rr_set.ensures.records) (sym c.in-Ok.ensures.island ∙ ap (option_map place) c.in-None.is)))
+    (record { held = g.C.Caches.held c.args.caches.now; asked = g.U.Upstream.asked c.args.upstream.now; faults = g.U.Upstream.faults c.args.upstream.now; heard = g.U.Upstream.heard c.args.upstream.now }) (some_of c.rr_set.result.now c.args.group.now.records c.if-is_empty.ensures c.rr_set.ensures.records) (sym c.in-Ok.ensures.island ∙ ap (option_map place) c.in-None.is)))

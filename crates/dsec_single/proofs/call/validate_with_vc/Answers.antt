@@ -10,8 +10,8 @@ use Rattle.dsec_single.proofs.call.validate_with_vc.Goals as goal
 pub returns-clause-call : goal.returns-clause-call
 returns-clause-call g c =
     subst (λ (listed : List Record). IsSingleCall (world_of g.V.Verifier.accepts listed (bounds_of c.args.config.now) c.args.now) c.args.group.now (g.U.Upstream.table c.args.upstream.now)
-    (record { held = g.C.Caches.held c.args.caches.now; asked = g.U.Upstream.asked c.args.upstream.now; faults = g.U.Upstream.faults c.args.upstream.now })
-    (record { held = g.C.Caches.held c.counted.new.caches; asked = g.U.Upstream.asked c.counted.new.upstream; faults = g.U.Upstream.faults c.counted.new.upstream })
+    (record { held = g.C.Caches.held c.args.caches.now; asked = g.U.Upstream.asked c.args.upstream.now; faults = g.U.Upstream.faults c.args.upstream.now; heard = g.U.Upstream.heard c.args.upstream.now })
+    (record { held = g.C.Caches.held c.counted.new.caches; asked = g.U.Upstream.asked c.counted.new.upstream; faults = g.U.Upstream.faults c.counted.new.upstream; heard = g.U.Upstream.heard c.counted.new.upstream })
     (answered c.counted.result (λ it. it.told.answer))) c.as_slice.ensures c.counted.ensures.call
 
 pub returns-clause-target : goal.returns-clause-target
@@ -27,9 +27,9 @@ returns-clause-sound g c =
 pub returns-clause-told : goal.returns-clause-told
 returns-clause-told g c =
     told_call (world_of g.V.Verifier.accepts c.args.anchors.now (bounds_of c.args.config.now) c.args.now) c.args.group.now (g.U.Upstream.table c.args.upstream.now)
-    (record { held = g.C.Caches.held c.args.caches.now; asked = g.U.Upstream.asked c.args.upstream.now; faults = g.U.Upstream.faults c.args.upstream.now })
-    (record { held = g.C.Caches.held c.counted.new.caches; asked = g.U.Upstream.asked c.counted.new.upstream; faults = g.U.Upstream.faults c.counted.new.upstream })
+    (record { held = g.C.Caches.held c.args.caches.now; asked = g.U.Upstream.asked c.args.upstream.now; faults = g.U.Upstream.faults c.args.upstream.now; heard = g.U.Upstream.heard c.args.upstream.now })
+    (record { held = g.C.Caches.held c.counted.new.caches; asked = g.U.Upstream.asked c.counted.new.upstream; faults = g.U.Upstream.faults c.counted.new.upstream; heard = g.U.Upstream.heard c.counted.new.upstream })
     (answered c.counted.result (λ it. it.told.answer)) (subst (λ (listed : List Record). IsSingleCall (world_of g.V.Verifier.accepts listed (bounds_of c.args.config.now) c.args.now) c.args.group.now (g.U.Upstream.table c.args.upstream.now)
-    (record { held = g.C.Caches.held c.args.caches.now; asked = g.U.Upstream.asked c.args.upstream.now; faults = g.U.Upstream.faults c.args.upstream.now })
-    (record { held = g.C.Caches.held c.counted.new.caches; asked = g.U.Upstream.asked c.counted.new.upstream; faults = g.U.Upstream.faults c.counted.new.upstream })
+    (record { held = g.C.Caches.held c.args.caches.now; asked = g.U.Upstream.asked c.args.upstream.now; faults = g.U.Upstream.faults c.args.upstream.now; heard = g.U.Upstream.heard c.args.upstream.now })
+    (record { held = g.C.Caches.held c.counted.new.caches; asked = g.U.Upstream.asked c.counted.new.upstream; faults = g.U.Upstream.faults c.counted.new.upstream; heard = g.U.Upstream.heard c.counted.new.upstream })
     (answered c.counted.result (λ it. it.told.answer))) c.as_slice.ensures c.counted.ensures.call)

@@ -9,7 +9,7 @@ use Rattle.dsec_single.proofs.group.validated.Goals as goal
 
 pub returns-in_default-clause-call : goal.returns-in_default-clause-call
 returns-in_default-clause-call g c = unbegun_call (world_of g.V.Verifier.accepts c.args.anchors.now (bounds_of c.args.config.now) c.args.now) c.args.group.now (g.U.Upstream.table c.args.upstream.now)
-    (record { held = g.C.Caches.held c.args.caches.now; asked = g.U.Upstream.asked c.args.upstream.now; faults = g.U.Upstream.faults c.args.upstream.now })
+    (record { held = g.C.Caches.held c.args.caches.now; asked = g.U.Upstream.asked c.args.upstream.now; faults = g.U.Upstream.faults c.args.upstream.now; heard = g.U.Upstream.heard c.args.upstream.now })
 
 pub into_validated-requires : goal.into_validated-requires
 into_validated-requires g c =
@@ -21,8 +21,8 @@ returns-in-Ok-validate_with_vc-clause-group g c = its_group c.into_validated.res
 pub returns-in-Ok-validate_with_vc-clause-call : goal.returns-in-Ok-validate_with_vc-clause-call
 returns-in-Ok-validate_with_vc-clause-call g c = call_kept c.into_validated.result c.in-Ok.own c.args.group.now c.in-Ok-validate_with_vc.found.target c.in-Ok-validate_with_vc.found.told c.into_validated.ensures c.in-Ok.ensures
     (world_of g.V.Verifier.accepts c.args.anchors.now (bounds_of c.args.config.now) c.args.now) (g.U.Upstream.table c.args.upstream.now)
-    (record { held = g.C.Caches.held c.args.caches.now; asked = g.U.Upstream.asked c.args.upstream.now; faults = g.U.Upstream.faults c.args.upstream.now })
-    (record { held = g.C.Caches.held c.validate_with_vc.new.caches; asked = g.U.Upstream.asked c.validate_with_vc.new.upstream; faults = g.U.Upstream.faults c.validate_with_vc.new.upstream })
+    (record { held = g.C.Caches.held c.args.caches.now; asked = g.U.Upstream.asked c.args.upstream.now; faults = g.U.Upstream.faults c.args.upstream.now; heard = g.U.Upstream.heard c.args.upstream.now })
+    (record { held = g.C.Caches.held c.validate_with_vc.new.caches; asked = g.U.Upstream.asked c.validate_with_vc.new.upstream; faults = g.U.Upstream.faults c.validate_with_vc.new.upstream; heard = g.U.Upstream.heard c.validate_with_vc.new.upstream })
     c.in-Ok-validate_with_vc.ensures.call
 
 pub returns-in-Ok-validate_with_vc-clause-signer : goal.returns-in-Ok-validate_with_vc-clause-signer
@@ -36,11 +36,11 @@ returns-in-Ok-validate_with_vc-clause-sound g c = sound_kept c.into_validated.re
 pub returns-in-Ok-validate_with_vc-clause-told : goal.returns-in-Ok-validate_with_vc-clause-told
 returns-in-Ok-validate_with_vc-clause-told g c =
     told_call (world_of g.V.Verifier.accepts c.args.anchors.now (bounds_of c.args.config.now) c.args.now) c.args.group.now (g.U.Upstream.table c.args.upstream.now)
-    (record { held = g.C.Caches.held c.args.caches.now; asked = g.U.Upstream.asked c.args.upstream.now; faults = g.U.Upstream.faults c.args.upstream.now })
-    (record { held = g.C.Caches.held c.validate_with_vc.new.caches; asked = g.U.Upstream.asked c.validate_with_vc.new.upstream; faults = g.U.Upstream.faults c.validate_with_vc.new.upstream })
+    (record { held = g.C.Caches.held c.args.caches.now; asked = g.U.Upstream.asked c.args.upstream.now; faults = g.U.Upstream.faults c.args.upstream.now; heard = g.U.Upstream.heard c.args.upstream.now })
+    (record { held = g.C.Caches.held c.validate_with_vc.new.caches; asked = g.U.Upstream.asked c.validate_with_vc.new.upstream; faults = g.U.Upstream.faults c.validate_with_vc.new.upstream; heard = g.U.Upstream.heard c.validate_with_vc.new.upstream })
     (Some (told_in c.into_validated.result).answer)
     (call_kept c.into_validated.result c.in-Ok.own c.args.group.now c.in-Ok-validate_with_vc.found.target c.in-Ok-validate_with_vc.found.told c.into_validated.ensures c.in-Ok.ensures
     (world_of g.V.Verifier.accepts c.args.anchors.now (bounds_of c.args.config.now) c.args.now) (g.U.Upstream.table c.args.upstream.now)
-    (record { held = g.C.Caches.held c.args.caches.now; asked = g.U.Upstream.asked c.args.upstream.now; faults = g.U.Upstream.faults c.args.upstream.now })
-    (record { held = g.C.Caches.held c.validate_with_vc.new.caches; asked = g.U.Upstream.asked c.validate_with_vc.new.upstream; faults = g.U.Upstream.faults c.validate_with_vc.new.upstream })
+    (record { held = g.C.Caches.held c.args.caches.now; asked = g.U.Upstream.asked c.args.upstream.now; faults = g.U.Upstream.faults c.args.upstream.now; heard = g.U.Upstream.heard c.args.upstream.now })
+    (record { held = g.C.Caches.held c.validate_with_vc.new.caches; asked = g.U.Upstream.asked c.validate_with_vc.new.upstream; faults = g.U.Upstream.faults c.validate_with_vc.new.upstream; heard = g.U.Upstream.heard c.validate_with_vc.new.upstream })
     c.in-Ok-validate_with_vc.ensures.call)
