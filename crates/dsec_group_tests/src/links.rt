@@ -11,13 +11,20 @@ use dsec_wire::{Data, Record};
 use std::alloc::Global;
 
 /// The link of a key set from its own key, an anchor.
-fn link_of(keys: RecordSet, key: &Octets, rrsig: &Data) -> Result<Link, NoMemory>
+fn link_of(alloc: Global, keys: RecordSet, key: &Octets, rrsig: &Data) -> Result<Link, NoMemory>
     requires { rrsig.now.rtype ≡ RRSIG }
 {
     let via = key.clone()?;
     let signing_key = key.clone()?;
     let kept = rrsig.clone()?;
-    Ok(Link::new(LinkKind::AnchorKey, keys, Some(via), signing_key, kept))
+    Link::new(
+        alloc,
+        LinkKind::AnchorKey,
+        keys,
+        Some(via),
+        signing_key,
+        kept,
+    )
 }
 
 fn is_key_link(link: &Link) -> bool {
@@ -56,7 +63,7 @@ fn is_link_of(alloc: Global, key: &Record, made: &Record) -> bool {
     if !keys.has_data(key.rdata().octets()) {
         return false;
     }
-    match link_of(keys, key.rdata().octets(), made.rdata()) {
+    match link_of(alloc, keys, key.rdata().octets(), made.rdata()) {
         Ok(link) => is_kept(alloc, link),
         Err(_) => false,
     }

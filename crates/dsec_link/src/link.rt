@@ -1,6 +1,6 @@
 //! Links of chains of trust (RFC 4033 3.1, RFC 4035 5).
 
-ghost use Rattle.std.specs.Prelude.{◌≡◌, ◌↔◌, [], Some, IsTrue, length};
+ghost use Rattle.std.specs.Prelude.{◌≡◌, ◌↔◌, [], Some, IfOk, IsTrue, length};
 ghost use Rattle.std.specs.Option.{option_map};
 ghost use Rattle.dsec_spec.specs.Numbers.{RRSIG};
 ghost use Rattle.dsec_spec.specs.Records.{rrsig_of};
@@ -8,10 +8,11 @@ ghost use Rattle.dsec_wire.specs.Views.{rrsig_view};
 ghost use Rattle.dsec_link.specs.Links.{kind_view};
 
 use crate::record_set::RecordSet;
-use dsec_name::Octets;
+use dsec_name::{NoMemory, Octets};
 use dsec_wire::{Data, Rrsig};
-use std::alloc::AllocError;
+use std::alloc::{AllocError, Global};
 use std::marker::Model;
+use std::sync::Arc;
 
 /// What a link of a chain is.
 #[derive(Clone, Copy, Debug, PartialEq, Eq)]
@@ -30,9 +31,15 @@ pub enum LinkKind {
 
 /// A signed set and how it was reached. `via` is the data of the anchor or of the DS record that speaks of the
 /// key, `signing_key` the data of the DNSKEY record whose key signed the set, `rrsig` those of the RRSIG record by
-/// which it did. A link by itself proves nothing.
+/// which it did. A link by itself proves nothing. A copy shares all of it, so that chains through one zone hold its keys once.
 #[derive(Drop)]
 pub struct Link {
+    parts: Arc<Parts>,
+}
+
+/// What a link holds.
+#[derive(Drop)]
+struct Parts {
     kind: LinkKind,
     records: RecordSet,
     via: Option<Octets>,
@@ -46,12 +53,13 @@ impl Model for Link {
     ghost Value = { chain.Link };
 
     ghost use Rattle.std.specs.Prelude.{◌≡◌};
+    ghost use Rattle.std.specs.Arc.{arc_value};
     ghost use Rattle.dsec_spec.specs.Numbers.{RRSIG};
     ghost use Rattle.dsec_link.specs.Links.{kind_view};
 
-    ghost view = { λ it. record { kind = kind_view it.kind; records = it.records; via = it.via; signing_key = it.signing_key; rrsig = it.rrsig.octets } };
+    ghost view = { λ it. record { kind = kind_view (arc_value it.parts).kind; records = (arc_value it.parts).records; via = (arc_value it.parts).via; signing_key = (arc_value it.parts).signing_key; rrsig = (arc_value it.parts).rrsig.octets } };
 
-    ghost invariant = { λ it. it.rrsig.rtype ≡ RRSIG };
+    ghost invariant = { λ it. (arc_value it.parts).rrsig.rtype ≡ RRSIG };
 }
 
 impl Clone for Link {
@@ -60,81 +68,75 @@ impl Clone for Link {
     ghost is_clone = { λ old new. new ≡ old };
 
     fn clone(&self) -> Result<Link, AllocError> {
-        let records = self.records.clone()?;
-        let via = self.via.clone()?;
-        let signing_key = self.signing_key.clone()?;
-        let rrsig = self.rrsig.clone()?;
-        Ok(Link {
-            kind: self.kind,
-            records,
-            via,
-            signing_key,
-            rrsig,
-        })
+        let parts = Arc::try_clone(&self.parts)?;
+        Ok(Link { parts })
     }
 }
 
 impl Link {
     /// A link of these parts.
     pub fn new(
+        alloc: Global,
         kind: LinkKind,
         records: RecordSet,
         via: Option<Octets>,
         signing_key: Octets,
         rrsig: Data,
-    ) -> Self
+    ) -> Result<Link, NoMemory>
         requires { rrsig.rtype ≡ RRSIG }
-        ensures { result ≡ record { kind = kind_view kind; records = records; via = via; signing_key = signing_key; rrsig = rrsig.octets } }
+        ensures { IfOk result (λ link. link ≡ record { kind = kind_view kind; records = records; via = via; signing_key = signing_key; rrsig = rrsig.octets }) }
     {
-        Link {
+        let parts = Parts {
             kind,
             records,
             via,
             signing_key,
             rrsig,
-        }
+        };
+        let parts = Arc::new(alloc, parts)?;
+        Ok(Link { parts })
     }
 
     /// What the link is.
     pub fn kind(&self) -> LinkKind
         ensures { kind_view result ≡ self.now.kind }
     {
-        self.kind
+        self.parts.kind
     }
 
     /// The signed set.
     pub fn records(&self) -> &RecordSet
         ensures { result.now ≡ self.now.records }
     {
-        &self.records
+        &self.parts.records
     }
 
     /// The data of the anchor or the DS record that speaks of the key, where there is one.
     pub fn via(&self) -> Option<&Octets>
         ensures { option_map (λ octets. octets.now) result ≡ self.now.via }
     {
-        self.via.as_ref()
+        self.parts.via.as_ref()
     }
 
     /// The data of the DNSKEY record whose key signed the set.
     pub fn signing_key(&self) -> &Octets
         ensures { result.now ≡ self.now.signing_key }
     {
-        &self.signing_key
+        &self.parts.signing_key
     }
 
     /// The data of the RRSIG record by which the key signed the set.
     pub fn rrsig_data(&self) -> &Data
         ensures { result.now ≡ record { rtype = RRSIG; octets = self.now.rrsig } }
     {
-        &self.rrsig
+        &self.parts.rrsig
     }
 
     /// The signature by which the key signed the set.
     pub fn rrsig(&self) -> Rrsig<'_>
         ensures { rrsig_of self.now.rrsig ≡ Some (rrsig_view result) }
     {
-        match self.rrsig.rrsig() {
+        match self.parts.rrsig.rrsig() {
             Some(rrsig) => rrsig,
             None => unreachable!(),
         }

@@ -55,7 +55,7 @@ pub(crate) fn link_of(
 {
     let set = set_of(alloc, group)?;
     let rrsig = sig.rdata().clone()?;
-    Ok(Link::new(kind, set, via, signing_key, rrsig))
+    Link::new(alloc, kind, set, via, signing_key, rrsig)
 }
 
 /// The link of a key set, by the data of what speaks of its key.
