@@ -14,3 +14,4 @@ pub mod SetLaws
 pub mod PlaceLaws
 pub mod RedirectLaws
 pub mod ReadingLaws
+pub mod SignerLaws

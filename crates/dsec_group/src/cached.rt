@@ -130,6 +130,13 @@ pub(crate) fn check_signature<V: Verifier>(
     Ok(is_accepted::<V>(rrsig, &key.key, &message, memo, step))
 }
 
+/// Whether the signature names the zone as its signer.
+pub(crate) fn is_by(rrsig: &Rrsig<'_>, zone: &Name) -> bool
+    ensures { IsTrue result ↔ (place (rrsig_view rrsig.now).signer ≡ place zone.now) }
+{
+    rrsig.signer_name.is(zone)
+}
+
 /// Whether the signature names the zone as its signer, and the key by its algorithm and tag.
 pub(crate) fn names_key(rrsig: &Rrsig<'_>, key: &TaggedKey<'_>, zone: &Name) -> bool
     ensures { result ≡ names_in (place zone.now) (rrsig_view rrsig.now) (tagged_view key.now) }

@@ -6,7 +6,7 @@ ghost use Rattle.dsec_spec.specs.Numbers.{RRSIG};
 ghost use Rattle.dsec_link.specs.TaggedKeys.{tagged_view};
 ghost use Rattle.dsec_group.specs.Trials.{AreKeyTries, AreTries, KeysSpend, TriesSpend, key_trial, pair_trial};
 
-use crate::cached::{check_signature, names_key};
+use crate::cached::{check_signature, is_by, names_key};
 use crate::group::Group;
 use crate::memo::Memo;
 use crate::steps::Steps;
@@ -88,6 +88,10 @@ fn try_signature<V: Verifier, L: Ledger>(
     let Some(rrsig) = sig.rdata().rrsig() else {
         return Ok(KeyTries::Left(room));
     };
+    // Of another zone's signature no key needs a look, however many there are.
+    if !is_by(&rrsig, zone) {
+        return Ok(KeyTries::Left(room));
+    }
     let mut left = room;
     for index in 0..keys.len() {
         let key = &keys[index];

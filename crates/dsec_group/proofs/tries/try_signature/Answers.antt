@@ -7,6 +7,7 @@ use Rattle.dsec_wire.specs.Views.{rrsig_view}
 use Rattle.dsec_group.specs.Trials.{key_trial}
 use Rattle.dsec_group.proofs.CheckLaws.{matches_read, read_is, signs_read}
 use Rattle.dsec_group.proofs.IndexLaws.{there_by}
+use Rattle.dsec_group.proofs.SignerLaws.{untried}
 use Rattle.dsec_group.proofs.TrialLaws.{key_bad, key_good, key_skipped}
 use Rattle.dsec_group.proofs.tries.try_signature.Goals as goal
 use Rattle.dsec_group.proofs.tries.try_signature.Goals.{then-names_key+else-left-eq0+in_ok-check_signature+else-branch, else-names_key}
@@ -53,3 +54,10 @@ returns-then-branch-clause-tries g c =
           (signs_read g.V.Verifier.accepts (set_in c.args.group.now) c.args.sig.now sig key zone c.args.t read ∙ sym c.in_ok-check_signature.ensures ∙ c.if-branch.true)
           (omega (arith, c.if-left-eq0.false)) c.loop-index.invariant.0,
     )
+
+pub returns-then-not-is_by-clause-tries : goal.returns-then-not-is_by-clause-tries
+returns-then-not-is_by-clause-tries g c =
+    let sig = rrsig_view c.in-Some.rrsig in
+    let read = (read_is c.rdata.result.now c.args.sig.now sig c.rdata.ensures.value c.in-Some.ensures.value).1 in
+    untried c.args.sig.now sig (place c.args.zone.now) c.is_by.result read c.is_by.ensures c.if-not-is_by.true
+    g.V.Verifier.accepts c.args.group.now c.args.t c.args.room (map tagged_view c.args.keys.now)
