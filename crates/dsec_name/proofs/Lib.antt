@@ -13,3 +13,4 @@ pub mod NameTexts
 pub mod TextNames
 pub mod NameShown
 pub mod DisplayLaw
+pub mod ChainOrder

@@ -23,7 +23,7 @@ then_Equal Equal = refl
 then_Equal Greater = refl
 
 -- of lists whose fronts are of one length, the fronts decide first
-fronts_first : (p q s t : Place) → length p ≡ length q → place_cmp (p ++ s) (q ++ t) ≡ ordering_then (place_cmp p q) (place_cmp s t)
+pub fronts_first : (p q s t : Place) → length p ≡ length q → place_cmp (p ++ s) (q ++ t) ≡ ordering_then (place_cmp p q) (place_cmp s t)
 fronts_first [] [] s t e = refl
 fronts_first [] (y ∷ q) s t e = absurd (omega arith)
 fronts_first (x ∷ p) [] s t e = absurd (omega arith)
@@ -58,11 +58,11 @@ place-cut k name =
     ap place (sym (take-append-drop k name))
     ∙ (ap reverse (lower-append (take k name) (drop k name)) ∙ reverse-append (lower (take k name)) (lower (drop k name)))
 
-something_first : (p : Place) → 0 < length p → place_cmp p [] ≡ Greater
+pub something_first : (p : Place) → 0 < length p → place_cmp p [] ≡ Greater
 something_first [] h = absurd (omega arith)
 something_first (x ∷ p) h = refl
 
-nothing_first : (p : Place) → 0 < length p → place_cmp [] p ≡ Less
+pub nothing_first : (p : Place) → 0 < length p → place_cmp [] p ≡ Less
 nothing_first [] h = absurd (omega arith)
 nothing_first (x ∷ p) h = refl
 
@@ -120,7 +120,7 @@ order_starts name other = elim (less_same_more (length name) (length other)) [
 ]
 
 -- a name under another, label by label
-above_labels : (m n : Labels) → IsAtOrBelow (place m) (place n) → (front : Labels) × (lower m ≡ front ++ lower n)
+pub above_labels : (m n : Labels) → IsAtOrBelow (place m) (place n) → (front : Labels) × (lower m ≡ front ++ lower n)
 above_labels m n h =
     (reverse h.under, sym (reverse-reverse (lower m)) ∙ (ap reverse h.is ∙ (reverse-append (place n) h.under ∙ ap (λ (x : Labels). reverse h.under ++ x) (reverse-reverse (lower n)))))
 

@@ -1,6 +1,6 @@
 //! How the octets of names compare: ASCII case aside, and in the canonical order (RFC 4034 6.1, RFC 4343 3).
 
-ghost use Rattle.std.specs.Prelude.{◌≡◌, ◌↔◌, map, IsTrue};
+ghost use Rattle.std.specs.Prelude.{◌≡◌, ◌↔◌, map, IfSome, IsTrue};
 ghost use Rattle.std.specs.Char.{to_ascii_lowercase};
 ghost use Rattle.std.specs.Cmp.Lexicographic.{slice_cmp};
 ghost use Rattle.std.specs.Ordering.{nat_cmp};
@@ -29,6 +29,22 @@ pub(crate) fn compare(one: &[u8], other: &[u8]) -> Ordering
         other_rest = other_after;
     }
     order
+}
+
+/// The order of two names of which one stands under the other: by one comparison of octets, where `compare` takes one for each label.
+/// None of any others.
+pub(crate) fn order_in_chain(one: &[u8], other: &[u8]) -> Option<Ordering>
+    requires one { IsWhole one.now }
+    requires other { IsWhole other.now }
+    ensures { IfSome result (λ order. order ≡ name_cmp (labels_of one.now) (labels_of other.now)) }
+{
+    if one.len() > other.len() && is_at_or_below(one, other) {
+        return Some(Ordering::Greater);
+    }
+    if one.len() < other.len() && is_at_or_below(other, one) {
+        return Some(Ordering::Less);
+    }
+    None
 }
 
 /// The order of two labels as octets, ASCII case aside.
