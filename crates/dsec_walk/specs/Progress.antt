@@ -1,5 +1,5 @@
 -- What a reply comes to, as the code has it between hearing it and going on.
-use Rattle.std.specs.Prelude.{ℕ, List, Option}
+use Rattle.std.specs.Prelude.{◌≡◌, ℕ, List, Option}
 use Rattle.dsec_spec.specs.Numbers.{DS, DNSKEY}
 use Rattle.dsec_nodes.specs.ByDs.{Pending}
 use Rattle.dsec_nodes.specs.Machine.{Walking, Step, ask, heard, making, name_at, with_pending}
@@ -14,3 +14,7 @@ pended s octets pending = (with_pending s (heard s DS octets) pending, ask (name
 abbrev pub result_by : {V : Type 0} → Walking → Option (List ℕ) → Next V → Walking × Step
 result_by s octets (Made rtype node) = making s (heard s rtype octets) node
 result_by s octets (Asks pending) = pended s octets pending
+
+-- a walk that found no memory: it is the same way, and no other question was asked on it
+abbrev pub IsSameWay : Walking → Walking → Type 0
+IsSameWay before after = (after.asked ≡ before.asked) × (after.top ≡ before.top) × (after.target ≡ before.target)

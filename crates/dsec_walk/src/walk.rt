@@ -7,6 +7,7 @@ ghost use Rattle.dsec_nodes.specs.Machine as machine;
 ghost use Rattle.dsec_nodes.specs.SoundSteps.{InputKept, Sound};
 ghost use Rattle.dsec_nodes.specs.World.{World};
 ghost use Rattle.dsec_walk.specs.Checks.{most_checked_by};
+ghost use Rattle.dsec_walk.specs.Progress.{IsSameWay};
 ghost use Rattle.dsec_walk.specs.UnderWay.{IsUnderWay};
 ghost use Rattle.dsec_walk.specs.Views.{input_view, question_view, step_view, world_in};
 
@@ -93,7 +94,7 @@ impl<V: Verifier> Walk<V> {
     }
 
     /// The step after what answers the last one. A walk is taken on in one setting from its start to its end. Where there was no
-    /// memory it has ended, without a node.
+    /// memory it has ended, without a node; what it had asked before is still told.
     pub fn advance<L: Ledger>(
         &mut self,
         alloc: Global,
@@ -110,6 +111,7 @@ impl<V: Verifier> Walk<V> {
         ensures under_way { IfOk result (λ _. IsUnderWay (world_in V.accepts setting.now) self.new) }
         ensures few { IfOk result (λ _. length self.new.asked ≤ 1 + 2 * (length self.new.target - length self.new.top)) }
         ensures err { OnErr result (self.new.phase ≡ machine.ends) }
+        ensures lost { OnErr result (IsSameWay self.old self.new) }
         ensures bound { steps.new ≤ steps.old + most_checked_by (input_view input) self.old.phase self.old.reached * (setting.now.config.now.max_bad_signatures + 1) }
     {
         match self.stepped::<L>(alloc, setting, input, memo, steps) {
@@ -134,6 +136,7 @@ impl<V: Verifier> Walk<V> {
         requires answers { machine.Answers self.old.phase (input_view input) }
         ensures exact { IfOk result (λ s. (self.new, step_view s) ≡ machine.advanced (world_in V.accepts setting.now) self.old (input_view input)) }
         ensures kept { IfOk result (λ _. InputKept (world_in V.accepts setting.now) (input_view input)) }
+        ensures lost { OnErr result (IsSameWay self.old self.new) }
         ensures bound { steps.new ≤ steps.old + most_checked_by (input_view input) self.old.phase self.old.reached * (setting.now.config.now.max_bad_signatures + 1) }
     {
         match input {

@@ -1,8 +1,9 @@
 //! The next name of a walk, and the steps that need nothing.
 
-ghost use Rattle.std.specs.Prelude.{◌≡◌, ◌+◌, ◌≤◌, IfOk, nat_le, length};
+ghost use Rattle.std.specs.Prelude.{◌≡◌, ◌+◌, ◌≤◌, IfOk, OnErr, nat_le, length};
 ghost use Rattle.dsec_spec.specs.Names.{place};
 ghost use Rattle.dsec_nodes.specs.Machine as machine;
+ghost use Rattle.dsec_walk.specs.Progress.{IsSameWay};
 ghost use Rattle.dsec_walk.specs.UnderWay.{Fits, FitsFirst};
 ghost use Rattle.dsec_walk.specs.Views.{step_view};
 
@@ -56,7 +57,8 @@ impl<V: Verifier> Walk<V> {
     /// The next step from what is reached.
     pub(super) fn ahead(&mut self, alloc: Global) -> Result<Step<V>, NoMemory>
         requires { FitsFirst self.old self.old.reached }
-        ensures { IfOk result (λ s. (self.new, step_view s) ≡ machine.ahead self.old) }
+        ensures step { IfOk result (λ s. (self.new, step_view s) ≡ machine.ahead self.old) }
+        ensures lost { OnErr result (IsSameWay self.old self.new) }
     {
         match &self.here {
             Some(here) => {
@@ -86,7 +88,8 @@ impl<V: Verifier> Walk<V> {
     /// The question for the next name.
     pub(super) fn asking(&mut self, alloc: Global) -> Result<Step<V>, NoMemory>
         requires { Fits self.old }
-        ensures { IfOk result (λ s. (self.new, step_view s) ≡ machine.asking self.old) }
+        ensures step { IfOk result (λ s. (self.new, step_view s) ≡ machine.asking self.old) }
+        ensures lost { OnErr result (IsSameWay self.old self.new) }
     {
         let rtype = self.first_type();
         let name = self.name_at(alloc)?;

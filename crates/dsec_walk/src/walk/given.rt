@@ -1,6 +1,6 @@
 //! Nodes that a walk is given (RFC 4035 4.5).
 
-ghost use Rattle.std.specs.Prelude.{◌≡◌, IfOk, Some};
+ghost use Rattle.std.specs.Prelude.{◌≡◌, IfOk, OnErr, Some};
 ghost use Rattle.std.specs.Arc.{arc_value};
 ghost use Rattle.std.specs.Option.{option_map};
 ghost use Rattle.dsec_spec.specs.Names.{place};
@@ -10,6 +10,7 @@ ghost use Rattle.dsec_nodes.specs.Nodes.{Kept};
 ghost use Rattle.dsec_nodes.specs.SoundSteps.{InputKept};
 ghost use Rattle.dsec_nodes.specs.Taking as taking;
 ghost use Rattle.dsec_nodes.specs.Walk as walks;
+ghost use Rattle.dsec_walk.specs.Progress.{IsSameWay};
 ghost use Rattle.dsec_walk.specs.UnderWay.{Fits};
 ghost use Rattle.dsec_walk.specs.Views.{step_view, world_in};
 
@@ -34,6 +35,7 @@ impl<V: Verifier> Walk<V> {
         requires { Fits self.old }
         ensures step { IfOk result (λ s. (self.new, step_view s) ≡ machine.given (world_in V.accepts setting.now) self.old (option_map (λ n. arc_value n) node)) }
         ensures kept { IfOk result (λ _. InputKept (world_in V.accepts setting.now) (machine.node (option_map (λ n. arc_value n) node))) }
+        ensures lost { OnErr result (IsSameWay self.old self.new) }
     {
         match node {
             Some(node) => self.given_node(alloc, setting, node),
@@ -51,6 +53,7 @@ impl<V: Verifier> Walk<V> {
         requires { Fits self.old }
         ensures step { IfOk result (λ s. (self.new, step_view s) ≡ machine.given (world_in V.accepts setting.now) self.old (Some (arc_value node))) }
         ensures kept { IfOk result (λ _. Kept V.accepts (arc_value node)) }
+        ensures lost { OnErr result (IsSameWay self.old self.new) }
     {
         let name = self.name_at(alloc)?;
         let may_stand = self.may_stand(node.standing());
@@ -82,7 +85,8 @@ impl<V: Verifier> Walk<V> {
     /// A node that was kept is reached.
     fn reach_got(&mut self, node: Arc<Node<V>>) -> Result<(), NoMemory>
         requires { Fits self.old }
-        ensures { IfOk result (λ _. self.new ≡ machine.with_got self.old (arc_value node)) }
+        ensures ok { IfOk result (λ _. self.new ≡ machine.with_got self.old (arc_value node)) }
+        ensures lost { OnErr result (IsSameWay self.old self.new) }
     {
         let behind = self.one_more();
         let here = arrived(&self.here, &node)?;

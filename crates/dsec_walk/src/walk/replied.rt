@@ -1,9 +1,9 @@
 //! Replies to a walk's questions, which it keeps.
 
-ghost use Rattle.std.specs.Prelude.{◌≡◌, ◌+◌, ◌*◌, ◌≤◌, IfOk};
+ghost use Rattle.std.specs.Prelude.{◌≡◌, ◌+◌, ◌*◌, ◌≤◌, IfOk, OnErr};
 ghost use Rattle.dsec_nodes.specs.Machine as machine;
 ghost use Rattle.dsec_walk.specs.Checks.{checked_reply};
-ghost use Rattle.dsec_walk.specs.Progress.{pended};
+ghost use Rattle.dsec_walk.specs.Progress.{IsSameWay, pended};
 ghost use Rattle.dsec_walk.specs.UnderWay.{CanHear, Fits};
 ghost use Rattle.dsec_walk.specs.Views.{step_view, world_in};
 
@@ -32,6 +32,7 @@ impl<V: Verifier> Walk<V> {
     ) -> Result<Step<V>, NoMemory>
         requires { CanHear (world_in V.accepts setting.now) self.old }
         ensures step { IfOk result (λ s. (self.new, step_view s) ≡ machine.replied (world_in V.accepts setting.now) self.old self.old.phase reply) }
+        ensures lost { OnErr result (IsSameWay self.old self.new) }
         ensures bound { steps.new ≤ steps.old + checked_reply self.old.phase self.old.reached reply * (setting.now.config.now.max_bad_signatures + 1) }
     {
         match self.next_by::<L>(alloc, setting, &reply, memo, steps)? {
@@ -49,7 +50,8 @@ impl<V: Verifier> Walk<V> {
         node: Node<V>,
     ) -> Result<Step<V>, NoMemory>
         requires { Fits self.old }
-        ensures { IfOk result (λ s. (self.new, step_view s) ≡ machine.making self.old (machine.heard self.old rtype reply) node) }
+        ensures step { IfOk result (λ s. (self.new, step_view s) ≡ machine.making self.old (machine.heard self.old rtype reply) node) }
+        ensures lost { OnErr result (IsSameWay self.old self.new) }
     {
         let behind = self.one_more();
         let is_bogus = is_bogus(node.standing());
@@ -76,7 +78,8 @@ impl<V: Verifier> Walk<V> {
         pending: Pending,
     ) -> Result<Step<V>, NoMemory>
         requires { Fits self.old }
-        ensures { IfOk result (λ s. (self.new, step_view s) ≡ pended self.old reply pending) }
+        ensures step { IfOk result (λ s. (self.new, step_view s) ≡ pended self.old reply pending) }
+        ensures lost { OnErr result (IsSameWay self.old self.new) }
     {
         let next = self.name_at(alloc)?;
         let name = self.name_at(alloc)?;

@@ -9,8 +9,8 @@ use Rattle.dsec_walk.specs.declared.steps.Question.{Question}
 use Rattle.dsec_walk.proofs.Making.{walk_by, bogus_made, kept_made}
 use Rattle.dsec_walk.proofs.walk.Walk.making.Goals as goal
 
-pub returns-then-is_bogus : goal.returns-then-is_bogus
-returns-then-is_bogus g c =
+pub returns-then-is_bogus-clause-step : goal.returns-then-is_bogus-clause-step
+returns-then-is_bogus-clause-step g c =
     let s : machine.Walking = c.args.self.now in
     let q : Question = record { name = c.in_ok-name.name; rtype = c.args.rtype; reply = c.args.reply } in
     let asked : map question_view c.push.new.self.items ≡ machine.heard s c.args.rtype c.args.reply =
@@ -25,8 +25,8 @@ returns-then-is_bogus g c =
     (sym c.self.view_is)
     (bogus_made s c.args.node m c.one_more-behind.result (here_view c.in_ok-here.here) (map question_view c.push.new.self.items) (machine.heard s c.args.rtype c.args.reply) c.in_ok-node.ensures.ok c.one_more-behind.ensures here asked b)
 
-pub returns : goal.returns
-returns g c =
+pub returns-clause-step : goal.returns-clause-step
+returns-clause-step g c =
     let s : machine.Walking = c.args.self.now in
     let q : Question = record { name = c.in_ok-name.name; rtype = c.args.rtype; reply = c.args.reply } in
     let asked : map question_view c.push.new.self.items ≡ machine.heard s c.args.rtype c.args.reply =
