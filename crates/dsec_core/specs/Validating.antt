@@ -3,6 +3,7 @@ use Rattle.std.specs.Prelude.{◌≡◌, ◌+◌, ℕ, List, [], Result, Ok, Err
 use Rattle.dsec_spec.specs.Accepts.{Accepts}
 use Rattle.dsec_spec.specs.Records.{Record}
 use Rattle.dsec_nodes.specs.World.{World}
+use Rattle.dsec_nodes.specs.Machine as machine
 use Rattle.dsec_nodes.specs.Machine.{Input}
 use Rattle.dsec_nodes.specs.Alone.{Refusal, not_one_question}
 use Rattle.dsec_node.specs.Configs.{Settings}
@@ -49,13 +50,20 @@ AdvancesTo p course (Err FormError) = (course, end_with (Err not_one_question)) 
 AdvancesTo p course (Err NoMemory) = (course.waits ≡ for_nothing) × (course.judged ≡ [])
 AdvancesTo p course (Err _) = ⊥
 
--- how many sets are checked at most for what answers a step: those for the step of the walk that is waited for, and the group that is judged by
--- the node to which it comes (RFC 4035 5.2, 5.3)
-abbrev pub most_checked_at : Waiting → Input → ℕ
-most_checked_at (for_walk group s) i = most_checked_by i s.phase s.reached + 1
-most_checked_at to_begin i = 0
-most_checked_at (to_end o) i = 0
-most_checked_at for_nothing i = 0
+-- how many groups are judged by the step that a walk comes to: its own, where this is its end (RFC 4035 5.3)
+abbrev pub judged_by : machine.Step → ℕ
+judged_by (machine.done n) = 1
+judged_by (machine.node_get name) = 0
+judged_by (machine.node_put name n) = 0
+judged_by (machine.ask name rtype) = 0
+
+-- how many sets are checked at most for what answers a step: those for the step of the walk that is waited for, and its group where it comes to
+-- its end by it (RFC 4035 5.2, 5.3)
+abbrev pub most_checked_at : World → Waiting → Input → ℕ
+most_checked_at w (for_walk group s) i = most_checked_by i s.phase s.reached + judged_by (machine.advanced w s i).1
+most_checked_at w to_begin i = 0
+most_checked_at w (to_end o) i = 0
+most_checked_at w for_nothing i = 0
 
 -- the last zone of the walk that is waited for counts (RFC 4035 5.2)
 abbrev pub IsInZoneAt : World → Waiting → Type 0

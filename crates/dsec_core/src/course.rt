@@ -86,7 +86,7 @@ impl<V: Verifier> Course<V> {
         requires answers { courses.CourseAnswers self.old.waits (input_view input) }
         ensures exact { IfOk result (λ n. (self.new, next_view n) ≡ course_advanced (world_in V.accepts setting.now) self.old (input_view input)) }
         ensures kept { IfOk result (λ _. InputKept (world_in V.accepts setting.now) (input_view input)) }
-        ensures bound { steps.new ≤ steps.old + most_checked_at self.old.waits (input_view input) * (setting.now.config.now.max_bad_signatures + 1) }
+        ensures bound { steps.new ≤ steps.old + most_checked_at (world_in V.accepts setting.now) self.old.waits (input_view input) * (setting.now.config.now.max_bad_signatures + 1) }
     {
         rely_on(setting, &input);
         match mem::replace(&mut self.waits, Waits::ForNothing) {

@@ -88,7 +88,7 @@ impl<V: Verifier> Validation<V> {
         ensures awaits { IfOk result (λ step. courses.Awaits (step_view step) self.new.course.waits) }
         ensures err { OnErr result (self.new.course.waits ≡ courses.for_nothing) }
         ensures nearer { steps_left (world_by V.accepts self.old) self.new.course < steps_left (world_by V.accepts self.old) self.old.course }
-        ensures bound { steps.new ≤ steps.old + most_checked_at self.old.course.waits (input_view input) * (self.old.config.max_bad_signatures + 1) }
+        ensures bound { steps.new ≤ steps.old + most_checked_at (world_by V.accepts self.old) self.old.course.waits (input_view input) * (self.old.config.max_bad_signatures + 1) }
     {
         let setting = Setting {
             anchors: self.anchors.as_slice(),

@@ -9,6 +9,7 @@ ghost use Rattle.dsec_walk.specs.Checks.{most_checked_by};
 ghost use Rattle.dsec_walk.specs.UnderWay.{IsUnderWay};
 ghost use Rattle.dsec_walk.specs.Views as walks;
 ghost use Rattle.dsec_walk.specs.Views.{input_view, world_in};
+ghost use Rattle.dsec_core.specs.Validating.{judged_by};
 ghost use Rattle.dsec_core.specs.Views.{next_view};
 
 use super::{Course, Waits};
@@ -50,7 +51,7 @@ impl<V: Verifier> Course<V> {
     }
 
     /// The step after what answers the last one of a walk for a group.
-    #[tactic(auto, using(crate::proofs::BoundSteps::one_set_more))]
+    #[tactic(auto, using(crate::proofs::BoundSteps::fewer_sets))]
     pub(super) fn walked<L: Ledger>(
         &mut self,
         alloc: Global,
@@ -65,7 +66,7 @@ impl<V: Verifier> Course<V> {
         requires answers { machine.Answers walk.phase (input_view input) }
         ensures step { IfOk result (λ n. (self.new, next_view n) ≡ by_step (world_in V.accepts setting.now) self.old group
             (machine.advanced (world_in V.accepts setting.now) walk (input_view input)).0 (machine.advanced (world_in V.accepts setting.now) walk (input_view input)).1) }
-        ensures bound { steps.new ≤ steps.old + (most_checked_by (input_view input) walk.phase walk.reached + 1) * (setting.now.config.now.max_bad_signatures + 1) }
+        ensures bound { steps.new ≤ steps.old + (most_checked_by (input_view input) walk.phase walk.reached + judged_by (machine.advanced (world_in V.accepts setting.now) walk (input_view input)).1) * (setting.now.config.now.max_bad_signatures + 1) }
     {
         let mut walk = walk;
         let step = walk.advance::<L>(alloc, setting, input, memo, steps)?;
@@ -84,7 +85,7 @@ impl<V: Verifier> Course<V> {
         steps: &mut Steps<L>,
     ) -> Result<Next<V>, NoMemory>
         ensures step { IfOk result (λ n. (self.new, next_view n) ≡ by_step (world_in V.accepts setting.now) self.old group walk (walks.step_view step)) }
-        ensures bound { steps.new ≤ steps.old + (setting.now.config.now.max_bad_signatures + 1) }
+        ensures bound { steps.new ≤ steps.old + judged_by (walks.step_view step) * (setting.now.config.now.max_bad_signatures + 1) }
     {
         let next = match step {
             WalkStep::NodeGet(name) => Step::NodeGet(name),

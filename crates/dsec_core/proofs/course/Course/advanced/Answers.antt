@@ -31,8 +31,9 @@ returns-in-ForWalk-clause-exact g c =
 
 pub returns-in-ForWalk-clause-bound : goal.returns-in-ForWalk-clause-bound
 returns-in-ForWalk-clause-bound g c =
+    let w = world_in g.V.Verifier.accepts c.args.setting.now in
     let i = input_view c.args.input in
     let e = ap waits_view (sym c.replace.ensures.value ∙ c.in-ForWalk.is) in
     let most = c.args.setting.now.config.now.max_bad_signatures in
-    subst (λ (x : Course). c.walked.new.steps ≤ c.args.steps.now + most_checked_at x.waits i * (most + 1)) c.self.view_is
-    (subst (λ (x : Waiting). c.walked.new.steps ≤ c.args.steps.now + most_checked_at x i * (most + 1)) (sym e) c.walked.ensures.bound)
+    subst (λ (x : Course). c.walked.new.steps ≤ c.args.steps.now + most_checked_at w x.waits i * (most + 1)) c.self.view_is
+    (subst (λ (x : Waiting). c.walked.new.steps ≤ c.args.steps.now + most_checked_at w x i * (most + 1)) (sym e) c.walked.ensures.bound)
