@@ -2,7 +2,8 @@
 use Rattle.std.specs.Prelude.{◌≡◌, ℕ, List, [], slice_get, Bool, true, false, Option, Some, None}
 use Rattle.dsec_cause.specs.declared.cause.Cause.{Cause}
 use Rattle.dsec_cause.specs.declared.cause.Cause.TheVariants.{NsecFromWildcard}
-use Rattle.dsec_spec.specs.Names.{Place, place}
+use Rattle.dsec_spec.specs.Names.{Labels, Place, place}
+use Rattle.dsec_spec.specs.SignedBytes.{rightmost}
 use Rattle.dsec_group.specs.declared.state.ValidationState.{ValidationState}
 use Rattle.dsec_nodes.specs.Judging.{Judged}
 use Rattle.dsec_found.specs.Told.{state_of, cause_of}
@@ -51,6 +52,16 @@ abbrev pub state_told : NsecNXState → NameTold
 state_told names.Exists = exists
 state_told (names.DoesNotExist encloser) = missing_below (Some (place encloser))
 state_told names.Nothing = unknown
+
+-- a name's closest encloser is told in the name's own letters: it is so many of its last labels
+abbrev pub IsEndOf : Labels → Labels → Type 0
+IsEndOf name encloser = (labels : ℕ) × (encloser ≡ rightmost labels name)
+
+-- the same of the one that a state has
+abbrev pub TellsEndOf : Labels → NsecNXState → Type 0
+TellsEndOf name (names.DoesNotExist encloser) = IsEndOf name encloser
+TellsEndOf name names.Exists = Unit {0}
+TellsEndOf name names.Nothing = Unit {0}
 
 -- a state with its cause, and what was used
 abbrev pub name_view : NsecNXState × Option Cause × List ℕ → NameTold × Option Cause × List ℕ

@@ -3,7 +3,7 @@
 ghost use Rattle.std.specs.Prelude.{◌≡◌, IfOk};
 ghost use Rattle.dsec_absence.specs.Answers.{missing, nsec_for_not_exists as not_exists_of};
 ghost use Rattle.dsec_negative.specs.Sources.{source_view};
-ghost use Rattle.dsec_negative.specs.Told.{name_told, name_view};
+ghost use Rattle.dsec_negative.specs.Told.{TellsEndOf, name_told, name_view};
 ghost use Rattle.dsec_negative.specs.Views.{name_search, source_of};
 ghost use Rattle.dsec_spec.specs.Names.{place};
 
@@ -40,7 +40,8 @@ pub fn nsec_for_not_exists<V: Verifier>(
     class: Class,
     signer: &Name,
 ) -> Result<(NsecNXState, Option<Cause>, Used), NoMemory>
-    ensures { IfOk result (λ answer. name_view answer ≡ name_told (not_exists_of (source_of groups.now class signer.now) (place target.now))) }
+    ensures value { IfOk result (λ answer. name_view answer ≡ name_told (not_exists_of (source_of groups.now class signer.now) (place target.now))) }
+    ensures letters { IfOk result (λ answer. TellsEndOf target.now answer.0) }
 {
     let source = Source {
         groups,

@@ -1,12 +1,12 @@
 //! What stands at the wildcard that may stand for a missing name, denied (RFC 4035 3.1.3.2, 3.1.3.4, RFC 4592 3.3.1).
 
-ghost use Rattle.std.specs.Prelude.{◌≡◌, IfOk};
+ghost use Rattle.std.specs.Prelude.{◌≡◌, ◌∷◌, IfOk, IfSome};
 ghost use Rattle.std.specs.Option.{option_map};
 ghost use Rattle.dsec_absence.specs.Answers.{name_by_star as name_by_star_of, nsec_for_nodata_wildcard as nodata_wildcard_of, nsec_for_nxdomain as nxdomain_of, star_closest_encloser as star_of, type_by_star as type_by_star_of};
 ghost use Rattle.dsec_negative.specs.Sources.{source_view};
-ghost use Rattle.dsec_negative.specs.Told.{IsEncloserIn, answer_of, name_told, name_view, nodata_told};
+ghost use Rattle.dsec_negative.specs.Told.{IsEncloserIn, TellsEndOf, answer_of, name_told, name_view, nodata_told};
 ghost use Rattle.dsec_negative.specs.Views.{source_of};
-ghost use Rattle.dsec_spec.specs.Names.{place};
+ghost use Rattle.dsec_spec.specs.Names.{asterisk, place};
 ghost use Rattle.dsec_spec.specs.SignedBytes.{rightmost};
 
 use crate::answer::{Answer, nodata};
@@ -93,7 +93,8 @@ pub fn nsec_for_nxdomain<V: Verifier>(
     class: Class,
     signer: &Name,
 ) -> Result<(NsecNXState, Option<Cause>, Used), NoMemory>
-    ensures { IfOk result (λ answer. name_view answer ≡ name_told (nxdomain_of (source_of groups.now class signer.now) (place target.now))) }
+    ensures value { IfOk result (λ answer. name_view answer ≡ name_told (nxdomain_of (source_of groups.now class signer.now) (place target.now))) }
+    ensures letters { IfOk result (λ answer. TellsEndOf target.now answer.0) }
 {
     let source = Source {
         groups,
@@ -154,7 +155,8 @@ fn name_by_star<V: Verifier>(
 
 /// The wildcard under the name of so many of the target's last labels, where it is a name.
 pub fn star_at(alloc: Global, target: &Name, labels: usize) -> Result<Option<Name>, NoMemory>
-    ensures { IfOk result (λ star. option_map (λ name. place name) star ≡ star_of (place (rightmost labels target.now))) }
+    ensures place { IfOk result (λ star. option_map (λ name. place name) star ≡ star_of (place (rightmost labels target.now))) }
+    ensures letters { IfOk result (λ star. IfSome star (λ name. name ≡ asterisk ∷ rightmost labels target.now)) }
 {
     let encloser = target.ancestor(alloc, labels)?;
     match star_closest_encloser(alloc, &encloser) {

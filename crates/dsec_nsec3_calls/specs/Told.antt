@@ -2,7 +2,7 @@
 use Rattle.std.specs.Prelude.{ℕ, List, [], ◌∷◌, Bool, true, false, Option, Some, None}
 use Rattle.dsec_cause.specs.declared.cause.Cause.{Cause}
 use Rattle.dsec_cause.specs.declared.cause.Cause.TheVariants.{Nsec3OptOut, Nsec3IterationsInsecure, Nsec3IterationsTooHigh, Nsec3BadOwnerHash, Nsec3DnameOrDelegation, TooManyNsec3Hashes, NoNsec3Proof}
-use Rattle.dsec_spec.specs.Names.{Place, place}
+use Rattle.dsec_spec.specs.Names.{Labels, Place, place}
 use Rattle.dsec_group.specs.declared.state.ValidationState.{ValidationState}
 use Rattle.dsec_group.specs.declared.state.ValidationState.TheVariants.{Secure, Insecure, Bogus}
 use Rattle.dsec_absence.specs.Denials.{used_in}
@@ -11,7 +11,7 @@ use Rattle.dsec_nsec3.specs.Conclusions.{Conclusion, proved, hash_proved, left_o
 use Rattle.dsec_nsec3.specs.HashedAnswers.{Hashed, disproved, opened, broken, unshown}
 use Rattle.dsec_nsec3.specs.HashedDenials.{HashedDenial, hashed_used_in}
 use Rattle.dsec_nsec3.specs.Walks.{Walk, gone, barred, halted, exhausted, unfound}
-pub use Rattle.dsec_negative.specs.Told.{index_in, answer_index_in, HasState, HasStateAndCause}
+pub use Rattle.dsec_negative.specs.Told.{index_in, answer_index_in, HasState, HasStateAndCause, IsEndOf}
 use Rattle.dsec_nsec3_calls.specs.Tellings.{opening_index}
 use Rattle.dsec_nsec3_calls.specs.Walked.{shown_by}
 use Rattle.dsec_nsec3_calls.specs.declared.state.Nsec3State.{Nsec3State}
@@ -50,6 +50,14 @@ state_told (names.DoesNotExistInsecure encloser) = open_below (place encloser)
 state_told names.Bogus = untrusted
 state_told names.Insecure = insecure
 state_told names.Nothing = unknown
+
+-- the closest encloser that a state has is told in the name's own letters
+abbrev pub TellsEndOf : Labels → Nsec3NXState → Type 0
+TellsEndOf name (names.DoesNotExist encloser) = IsEndOf name encloser
+TellsEndOf name (names.DoesNotExistInsecure encloser) = IsEndOf name encloser
+TellsEndOf name names.Bogus = Unit {0}
+TellsEndOf name names.Insecure = Unit {0}
+TellsEndOf name names.Nothing = Unit {0}
 
 -- a state with its cause, and what was used
 abbrev pub name_view : Nsec3NXState × Option Cause × List ℕ → NameTold × Option Cause × List ℕ

@@ -3,10 +3,10 @@
 ghost use Rattle.std.specs.Prelude.{◌≡◌, ◌≤◌, ◌+◌, [], Some, take, IfOk};
 ghost use Rattle.dsec_nsec3.specs.Walks.{nsec3_for_not_exists as not_exists_of};
 ghost use Rattle.dsec_nsec3_calls.specs.Sightings.{end_view};
-ghost use Rattle.dsec_nsec3_calls.specs.Told.{end_told, gone_told, name_view, not_exists_told, unknown};
+ghost use Rattle.dsec_nsec3_calls.specs.Told.{TellsEndOf, end_told, gone_told, name_view, not_exists_told, unknown};
 ghost use Rattle.dsec_nsec3_calls.specs.Views.{hash_limits, source_of};
 ghost use Rattle.dsec_nsec3_calls.specs.Walked.{shown_by, walk_view};
-ghost use Rattle.dsec_spec.specs.Names.{place};
+ghost use Rattle.dsec_spec.specs.Names.{Labels, place};
 
 use crate::gone::Gone;
 use crate::sighting::End;
@@ -37,6 +37,7 @@ pub fn nsec3_for_not_exists<V: Verifier, L: Ledger>(
     steps: &mut Steps<L>,
 ) -> Result<(Nsec3NXState, Option<Cause>, Used), NoMemory>
     ensures value { IfOk result (λ it. name_view it ≡ not_exists_told (not_exists_of (hash_limits limits.now) (source_of groups.now class signer.now) (place target.now))) }
+    ensures letters { IfOk result (λ it. TellsEndOf target.now it.0) }
     ensures later { steps.old ≤ steps.new }
     ensures bound { steps.new ≤ steps.old + limits.now.max_nsec3_hashes }
 {
@@ -66,7 +67,8 @@ fn told(
     target: &Name,
     walk: Walk,
 ) -> Result<(Nsec3NXState, Option<Cause>, Used), NoMemory>
-    ensures { IfOk result (λ it. name_view it ≡ not_exists_told (walk_view target.now walk)) }
+    ensures value { IfOk result (λ it. name_view it ≡ not_exists_told (walk_view target.now walk)) }
+    ensures letters { IfOk result (λ it. TellsEndOf target.now it.0) }
 {
     match walk {
         Walk::Gone(gone) => told_of_gone(alloc, target, &gone),
@@ -83,7 +85,8 @@ fn told_of_gone(
     target: &Name,
     gone: &Gone,
 ) -> Result<(Nsec3NXState, Option<Cause>, Used), NoMemory>
-    ensures { IfOk result (λ it. name_view it ≡ gone_told (take gone.now.labels (place target.now)) (shown_by gone.now.at_encloser gone.now.around) gone.now.opt_out) }
+    ensures value { IfOk result (λ it. name_view it ≡ gone_told (take gone.now.labels (place target.now)) (shown_by gone.now.at_encloser gone.now.around) gone.now.opt_out) }
+    ensures letters { IfOk result (λ it. TellsEndOf target.now it.0) }
 {
     let encloser = target.ancestor(alloc, gone.labels)?;
     if gone.opt_out {
@@ -95,7 +98,8 @@ fn told_of_gone(
 
 /// The same where a group ends the walk.
 fn told_of_end(index: usize, end: End) -> (Nsec3NXState, Option<Cause>, Used)
-    ensures { name_view result ≡ end_told index (end_view end) }
+    ensures value { name_view result ≡ end_told index (end_view end) }
+    ensures letters { (target : Labels) → TellsEndOf target result.0 }
 {
     match end {
         End::TooManyIterations => {
@@ -115,7 +119,8 @@ fn told_of_end(index: usize, end: End) -> (Nsec3NXState, Option<Cause>, Used)
 
 /// The same where nothing is shown.
 fn unshown(cause: Cause) -> (Nsec3NXState, Option<Cause>, Used)
-    ensures { name_view result ≡ (unknown, Some cause, []) }
+    ensures value { name_view result ≡ (unknown, Some cause, []) }
+    ensures letters { (target : Labels) → TellsEndOf target result.0 }
 {
     (Nsec3NXState::Nothing, Some(cause), Used::none())
 }

@@ -8,7 +8,7 @@ ghost use Rattle.dsec_nsec3.specs.Walks as walks;
 ghost use Rattle.dsec_nsec3.specs.Walks.{nsec3_for_not_exists as not_exists_of};
 ghost use Rattle.dsec_nsec3_calls.specs.Answers.{answer_of};
 ghost use Rattle.dsec_nsec3_calls.specs.Sources.{limits_view, source_view};
-ghost use Rattle.dsec_nsec3_calls.specs.Told.{denied_told, name_view, nxdomain_told, open_told, state_told};
+ghost use Rattle.dsec_nsec3_calls.specs.Told.{TellsEndOf, denied_told, name_view, nxdomain_told, open_told, state_told};
 ghost use Rattle.dsec_nsec3_calls.specs.Views.{hash_limits, source_of};
 ghost use Rattle.dsec_nsec3_calls.specs.Walked.{walk_view};
 ghost use Rattle.dsec_spec.specs.Names.{place};
@@ -40,8 +40,9 @@ pub fn nsec3_for_nxdomain<V: Verifier>(
     limits: &Limits,
     memo: &mut impl Memo<V>,
 ) -> Result<(Nsec3NXState, Option<Cause>, Used), NoMemory>
-    ensures { IfOk result (λ it. name_view it ≡ nxdomain_told (not_exists_of (hash_limits limits.now) (source_of groups.now class signer.now) (place target.now))
+    ensures value { IfOk result (λ it. name_view it ≡ nxdomain_told (not_exists_of (hash_limits limits.now) (source_of groups.now class signer.now) (place target.now))
         (nxdomain_of (hash_limits limits.now) (source_of groups.now class signer.now) (place target.now))) }
+    ensures letters { IfOk result (λ it. TellsEndOf target.now it.0) }
 {
     let source = Source {
         groups,
@@ -109,7 +110,8 @@ fn told(
     walk: Walk,
     answer: HashedAnswer,
 ) -> Result<(Nsec3NXState, Option<Cause>, Used), NoMemory>
-    ensures { IfOk result (λ it. (tells : answers.Hashed (HashedDenial ℕ)) → answer ≡ answer_of tells → name_view it ≡ nxdomain_told (walk_view target.now walk) tells) }
+    ensures value { IfOk result (λ it. (tells : answers.Hashed (HashedDenial ℕ)) → answer ≡ answer_of tells → name_view it ≡ nxdomain_told (walk_view target.now walk) tells) }
+    ensures letters { IfOk result (λ it. TellsEndOf target.now it.0) }
 {
     match answer {
         HashedAnswer::Denied(used) => {
@@ -127,7 +129,8 @@ fn told(
 
 /// The state where the target is denied, with its closest encloser.
 fn denied(alloc: Global, target: &Name, walk: Walk) -> Result<Nsec3NXState, NoMemory>
-    ensures { IfOk result (λ state. state_told state ≡ denied_told (walk_view target.now walk)) }
+    ensures value { IfOk result (λ state. state_told state ≡ denied_told (walk_view target.now walk)) }
+    ensures letters { IfOk result (λ state. TellsEndOf target.now state) }
 {
     match walk {
         Walk::Gone(gone) => {
@@ -140,7 +143,8 @@ fn denied(alloc: Global, target: &Name, walk: Walk) -> Result<Nsec3NXState, NoMe
 
 /// The state where it is left open, with its closest encloser where that was found.
 fn left_open(alloc: Global, target: &Name, walk: Walk) -> Result<Nsec3NXState, NoMemory>
-    ensures { IfOk result (λ state. state_told state ≡ open_told (walk_view target.now walk)) }
+    ensures value { IfOk result (λ state. state_told state ≡ open_told (walk_view target.now walk)) }
+    ensures letters { IfOk result (λ state. TellsEndOf target.now state) }
 {
     match walk {
         Walk::Gone(gone) => {

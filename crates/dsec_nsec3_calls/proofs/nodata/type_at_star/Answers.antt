@@ -16,6 +16,6 @@ returns g c = λ walk e.
     let n = place c.args.target.now in
     let encloser = place (rightmost gone.labels c.args.target.now) in
     of_star n (λ star. type_by_hash (limits_view source) (source_view source) star c.args.rtype) wildcard_type_gone walk c.args.target.now gone.labels gone.at_encloser gone.around gone.opt_out e
-    (place c.in-Some.star) c.of_both.result (sym (ap (option_map (λ (name : Labels). place name)) c.in-Some.is) ∙ c.in_ok-star.ensures)
+    (place c.in-Some.star) c.of_both.result (sym (ap (option_map (λ (name : Labels). place name)) c.in-Some.is) ∙ c.in_ok-star.ensures.place)
     (c.of_both.ensures (type_by_hash (limits_view source) (source_view source) (place c.in-Some.star) c.args.rtype) (wildcard_type_gone encloser gone.at_encloser gone.around)
     (by_opt_out gone.around (next_closer n encloser)) c.type_by_hash-told.ensures refl (type_uses encloser gone.at_encloser gone.around))

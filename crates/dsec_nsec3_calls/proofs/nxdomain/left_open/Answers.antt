@@ -6,7 +6,7 @@ use Rattle.dsec_nsec3_calls.specs.Walked.{walk_view}
 use Rattle.dsec_nsec3_calls.specs.declared.step.Walk.{Walk}
 use Rattle.dsec_nsec3_calls.proofs.nxdomain.left_open.Goals as goal
 
-pub returns-in_ok-encloser-in-Gone : goal.returns-in_ok-encloser-in-Gone
-returns-in_ok-encloser-in-Gone c =
+pub returns-in_ok-encloser-in-Gone-clause-value : goal.returns-in_ok-encloser-in-Gone-clause-value
+returns-in_ok-encloser-in-Gone-clause-value c =
     ap open_below (ap place c.in_ok-encloser-in-Gone.ensures ∙ front_of_place c.in-Gone.gone.labels c.args.target.now)
     ∙ ap (λ (walk : Walk). open_told (walk_view c.args.target.now walk)) (sym c.in-Gone.is)
