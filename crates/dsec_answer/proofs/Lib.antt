@@ -6,3 +6,4 @@ pub mod AskedLaws
 pub mod OutcomeLaws
 pub mod SendingLaws
 pub mod Top
+pub mod PieceLaws

@@ -93,6 +93,15 @@ why_lines index insecure why = []
 why_lines index bogus why = []
 why_lines index indeterminate why = []
 
+-- the line of an outcome, and the lines behind it
+abbrev pub head_text : ℕ → Outcome → List ℕ
+head_text index (Ok v) = verdict_line index v.outcome.state v.outcome.cause v.questions
+head_text index (Err why) = error_line index why
+
+abbrev pub rest_text : ℕ → Outcome → List ℕ
+rest_text index (Ok v) = why_lines index v.outcome.state v.outcome.why
+rest_text index (Err why) = []
+
 -- what is written for an outcome
 abbrev pub outcome_text : ℕ → Outcome → List ℕ
 outcome_text index (Ok v) = verdict_line index v.outcome.state v.outcome.cause v.questions ++ why_lines index v.outcome.state v.outcome.why

@@ -1,6 +1,6 @@
 //! Messages judged one after the other, and the texts of their outcomes sent.
 
-ghost use Rattle.std.specs.Prelude.{◌≡◌, ◌≤◌, ◌++◌, [], ℕ, List, Some, IfOk, OnOk, IsErrOf};
+ghost use Rattle.std.specs.Prelude.{◌≡◌, ◌≤◌, [], ℕ, List, Some, IfOk, OnOk, IsErrOf};
 ghost use Rattle.std.specs.Io.KnownBytes.{Appends};
 ghost use Rattle.dsec_spec.specs.Outside.{Rose, SentFront};
 ghost use Rattle.dsec_nodes.specs.Nodes.{Node};
@@ -12,15 +12,13 @@ ghost use Rattle.dsec_context.specs.Outside.{replies_of, HoldsTable};
 ghost use Rattle.dsec_answer.specs.Asked.{HoldsAmong};
 ghost use Rattle.dsec_answer.specs.Outcomes.{IsText, kept_for, world_of_script};
 ghost use Rattle.dsec_answer.specs.Sending.{ComesOver};
-ghost use Rattle.dsec_answer.specs.Texts.{outcome_text};
-ghost use Rattle.dsec_answer.specs.Told as outcomes;
 
 use crate::outcome::{Outcome, Unjudged};
-use crate::texts::push_text;
+use crate::sending::send_outcome;
 use dsec_context::ValidationContext;
 use dsec_crypto::Verifier;
 use dsec_name::NoMemory;
-use dsec_outside::{Halt, Sink, TableUpstream, send, send_block};
+use dsec_outside::{Halt, Sink, TableUpstream, send};
 use dsec_script::Item;
 use dsec_wire::Message;
 use std::alloc::Global;
@@ -61,29 +59,25 @@ fn forget_others<V: Verifier>(context: &mut ValidationContext<V>, moment: u64, i
     }
 }
 
-/// Adds the text of what comes of a message at its moment. Nodes of another moment are forgotten before.
-fn push_one<V: Verifier>(
+/// What comes of a message at its moment. Nodes of another moment are forgotten before.
+fn judge_next<V: Verifier>(
     alloc: Global,
     context: &mut ValidationContext<V>,
     upstream: &mut TableUpstream,
     moment: u64,
-    index: u64,
     item: Item,
-    out: &mut Vec<u8>,
-) -> Result<(), NoMemory>
+) -> Result<Outcome<V>, NoMemory>
     requires config { context.old.config ≡ default_settings }
     requires holds { HoldsTable (world_of_script V.accepts context.old.anchors moment) (replies_of upstream.old.replies) (Some (held_in context.old.nodes)) }
-    ensures text { OnOk result ((outcome : outcomes.Outcome) × ((kept : List Node) → HoldsAmong kept (held_in context.old.nodes)
-        → ComesOver V.accepts context.old.anchors upstream.old.replies (kept_for moment item kept) item outcome (held_in context.new.nodes))
-        × (out.new.items ≡ out.old.items ++ outcome_text index outcome)) }
+    ensures outcome { IfOk result (λ outcome. (kept : List Node) → HoldsAmong kept (held_in context.old.nodes)
+        → ComesOver V.accepts context.old.anchors upstream.old.replies (kept_for moment item kept) item outcome (held_in context.new.nodes)) }
     ensures holds { HoldsTable (world_of_script V.accepts context.old.anchors item.seconds) (replies_of upstream.old.replies) (Some (held_in context.new.nodes)) }
     ensures same_anchors { context.new.anchors ≡ context.old.anchors }
     ensures same_config { context.new.config ≡ context.old.config }
     ensures same_table { upstream.new.replies ≡ upstream.old.replies }
 {
     forget_others(context, moment, &item);
-    let outcome = judge_one(alloc, context, upstream, item)?;
-    push_text(alloc, out, index, &outcome)
+    judge_one(alloc, context, upstream, item)
 }
 
 /// Judges messages and sends the texts of their outcomes, in blocks. The context keeps no node yet.
@@ -107,9 +101,9 @@ pub fn judge_all<V: Verifier, K: Sink>(
     let mut moment = 0u64;
     for item in items {
         let seconds = item.seconds;
-        push_one(alloc, context, upstream, moment, index, item, &mut gathered)?;
+        let outcome = judge_next(alloc, context, upstream, moment, item)?;
         moment = seconds;
-        send_block(sink, &mut gathered)?;
+        send_outcome(alloc, sink, &mut gathered, index, outcome)?;
         index += 1;
     }
     send(sink, &gathered)?;

@@ -5,6 +5,7 @@ mod command;
 mod judging;
 mod outcome;
 mod script;
+mod sending;
 mod texts;
 mod used_texts;
 mod validating;

@@ -4,23 +4,20 @@ ghost use Rattle.std.specs.Prelude.{◌≡◌, ◌++◌, ◌∷◌, [], IfOk, On
 ghost use Rattle.std.specs.List.{flat_map};
 ghost use Rattle.dsec_found.specs.Outcomes.{state_view};
 ghost use Rattle.dsec_link.specs.LinkTexts.{link_line};
-ghost use Rattle.dsec_context.specs.Outcomes.{why_view};
-ghost use Rattle.dsec_answer.specs.Texts.{cause_text, error_line, error_text, group_lines, lines_by, outcome_text, state_text, status_text, verdict_line, why_lines};
+ghost use Rattle.dsec_answer.specs.Texts.{cause_text, error_line, error_text, group_lines, head_text, outcome_text, state_text, status_text, verdict_line};
 
 use crate::outcome::{Outcome, Unjudged};
-use crate::used_texts::push_used_groups;
+use crate::sending::send_text;
 use dsec_cause::Cause;
-use dsec_context::{Verdict, Why};
+use dsec_context::Verdict;
 use dsec_crypto::Verifier;
 use dsec_found::JudgedGroup;
 use dsec_group::ValidationState;
 use dsec_link::{Link, push_link};
 use dsec_name::NoMemory;
+use dsec_outside::OctetsSink;
 use dsec_word::push_number;
 use std::alloc::Global;
-
-/// Most texts of verdicts have no more octets.
-const USUAL_TEXT: usize = 1024;
 
 /// What is written for the outcome of the message of an index: a line of its own, and after a verdict `Secure` a
 /// line for each link of what shows it and of what its denials use.
@@ -31,34 +28,45 @@ pub fn text<V: Verifier>(
 ) -> Result<Vec<u8>, NoMemory>
     ensures { IfOk result (λ text. text.items ≡ outcome_text index outcome.now) }
 {
-    let mut out = Vec::with_capacity(alloc, USUAL_TEXT)?;
-    push_text(alloc, &mut out, index, outcome)?;
-    Ok(out)
+    let mut sink = OctetsSink::new(alloc);
+    let mut gathered = Vec::new(alloc);
+    // Such a sink fails only where there is no memory.
+    match send_text(alloc, &mut sink, &mut gathered, index, outcome) {
+        Ok(()) => joined(sink.octets, gathered),
+        Err(_) => Err(NoMemory),
+    }
 }
 
-/// Adds what is written for the outcome of the message of an index.
-pub(crate) fn push_text<V: Verifier>(
-    alloc: Global,
+/// Octets with others behind them.
+fn joined(front: Vec<u8>, rest: Vec<u8>) -> Result<Vec<u8>, NoMemory>
+    ensures { IfOk result (λ all. all.items ≡ front.items ++ rest.items) }
+{
+    let mut all = front;
+    all.extend_from_slice(&rest)?;
+    Ok(all)
+}
+
+/// Adds the line of an outcome.
+pub(crate) fn push_head<V: Verifier>(
     out: &mut Vec<u8>,
     index: u64,
     outcome: &Outcome<V>,
 ) -> Result<(), NoMemory>
-    ensures { OnOk result (out.new.items ≡ out.old.items ++ outcome_text index outcome.now) }
+    ensures { OnOk result (out.new.items ≡ out.old.items ++ head_text index outcome.now) }
 {
     match outcome.as_result() {
-        Ok(verdict) => push_judged(alloc, out, index, verdict),
+        Ok(verdict) => push_verdict_of(out, index, verdict),
         Err(why) => push_error(out, index, why),
     }
 }
 
-/// Adds what is written for a verdict.
-fn push_judged<V: Verifier>(
-    alloc: Global,
+/// Adds the line of a verdict on a message.
+fn push_verdict_of<V: Verifier>(
     out: &mut Vec<u8>,
     index: u64,
     verdict: &Verdict<V>,
 ) -> Result<(), NoMemory>
-    ensures { OnOk result (out.new.items ≡ out.old.items ++ outcome_text index (Ok verdict.now)) }
+    ensures { OnOk result (out.new.items ≡ out.old.items ++ head_text index (Ok verdict.now)) }
 {
     let outcome = verdict.outcome();
     push_verdict(
@@ -67,8 +75,7 @@ fn push_judged<V: Verifier>(
         outcome.state(),
         outcome.cause(),
         verdict.questions(),
-    )?;
-    push_why(alloc, out, index, outcome.state(), outcome.why())
+    )
 }
 
 /// Adds the line of a verdict.
@@ -129,61 +136,8 @@ fn push_cause(out: &mut Vec<u8>, ede: Option<Cause>) -> Result<(), NoMemory>
     Ok(())
 }
 
-/// Adds the lines of what shows a Secure outcome.
-fn push_why<V: Verifier>(
-    alloc: Global,
-    out: &mut Vec<u8>,
-    index: u64,
-    state: ValidationState,
-    why: &Why<V>,
-) -> Result<(), NoMemory>
-    ensures { OnOk result (out.new.items ≡ out.old.items ++ why_lines index (state_view state) (why_view why.now)) }
-{
-    match state {
-        ValidationState::Secure => push_reason(alloc, out, index, why),
-        ValidationState::Insecure => Ok(()),
-        ValidationState::Bogus => Ok(()),
-        ValidationState::Indeterminate => Ok(()),
-    }
-}
-
-/// Adds the lines of judged groups, and of those that denials use, if it is they.
-fn push_reason<V: Verifier>(
-    alloc: Global,
-    out: &mut Vec<u8>,
-    index: u64,
-    why: &Why<V>,
-) -> Result<(), NoMemory>
-    ensures { OnOk result (out.new.items ≡ out.old.items ++ lines_by index (why_view why.now)) }
-{
-    match why {
-        Why::ByGroups(judged, used) => {
-            push_groups(alloc, out, index, judged)?;
-            push_used_groups(alloc, out, index, used)
-        }
-        Why::ByCause(_) => Ok(()),
-        Why::ByLinks(_) => Ok(()),
-        Why::ByNothing => Ok(()),
-    }
-}
-
-/// Adds the lines of judged groups.
-fn push_groups<V: Verifier>(
-    alloc: Global,
-    out: &mut Vec<u8>,
-    index: u64,
-    judged: &[JudgedGroup<V>],
-) -> Result<(), NoMemory>
-    ensures { OnOk result (out.new.items ≡ out.old.items ++ flat_map (λ j. group_lines index j) judged.now) }
-{
-    for one in judged {
-        push_group(alloc, out, index, one)?;
-    }
-    Ok(())
-}
-
 /// Adds the lines of a judged group, if it is shown: those of its zone's links, and of its own.
-fn push_group<V: Verifier>(
+pub(crate) fn push_group<V: Verifier>(
     alloc: Global,
     out: &mut Vec<u8>,
     index: u64,

@@ -1,9 +1,9 @@
 //! What is written for the groups that denials use.
 
-ghost use Rattle.std.specs.Prelude.{◌≡◌, ◌++◌, [], OnOk};
+ghost use Rattle.std.specs.Prelude.{◌≡◌, ◌++◌, OnOk};
 ghost use Rattle.std.specs.List.{flat_map};
 ghost use Rattle.dsec_link.specs.LinkTexts.{link_line};
-ghost use Rattle.dsec_answer.specs.Texts.{first_lines, is_among as among, used_groups_lines, used_line, used_lines};
+ghost use Rattle.dsec_answer.specs.Texts.{first_lines, is_among as among, used_line, used_lines};
 
 use crate::texts::push_links;
 use dsec_context::UsedGroup;
@@ -16,23 +16,8 @@ use std::alloc::Global;
 /// How many octets a line's first word has.
 const WORD: usize = 4;
 
-/// Adds the lines of the groups that denials use, each where it is used first.
-pub(crate) fn push_used_groups<V: Verifier>(
-    alloc: Global,
-    out: &mut Vec<u8>,
-    index: u64,
-    used: &[UsedGroup<V>],
-) -> Result<(), NoMemory>
-    ensures { OnOk result (out.new.items ≡ out.old.items ++ used_groups_lines index [] used.now) }
-{
-    for place in 0..used.len() {
-        push_first(alloc, out, index, &used[..place], &used[place])?;
-    }
-    Ok(())
-}
-
 /// Adds the lines of a group that a denial uses, where it isn't among those that were used before.
-fn push_first<V: Verifier>(
+pub(crate) fn push_first<V: Verifier>(
     alloc: Global,
     out: &mut Vec<u8>,
     index: u64,

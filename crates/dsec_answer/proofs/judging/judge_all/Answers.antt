@@ -29,14 +29,14 @@ loop-item-init g c = (
       c.requires.fresh c.new-gathered.ensures.items,
 )
 
-pub returns-in_err-push_one-clause-front : goal.returns-in_err-push_one-clause-front
-returns-in_err-push_one-clause-front g c =
+pub returns-in_err-outcome-clause-front : goal.returns-in_err-outcome-clause-front
+returns-in_err-outcome-clause-front g c =
     let items = c.args.items.items in
     let n = length c.loop-item.yielded in
     so_far_front g.V.Verifier.accepts c.args.context.now.anchors c.args.upstream.now.replies (take n items) (drop n items) items _ _ _ _ _ (take-append-drop n items) c.loop-item.invariant.6
 
-pub returns-in_err-send_block-clause-front : goal.returns-in_err-send_block-clause-front
-returns-in_err-send_block-clause-front g c =
+pub returns-in_err-send_outcome-clause-front : goal.returns-in_err-send_outcome-clause-front
+returns-in_err-send_outcome-clause-front g c =
     let inv = c.loop-item.invariant in
     let items = c.args.items.items in
     let item = c.in-Some.item in
@@ -46,14 +46,15 @@ returns-in_err-send_block-clause-front g c =
     let road = YieldsList-from_vec {s = c.into_iter-item-iterator.result} items (search rules) (search rules) in
     let turn = YieldsList-turn road yielded c.loop-item.item-iterator c.loop-item.yielded_by c.next.result c.next.new.self item c.in-Some.is c.next.ensures.steps in
     let old = held_in c.loop-item.context.nodes in
-    let new = held_in c.push_one.new.context.nodes in
-    let told : (o : Outcome) × ((kept : List Node) → HoldsAmong kept old → ComesOver g.V.Verifier.accepts c.args.context.now.anchors table (kept_for c.loop-item.moment item kept) item o new)
-    × (c.push_one.new.out.items ≡ c.loop-item.gathered.items ++ outcome_text c.loop-item.index o) =
-    rw (sym inv.2, sym inv.4) c.in_ok-push_one.ensures.text in
-    let more : SoFar g.V.Verifier.accepts c.args.context.now.anchors table (take n items) item.seconds new (g.K.Sink.written c.args.sink.now) (g.K.Sink.written c.loop-item.sink) c.push_one.new.out.items =
+    let new = held_in c.judge_next.new.context.nodes in
+    let o = c.in_ok-outcome.outcome in
+    let text = c.loop-item.gathered.items ++ outcome_text c.loop-item.index o in
+    let over : (kept : List Node) → HoldsAmong kept old → ComesOver g.V.Verifier.accepts c.args.context.now.anchors table (kept_for c.loop-item.moment item kept) item o new =
+    rw (sym inv.2, sym inv.4) c.in_ok-outcome.ensures.outcome in
+    let more : SoFar g.V.Verifier.accepts c.args.context.now.anchors table (take n items) item.seconds new (g.K.Sink.written c.args.sink.now) (g.K.Sink.written c.loop-item.sink) text =
     so_far_more g.V.Verifier.accepts c.args.context.now.anchors table (take (length yielded) items) (take n items) item c.loop-item.moment old new _ _ _ _ c.loop-item.index
-    (one_more items yielded item turn.0 turn.1) (first_many items yielded c.loop-item.index turn.0 inv.1) inv.6 told in
-    so_far_front_more g.V.Verifier.accepts c.args.context.now.anchors table (take n items) (drop n items) items _ _ _ _ _ _ (take-append-drop n items) more c.in_err-send_block.ensures.front
+    (one_more items yielded item turn.0 turn.1) (first_many items yielded c.loop-item.index turn.0 inv.1) inv.6 (o, over, refl) in
+    so_far_front_more g.V.Verifier.accepts c.args.context.now.anchors table (take n items) (drop n items) items _ _ _ _ _ _ (take-append-drop n items) more c.in_err-send_outcome.ensures.front
 
 pub loop-item-preserved : goal.loop-item-preserved
 loop-item-preserved g c =
@@ -66,20 +67,21 @@ loop-item-preserved g c =
     let road = YieldsList-from_vec {s = c.into_iter-item-iterator.result} items (search rules) (search rules) in
     let turn = YieldsList-turn road yielded c.loop-item.item-iterator c.loop-item.yielded_by c.next.result c.next.new.self item c.in-Some.is c.next.ensures.steps in
     let old = held_in c.loop-item.context.nodes in
-    let new = held_in c.push_one.new.context.nodes in
-    let told : (o : Outcome) × ((kept : List Node) → HoldsAmong kept old → ComesOver g.V.Verifier.accepts c.args.context.now.anchors table (kept_for c.loop-item.moment item kept) item o new)
-    × (c.push_one.new.out.items ≡ c.loop-item.gathered.items ++ outcome_text c.loop-item.index o) =
-    rw (sym inv.2, sym inv.4) c.in_ok-push_one.ensures.text in
-    let more : SoFar g.V.Verifier.accepts c.args.context.now.anchors table (take n items) item.seconds new (g.K.Sink.written c.args.sink.now) (g.K.Sink.written c.loop-item.sink) c.push_one.new.out.items =
+    let new = held_in c.judge_next.new.context.nodes in
+    let o = c.in_ok-outcome.outcome in
+    let text = c.loop-item.gathered.items ++ outcome_text c.loop-item.index o in
+    let over : (kept : List Node) → HoldsAmong kept old → ComesOver g.V.Verifier.accepts c.args.context.now.anchors table (kept_for c.loop-item.moment item kept) item o new =
+    rw (sym inv.2, sym inv.4) c.in_ok-outcome.ensures.outcome in
+    let more : SoFar g.V.Verifier.accepts c.args.context.now.anchors table (take n items) item.seconds new (g.K.Sink.written c.args.sink.now) (g.K.Sink.written c.loop-item.sink) text =
     so_far_more g.V.Verifier.accepts c.args.context.now.anchors table (take (length yielded) items) (take n items) item c.loop-item.moment old new _ _ _ _ c.loop-item.index
-    (one_more items yielded item turn.0 turn.1) (first_many items yielded c.loop-item.index turn.0 inv.1) inv.6 told in (
-      c.in_ok-send_block.ensures.counts ∙ inv.0,
+    (one_more items yielded item turn.0 turn.1) (first_many items yielded c.loop-item.index turn.0 inv.1) inv.6 (o, over, refl) in (
+      c.in_ok-send_outcome.ensures.counts ∙ inv.0,
       ap (λ n. n + 1) inv.1 ∙ sym (length_push yielded item),
-      c.push_one.ensures.same_anchors ∙ inv.2,
-      c.push_one.ensures.same_config ∙ inv.3,
-      c.push_one.ensures.same_table ∙ inv.4,
-      rw (sym inv.2, sym inv.4) c.push_one.ensures.holds,
-      so_far_sent g.V.Verifier.accepts c.args.context.now.anchors table (take n items) _ _ _ _ _ _ _ more c.in_ok-send_block.ensures.sent,
+      c.judge_next.ensures.same_anchors ∙ inv.2,
+      c.judge_next.ensures.same_config ∙ inv.3,
+      c.judge_next.ensures.same_table ∙ inv.4,
+      rw (sym inv.2, sym inv.4) c.judge_next.ensures.holds,
+      so_far_sent g.V.Verifier.accepts c.args.context.now.anchors table (take n items) _ _ _ _ _ _ _ more c.in_ok-send_outcome.ensures.sent,
     )
 
 pub returns-in_err-send-clause-front : goal.returns-in_err-send-clause-front
