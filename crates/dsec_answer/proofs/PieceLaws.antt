@@ -63,3 +63,16 @@ rest_front a b c whole left h f = but_front_more a b c whole left [] whole (sym 
 -- a front of a text is one of a longer text
 pub front_wider : (a b : Option (List ℕ)) (text more whole : List ℕ) → whole ≡ text ++ more → SentFront a b text → SentFront a b whole
 front_wider a b text more whole e f = but_front_more a a b text text more whole e (none_sent a text) f
+
+-- an outcome's line was made: those behind it are left
+pub head_made : (a : Option (List ℕ)) (start made : List ℕ) (index : ℕ) (o : Outcome) → made ≡ start ++ head_text index o
+    → SentBut a a (start ++ outcome_text index o) (made ++ rest_text index o)
+head_made a start made index o e =
+    made_next a a (start ++ outcome_text index o) start made (head_text index o) (rest_text index o) (outcome_text index o) (none_made a start (outcome_text index o))
+    (parts index o) e
+
+-- of a text in two parts the first one went out but what is gathered: the second one is left behind that
+pub first_sent : (a b : Option (List ℕ)) (start first second rest : List ℕ) → SentBut a b (start ++ first) rest → SentBut a b (start ++ (first ++ second)) (rest ++ second)
+first_sent a b start first second rest h =
+    then_sent a a b (start ++ (first ++ second)) (start ++ first) rest second
+    (subst (SentBut a a (start ++ (first ++ second))) (sym (append_assoc start first second)) (none_sent a (start ++ (first ++ second)))) h
