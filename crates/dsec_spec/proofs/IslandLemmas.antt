@@ -4,13 +4,13 @@ use Rattle.std.specs.Prelude.{Contains, filter, nat_lt, ◌≢◌}
 use Rattle.std.proofs.lemmas.Bool.{eqb-true, eqb-false, eq-eqb, ne_eqb, cond-true, cond-false, cases_Bool, ltb-true, ltb-false}
 use Rattle.std.proofs.lemmas.Option.{same_Some}
 use Rattle.std.proofs.lemmas.List.{take_at}
-use Rattle.dsec_spec.specs.Names.{Place, place, is_below}
+use Rattle.dsec_spec.specs.Names.{Place, place, is_below, IsAtOrBelow}
 use Rattle.dsec_spec.specs.Numbers.{DS}
 use Rattle.dsec_spec.specs.Records.{Record}
 use Rattle.dsec_spec.specs.Islands.{looked_for_at, longer, longest, island}
 use Rattle.dsec_spec.specs.Sound.{IsLookedForAt, IsIsland}
 use Rattle.dsec_spec.proofs.Members.{first_in, later_in, in_more, from_filter, in_filter, from_map, in_map, not_in_none}
-use Rattle.dsec_spec.proofs.NamesBelow.{ancestors_comparable}
+use Rattle.dsec_spec.proofs.NamesBelow.{ancestors_comparable, below_antisymm}
 use Rattle.dsec_spec.proofs.SignedTests.{below_decides}
 
 -- a list that isn't empty ends by a label
@@ -132,3 +132,30 @@ island_is anchors name rtype top e =
             | inr below ↦ absurd (let l : length (place other.owner) ≡ length (top ++ below.next ∷ below.under) = ap length below.is in omega (arith, most, l, length-append top (below.next ∷ below.under)))
           ];
     }
+
+-- what is an island by the relation is it by the function
+pub island_told : (anchors : List Record) (name : Place) (rtype : ℕ) (top : Place) → IsIsland anchors name rtype top → island anchors name rtype ≡ Some top
+island_told anchors name rtype top i = by (island anchors name rtype) refl
+  where
+    from_is : i.from ≡ looked_for_at name rtype
+    from_is = one_looked_for name rtype i.from i.looked_for
+
+    places : List Place
+    places = map (λ (anchor : Record). place anchor.owner) anchors
+
+    there : Contains (filter (is_below (looked_for_at name rtype)) places) (place i.anchor.owner)
+    there = in_filter (is_below (looked_for_at name rtype)) places (place i.anchor.owner) (in_map (λ (anchor : Record). place anchor.owner) anchors i.anchor i.listed)
+        ((below_decides (looked_for_at name rtype) (place i.anchor.owner)).1 (subst (IsAtOrBelow (looked_for_at name rtype)) (sym i.stands_at) (subst (λ (p : Place). IsAtOrBelow p top) from_is i.above)))
+
+    same : (other : Place) → IsIsland anchors name rtype other → other ≡ top
+    same other j =
+        let both : j.from ≡ i.from = one_looked_for name rtype j.from j.looked_for ∙ sym from_is in
+        let higher = subst (λ (p : Place). IsAtOrBelow p other) both j.above in
+        let lower = subst (λ (p : Place). IsAtOrBelow p top) (sym both) i.above in
+        below_antisymm other top
+        (subst (IsAtOrBelow other) i.stands_at (j.longest i.anchor i.listed (subst (IsAtOrBelow j.from) (sym i.stands_at) lower)))
+        (subst (IsAtOrBelow top) j.stands_at (i.longest j.anchor j.listed (subst (IsAtOrBelow i.from) (sym j.stands_at) higher)))
+
+    by : (o : Option Place) → island anchors name rtype ≡ o → o ≡ Some top
+    by None e = absurd (none_longest (filter (is_below (looked_for_at name rtype)) places) e (place i.anchor.owner) there)
+    by (Some other) e = ap (λ (p : Place). Some p) (same other (island_is anchors name rtype other e))
