@@ -7,7 +7,7 @@ use Rattle.dsec_spec.proofs.NamesBelow.{below_root}
 use Rattle.dsec_spec.proofs.SignedTests.{below_decides}
 use Rattle.dsec_absence.specs.Tests.{common, longer}
 use Rattle.dsec_absence.proofs.EncloserLaws.{longest_seen}
-use Rattle.dsec_negative.proofs.PlaceLaws.{front_of_place}
+use Rattle.dsec_spec.proofs.PlaceLemmas.{front_of_place}
 
 -- one of two names is at or below so many labels of a name next to the root
 abbrev pub IsSeen : Place → Place → Place → ℕ → Type 0

@@ -7,7 +7,7 @@ use Rattle.dsec_spec.specs.Names.{Labels, Place, place, same_place, is_below}
 use Rattle.dsec_spec.specs.Numbers.{CNAME, DS, DNAME}
 use Rattle.dsec_spec.specs.DenyingRecords.{NsecAt, owner_of, next_of, has}
 use Rattle.dsec_absence.specs.Tests.{Shown, refutes, denies, covers, is_above_cut, is_apex, is_ds_above, own_shows, shows_type, encloser_by, shows_missing}
-use Rattle.dsec_negative.proofs.PlaceLaws.{length_of_place}
+use Rattle.dsec_spec.proofs.PlaceLemmas.{length_of_place}
 
 module _ (r : NsecAt) (n : Place) (q : ℕ) where
   module _ (no_type : has r q ≡ false) (no_alias : has r CNAME ≡ false) where

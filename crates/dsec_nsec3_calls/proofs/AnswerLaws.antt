@@ -4,7 +4,7 @@ use Rattle.dsec_cause.specs.declared.cause.Cause.TheVariants.{WildcardTooLong}
 use Rattle.dsec_spec.specs.Names.{Labels, Place, place}
 use Rattle.dsec_spec.specs.SignedBytes.{rightmost}
 use Rattle.dsec_absence.specs.Answers.{star_closest_encloser}
-use Rattle.dsec_negative.proofs.PlaceLaws.{front_of_place}
+use Rattle.dsec_spec.proofs.PlaceLemmas.{front_of_place}
 use Rattle.dsec_nsec3.specs.HashedAnswers.{Hashed, next_closer, told_by_walk, told_of_both}
 use Rattle.dsec_nsec3.specs.HashedDenials.{HashedDenial, hashed_used_in, name_gone, wildcard_type_gone}
 use Rattle.dsec_nsec3.specs.Openings.{by_opt_out}

@@ -11,7 +11,7 @@ use Rattle.dsec_spec.specs.Base32hex.{digit_of, digits_of, number_of, characters
 use Rattle.dsec_spec.specs.Names.{Labels, Place, lower, place, same_place, is_below, label_count}
 use Rattle.dsec_spec.specs.RecordViews.{Nsec3}
 use Rattle.dsec_spec.proofs.CanonicalNames.{same_place_decides}
-use Rattle.dsec_negative.proofs.PlaceLaws.{length_of_place}
+use Rattle.dsec_spec.proofs.PlaceLemmas.{length_of_place}
 use Rattle.dsec_nsec3.specs.Counting.{HashLimits, HashedSighting, ignored, by_label, by_owner}
 use Rattle.dsec_nsec3_calls.specs.Views.{is_label_above}
 

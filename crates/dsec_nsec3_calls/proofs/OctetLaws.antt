@@ -5,7 +5,7 @@ use Rattle.std.specs.List.{flat_map}
 use Rattle.std.proofs.lemmas.List.{length-map, reverse-reverse}
 use Rattle.dsec_spec.specs.Names.{Labels, lower, place, label_octets, wire_octets, canonical_octets}
 use Rattle.dsec_spec.specs.SignedBytes.{rightmost}
-use Rattle.dsec_negative.proofs.PlaceLaws.{front_of_place}
+use Rattle.dsec_spec.proofs.PlaceLemmas.{front_of_place}
 use Rattle.dsec_nsec3_calls.specs.Views.{place_octets}
 
 -- the canonical octets of a name are those of its place

@@ -1,5 +1,6 @@
 pub mod NameOrder
 pub mod NamesBelow
+pub mod PlaceLemmas
 pub mod CanonicalNames
 pub mod ReadingLemmas
 pub mod WireNameLemmas

@@ -1,4 +1,3 @@
-pub mod Places
 pub mod Worlds
 pub mod Heard
 pub mod Making

@@ -7,7 +7,7 @@ use dsec_name::{Name, NoMemory};
 use std::alloc::Global;
 
 /// How many labels a name has, without the root's.
-#[tactic(auto, using(crate::proofs::Places::length_of_place))]
+#[tactic(auto, using(dsec_spec::proofs::PlaceLemmas::length_of_place))]
 pub(crate) fn labels(name: &Name) -> usize
     ensures { result ≡ length (place name.now) }
 {
@@ -15,7 +15,7 @@ pub(crate) fn labels(name: &Name) -> usize
 }
 
 /// The name of so many of the labels next to the root.
-#[tactic(auto, using(crate::proofs::Places::front_of_place))]
+#[tactic(auto, using(dsec_spec::proofs::PlaceLemmas::front_of_place))]
 pub(crate) fn front(alloc: Global, name: &Name, labels: usize) -> Result<Name, NoMemory>
     ensures { IfOk result (λ above. place above ≡ take labels (place name.now)) }
 {

@@ -1,6 +1,6 @@
 use Rattle.std.proofs.Common.{◌≡◌, ◌+◌, ℕ, take, refl, sym, ap, ◌∙◌}
 use Rattle.dsec_spec.specs.Names.{place}
-use Rattle.dsec_negative.proofs.PlaceLaws.{front_of_place, length_of_place}
+use Rattle.dsec_spec.proofs.PlaceLemmas.{front_of_place, length_of_place}
 use Rattle.dsec_nsec3.specs.HashedAnswers.{as_told, next_closer, nsec3_for_not_exists_no_ce}
 use Rattle.dsec_nsec3.specs.HashedDenials.{closer_gone}
 use Rattle.dsec_nsec3_calls.specs.Sources.{limits_view, source_view}

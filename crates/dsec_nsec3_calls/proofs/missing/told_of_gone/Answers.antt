@@ -1,6 +1,6 @@
 use Rattle.std.proofs.Common.{take, ap, ◌∙◌}
 use Rattle.dsec_spec.specs.Names.{place}
-use Rattle.dsec_negative.proofs.PlaceLaws.{front_of_place}
+use Rattle.dsec_spec.proofs.PlaceLemmas.{front_of_place}
 use Rattle.dsec_nsec3_calls.specs.Walked.{shown_by}
 use Rattle.dsec_nsec3_calls.proofs.ToldLaws.{gone_open, gone_closed}
 use Rattle.dsec_nsec3_calls.proofs.missing.told_of_gone.Goals as goal

@@ -1,6 +1,6 @@
 use Rattle.std.proofs.Common.{sym, ap, ◌∙◌}
 use Rattle.dsec_spec.specs.Names.{place}
-use Rattle.dsec_negative.proofs.PlaceLaws.{front_of_place}
+use Rattle.dsec_spec.proofs.PlaceLemmas.{front_of_place}
 use Rattle.dsec_nsec3_calls.specs.Told.{open_told, open_below}
 use Rattle.dsec_nsec3_calls.specs.Walked.{walk_view}
 use Rattle.dsec_nsec3_calls.specs.declared.step.Walk.{Walk}

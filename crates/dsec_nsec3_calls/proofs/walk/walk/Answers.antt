@@ -6,7 +6,7 @@ use Rattle.dsec_nsec3_calls.specs.Views.{place_octets}
 use Rattle.dsec_nsec3_calls.specs.Walked.{candidate_view}
 use Rattle.dsec_nsec3_calls.proofs.OctetLaws.{above_octets, octets_of_place}
 use Rattle.dsec_nsec3_calls.proofs.WalkLaws.{same_walk, walk_ends, walk_goes, walk_stops}
-use Rattle.dsec_negative.proofs.PlaceLaws.{length_of_place}
+use Rattle.dsec_spec.proofs.PlaceLemmas.{length_of_place}
 use Rattle.dsec_nsec3.specs.Walks.{is_signer}
 use Rattle.dsec_nsec3_calls.proofs.walk.walk.Goals as goal
 

@@ -1,4 +1,4 @@
--- Places of names above a name.
+-- The place of a name, and those of names above it.
 use Rattle.std.proofs.Common.{◌≡◌, ℕ, ◌-◌, ◌≤◌, inl, inr, ◌++◌, length, map, take, drop, reverse, sym, ap, ◌∙◌, arith}
 use Rattle.std.specs.Char.{to_ascii_lowercase}
 use Rattle.std.proofs.lemmas.Bool.{cases_lt}
