@@ -1,7 +1,7 @@
 -- A message whose answer stands at an anchor: its node is asked for and not held, its key set is asked for and not told, and the message is bogus.
 use Rattle.std.proofs.Common.{◌≡◌, ℕ, List, [], ◌∷◌, None, Ok, refl}
-use Rattle.std.specs.Prelude.{codes, false}
-use Rattle.dsec_spec.specs.Names.{Labels, place}
+use Rattle.std.specs.Prelude.{false}
+use Rattle.dsec_spec.specs.Names.{place}
 use Rattle.dsec_spec.specs.Records.{Record}
 use Rattle.dsec_spec.specs.Messages.{question_at, record_at, data_at, parts_at, questions_of, answers_of, authorities_of}
 use Rattle.dsec_spec.specs.Reading.{many_of}
@@ -9,19 +9,18 @@ use Rattle.dsec_spec.specs.WireNames.{name_at, name_within}
 use Rattle.dsec_spec.specs.Groups.{Group, firsts}
 use Rattle.dsec_spec.specs.Islands.{longest}
 use Rattle.dsec_spec.specs.Redirection as redirection
+use Rattle.dsec_spec.proofs.ChainExample.{example}
 use Rattle.dsec_nodes.specs.World.{World, Replies}
 use Rattle.dsec_nodes.specs.Causes.{NoDnskeyForAnchor}
 use Rattle.dsec_nodes.specs.Nodes.{Node}
 use Rattle.dsec_nodes.specs.Outcomes.{by_links, bogus_by}
 use Rattle.dsec_nodes.specs.Alone.{alone}
 use Rattle.dsec_nodes.specs.Machine.{Input, node, reply}
+use Rattle.dsec_nodes.proofs.NodeExamples as nodes
 use Rattle.dsec_course.specs.Course.{to_begin, Course, get_node, end_with}
 use Rattle.dsec_course.specs.Advancing.{beginning, begun, going_on}
 use Rattle.dsec_course.specs.Hearing.{first_run, AreHeard, after_heard}
 use Rattle.dsec_course.proofs.RunLaws.{ends_from_nothing}
-
-abbrev example : Labels
-example = codes "example" ∷ []
 
 -- the address of `example.` is asked for, and told without a signature
 abbrev pub message : List ℕ
@@ -41,16 +40,7 @@ abbrev pub w : World
 w = record {
   accepts = λ flags protocol algorithm octets message signature. false;
   anchors = record { owner = example; class = 1; rtype = 48; ttl = 0; rdata = 1 ∷ 1 ∷ 3 ∷ 13 ∷ 1 ∷ 2 ∷ [] } ∷ [];
-  bounds = record {
-    room = 2;
-    max_validity = 600;
-    max_bogus_validity = 30;
-    max_ds_records = 20;
-    max_keys_for_ds = 4;
-    iterations_insecure = 100;
-    iterations_bogus = 500;
-    most_hashes = 60;
-  };
+  bounds = nodes.w.bounds;
   now = 500;
 }
 

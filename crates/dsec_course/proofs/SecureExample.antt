@@ -12,13 +12,13 @@ use Rattle.dsec_spec.specs.Groups.{Group, firsts}
 use Rattle.dsec_spec.specs.Lasting.{least_ttl}
 use Rattle.dsec_spec.specs.Islands.{longest}
 use Rattle.dsec_spec.specs.Redirection as redirection
+use Rattle.dsec_spec.proofs.ChainExample.{example as parent, zone_key}
 use Rattle.dsec_alias.specs.Following.{do_cname_dname}
 use Rattle.dsec_nodes.specs.World.{World}
 use Rattle.dsec_nodes.specs.Nodes.{Node}
 use Rattle.dsec_nodes.specs.Outcomes.{State, secure}
 use Rattle.dsec_nodes.specs.Machine.{Question as Asked, Input, node, stored, reply}
 use Rattle.dsec_nodes.proofs.NodeExamples as nodes
-use Rattle.dsec_nodes.proofs.NodeExamples.{parent, zone_key}
 use Rattle.dsec_course.specs.Course.{to_begin, Course, CourseStep, get_node, put_node, ask_for, end_with, asked_in}
 use Rattle.dsec_course.specs.Advancing.{beginning, begun, going_on}
 use Rattle.dsec_course.specs.Hearing.{first_run, AreHeard, after_heard}

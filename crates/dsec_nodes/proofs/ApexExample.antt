@@ -16,6 +16,8 @@ use Rattle.dsec_spec.specs.Lasting.{least_ttl}
 use Rattle.dsec_spec.specs.Trying.{tried}
 use Rattle.dsec_spec.specs.Chain as chain
 use Rattle.dsec_spec.proofs.DelegationLaws.{speaks_decides}
+use Rattle.dsec_spec.proofs.ChainExample.{example as parent, zone_key}
+use Rattle.dsec_spec.proofs.DelegationExample.{child}
 use Rattle.dsec_nodes.specs.World.{World, moment}
 use Rattle.dsec_nodes.specs.Nodes.{Node, apex, bogus}
 use Rattle.dsec_nodes.specs.Admission.{matching, admitted_at, admitted_signs, ds_search}
@@ -23,7 +25,7 @@ use Rattle.dsec_nodes.specs.Causes.{NoSignature}
 use Rattle.dsec_nodes.specs.Walk.{by_anchor_reply}
 use Rattle.dsec_nodes.specs.Replies.{sections}
 use Rattle.dsec_nodes.specs.ByDs.{Pending, by_tried, by_key_reply}
-use Rattle.dsec_nodes.proofs.NodeExamples.{parent, child, zone_key, w, zone}
+use Rattle.dsec_nodes.proofs.NodeExamples.{w, zone}
 
 -- the digest of the child's key by SHA-256
 abbrev digest : List ℕ

@@ -13,6 +13,7 @@ use Rattle.dsec_spec.specs.Groups.{firsts}
 use Rattle.dsec_spec.specs.Lasting.{least_ttl}
 use Rattle.dsec_spec.specs.Islands.{longest}
 use Rattle.dsec_spec.specs.Redirection as redirection
+use Rattle.dsec_spec.proofs.ChainExample.{example as parent, zone_key}
 use Rattle.dsec_absence.specs.Tests.{common}
 use Rattle.dsec_absence.specs.Answers.{search}
 use Rattle.dsec_nsec3.specs.Walks.{walk_from}
@@ -24,7 +25,6 @@ use Rattle.dsec_nodes.specs.Outcomes.{State, secure, bogus, Why, by_groups, by_c
 use Rattle.dsec_nodes.specs.Judging.{judged_all}
 use Rattle.dsec_nodes.specs.Alone.{Refusal, alone}
 use Rattle.dsec_nodes.proofs.NodeExamples as nodes
-use Rattle.dsec_nodes.proofs.NodeExamples.{parent, zone_key}
 
 -- an anchor: the DNSKEY record of `example.`
 abbrev w : World

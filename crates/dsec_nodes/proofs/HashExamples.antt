@@ -9,13 +9,15 @@ use Rattle.dsec_spec.specs.RecordViews.{Nsec3, nsec3_octets}
 use Rattle.dsec_spec.specs.Signed.{signs}
 use Rattle.dsec_spec.specs.Groups.{Group}
 use Rattle.dsec_spec.specs.Lasting.{least_ttl}
+use Rattle.dsec_spec.proofs.ChainExample.{example as parent, zone_key}
+use Rattle.dsec_spec.proofs.DelegationExample.{child}
 use Rattle.dsec_nodes.specs.Causes.{Nsec3IterationsTooHigh, Nsec3UnsupportedAlgorithm, Nsec3BadOwnerHash, Nsec3FromWrongZone, Nsec3ForDsFromApex, Nsec3ProvesNameMissingForDs, NoProofForMissingDs}
 use Rattle.dsec_nodes.specs.Nodes.{bogus, nsec3_without_ds, nsec3_opts_out, nsec3_iterates}
 use Rattle.dsec_nodes.specs.ByDs.{Below, made}
 use Rattle.dsec_nodes.specs.Looking.{passed, by_looked}
 use Rattle.dsec_nodes.specs.MissingByHash.{by_hash_gap, by_hashes}
 use Rattle.dsec_nodes.specs.MissingDs.{looked_among}
-use Rattle.dsec_nodes.proofs.NodeExamples.{parent, child, zone_key, w, zone, signed, comes_to, standing_of, basis_in}
+use Rattle.dsec_nodes.proofs.NodeExamples.{w, zone, signed, comes_to, standing_of, basis_in}
 
 -- NSEC3 data: from the hash that the owner writes to this one, with the types of one octet of bits
 abbrev gap : ℕ → ℕ → ℕ → List ℕ → ℕ → Nsec3

@@ -1,35 +1,21 @@
 -- What replies to the question for the DS set of `sub.example.` come to below `example.`: names that are insecure, within the zone, bogus, or
 -- whose key set is asked for.
-use Rattle.std.proofs.Common.{◌≡◌, ℕ, false, List, [], ◌∷◌, ◌++◌, Option, Some, None, refl, ◌&&◌}
-use Rattle.std.specs.Prelude.{codes}
-use Rattle.std.specs.Str.{bytes_eq}
-use Rattle.dsec_spec.specs.Names.{Labels, place, wire_octets}
+use Rattle.std.proofs.Common.{◌≡◌, ℕ, false, List, [], ◌∷◌, ◌++◌, Option, Some, None, refl}
+use Rattle.dsec_spec.specs.Names.{place, wire_octets}
 use Rattle.dsec_spec.specs.RecordData.{labels_in, name_in, blocks_in}
-use Rattle.dsec_spec.specs.Records.{Key, key_octets, Record, rrsig_octets, rrsig_of}
-use Rattle.dsec_spec.specs.Accepts.{Accepts}
+use Rattle.dsec_spec.specs.Records.{key_octets, Record, rrsig_octets, rrsig_of}
 use Rattle.dsec_spec.specs.Signed.{signs}
 use Rattle.dsec_spec.specs.Groups.{Group}
 use Rattle.dsec_spec.specs.Lasting.{least_ttl}
 use Rattle.dsec_spec.specs.Chain as chain
+use Rattle.dsec_spec.proofs.ChainExample.{example as parent, zone_key}
+use Rattle.dsec_spec.proofs.DelegationExample.{child, accepts_nine, sig_over}
 use Rattle.dsec_nodes.specs.World.{World}
 use Rattle.dsec_nodes.specs.Causes.{Cause, NsecForDsFromWildcard, NsecProvesDs, NoSupportedDs, NoProofForMissingDs, BadSignature}
 use Rattle.dsec_nodes.specs.Nodes.{Node, Standing, apex, within, insecure, bogus, Ground, nsec_without_ds, ds_not_supported}
 use Rattle.dsec_nodes.specs.Replies.{sections}
 use Rattle.dsec_nodes.specs.MissingDs.{looked_among}
 use Rattle.dsec_nodes.specs.ByDs.{Below, made, asks, by_ds_reply}
-
-abbrev pub parent : Labels
-parent = codes "example" ∷ []
-
-abbrev pub child : Labels
-child = codes "sub" ∷ codes "example" ∷ []
-
-abbrev pub zone_key : Key
-zone_key = record { flags = 257; protocol = 3; algorithm = 13; public_key = 1 ∷ 2 ∷ [] }
-
--- a verifier that accepts one signature by the key, over any message
-abbrev accepts_nine : Accepts
-accepts_nine flags protocol algorithm octets message signature = bytes_eq octets (1 ∷ 2 ∷ []) && bytes_eq signature (9 ∷ [])
 
 abbrev pub w : World
 w = record {
@@ -60,25 +46,9 @@ zone = record {
   bounds = w.bounds;
 }
 
--- a signature from 0 to 1000 by the key of `example.`, over so many labels
+-- a signature by the key of `example.`, over so many labels
 abbrev pub signed : ℕ → ℕ → Record
-signed covered labels = record {
-  owner = child;
-  class = 1;
-  rtype = 46;
-  ttl = 300;
-  rdata = rrsig_octets (record {
-    covered = covered;
-    algorithm = 13;
-    labels = labels;
-    original_ttl = 3600;
-    expiration = 1000;
-    inception = 0;
-    tag = 1296;
-    signer = parent;
-    signature = 9 ∷ [];
-  });
-}
+signed covered labels = record { owner = child; class = 1; rtype = 46; ttl = 300; rdata = rrsig_octets (sig_over covered labels parent) }
 
 -- one record of `sub.example.` with its signature
 abbrev set_of_one : ℕ → List ℕ → Record → Group

@@ -1,19 +1,16 @@
 -- An ordinary reply, and so a message that is Secure: the address of `www.example.`, under the key of `example.` as the only anchor.
-use Rattle.std.proofs.Common.{◌≡◌, ℕ, List, [], ◌∷◌, ◌++◌, refl, arith, rules, ◌&&◌, ◌||◌, ◌==◌, if◌then◌else◌}
-use Rattle.std.specs.Prelude.{codes, find, Some, None, false}
-use Rattle.std.specs.Str.{bytes_eq}
-use Rattle.dsec_spec.specs.Names.{Labels, place, same_place, wire_octets}
+use Rattle.std.proofs.Common.{◌≡◌, ℕ, List, [], ◌∷◌, refl, arith, rules, ◌&&◌, ◌==◌, if◌then◌else◌}
+use Rattle.std.specs.Prelude.{find, Some, None, false}
+use Rattle.dsec_spec.specs.Names.{Labels, place, same_place}
 use Rattle.dsec_spec.specs.Numbers.{DNSKEY}
 use Rattle.dsec_spec.specs.RecordData.{parts_in, labels_in, name_in}
-use Rattle.dsec_spec.specs.Records.{Key, Record, Rrsig, rrsig_octets, rrsig_of, beside}
-use Rattle.dsec_spec.specs.SignedBytes.{inserted, ascending}
-use Rattle.dsec_spec.specs.Accepts.{Accepts}
-use Rattle.dsec_spec.specs.Signed.{Signed}
+use Rattle.dsec_spec.specs.Records.{Record, rrsig_octets, rrsig_of}
 use Rattle.dsec_spec.specs.Messages.{question_at, data_at, parts_at, record_at, questions_of, answers_of, authorities_of, opt_of, first_opt, rcode_of, Question}
 use Rattle.dsec_spec.specs.WireNames.{name_within, name_at}
 use Rattle.dsec_spec.specs.Reading.{many_of}
 use Rattle.dsec_spec.specs.WrittenMessages.{Written, message_octets}
-use Rattle.dsec_spec.specs.Groups.{Group, firsts, groups_of, set_in}
+use Rattle.dsec_spec.specs.Groups.{Group, firsts, groups_of}
+use Rattle.dsec_spec.proofs.ChainExample.{example, www, zone_key, key_set_sig, address_sig, accepts_two, anchor, key_set_sig_read, address_sig_read, key_set_signed, address_signed}
 use Rattle.dsec_nodes.specs.World.{World, Replies}
 use Rattle.dsec_nodes.specs.Replies.{sections, read_reply}
 use Rattle.dsec_nodes.specs.Signing.{is_set_at}
@@ -25,59 +22,7 @@ use Rattle.dsec_plain.specs.Coming.{IsSecureBy}
 use Rattle.dsec_plain.proofs.PlainLaws.{counts_all}
 use Rattle.dsec_plain.proofs.Completeness.{complete}
 
-abbrev example : Labels
-example = codes "example" ∷ []
-
-abbrev www : Labels
-www = codes "www" ∷ codes "example" ∷ []
-
-abbrev zone_key : Key
-zone_key = record { flags = 257; protocol = 3; algorithm = 13; public_key = 1 ∷ 2 ∷ [] }
-
-abbrev key_data : List ℕ
-key_data = 1 ∷ 1 ∷ 3 ∷ 13 ∷ 1 ∷ 2 ∷ []
-
--- a signature by the key, from 0 to 1000
-abbrev sig_over : ℕ → ℕ → List ℕ → Rrsig
-sig_over covered labels signature = record {
-  covered = covered;
-  algorithm = 13;
-  labels = labels;
-  original_ttl = 3600;
-  expiration = 1000;
-  inception = 0;
-  tag = 1296;
-  signer = example;
-  signature = signature;
-}
-
-abbrev key_set_sig : Rrsig
-key_set_sig = sig_over 48 1 (7 ∷ [])
-
-abbrev address_sig : Rrsig
-address_sig = sig_over 1 2 (8 ∷ [])
-
--- what is signed of the DNSKEY set, in octets
-abbrev key_message : List ℕ
-key_message =
-    0 ∷ 48 ∷ 13 ∷ 1 ∷ 0 ∷ 0 ∷ 14 ∷ 16 ∷ 0 ∷ 0 ∷ 3 ∷ 232 ∷ 0 ∷ 0 ∷ 0 ∷ 0 ∷ 5 ∷ 16 ∷ wire_octets example
-    ++ wire_octets example ++ 0 ∷ 48 ∷ 0 ∷ 1 ∷ 0 ∷ 0 ∷ 14 ∷ 16 ∷ 0 ∷ 6 ∷ key_data
-
--- what is signed of the address
-abbrev address_message : List ℕ
-address_message =
-    0 ∷ 1 ∷ 13 ∷ 2 ∷ 0 ∷ 0 ∷ 14 ∷ 16 ∷ 0 ∷ 0 ∷ 3 ∷ 232 ∷ 0 ∷ 0 ∷ 0 ∷ 0 ∷ 5 ∷ 16 ∷ wire_octets example
-    ++ wire_octets www ++ 0 ∷ 1 ∷ 0 ∷ 1 ∷ 0 ∷ 0 ∷ 14 ∷ 16 ∷ 0 ∷ 4 ∷ 192 ∷ 0 ∷ 2 ∷ 1 ∷ []
-
--- a verifier that accepts one signature, an octet, over each of these
-abbrev accepts_two : Accepts
-accepts_two flags protocol algorithm key message signature =
-    (bytes_eq message key_message && bytes_eq signature (7 ∷ [])) || (bytes_eq message address_message && bytes_eq signature (8 ∷ []))
-
--- the zone's key, which is the anchor, and the address, each with its signature
-abbrev key_record : Record
-key_record = record { owner = example; class = 1; rtype = 48; ttl = 3600; rdata = key_data }
-
+-- the key's signature, and the address with its own
 abbrev key_signature : Record
 key_signature = record { owner = example; class = 1; rtype = 46; ttl = 3600; rdata = rrsig_octets key_set_sig }
 
@@ -99,7 +44,7 @@ reply_to name rtype answers = record {
 }
 
 abbrev key_reply_octets : List ℕ
-key_reply_octets = message_octets (reply_to example 48 (key_record ∷ key_signature ∷ []))
+key_reply_octets = message_octets (reply_to example 48 (anchor ∷ key_signature ∷ []))
 
 -- the message: the address, asked for by its name and type
 abbrev pub message : List ℕ
@@ -113,7 +58,7 @@ replies name rtype = if same_place name (place example) && (rtype == DNSKEY) the
 abbrev pub world : World
 world = record {
   accepts = accepts_two;
-  anchors = key_record ∷ [];
+  anchors = anchor ∷ [];
   bounds = record {
     room = 1;
     max_validity = 604800;
@@ -128,7 +73,7 @@ world = record {
 }
 
 abbrev keys : Group
-keys = record { owner = example; class = 1; rtype = 48; records = key_record ∷ []; signatures = key_signature ∷ []; extra = []; had_duplicate = false }
+keys = record { owner = example; class = 1; rtype = 48; records = anchor ∷ []; signatures = key_signature ∷ []; extra = []; had_duplicate = false }
 
 abbrev group : Group
 group = record { owner = www; class = 1; rtype = 1; records = address ∷ []; signatures = address_signature ∷ []; extra = []; had_duplicate = false }
@@ -137,14 +82,6 @@ abbrev question : Question
 question = record { name = www; rtype = 1; class = 1 }
 
 -- ---- what is read
-
-key_set_sig_read : rrsig_of (rrsig_octets key_set_sig) ≡ Some key_set_sig
-unfolding rrsig_of name_in labels_in
-key_set_sig_read = refl
-
-address_sig_read : rrsig_of (rrsig_octets address_sig) ≡ Some address_sig
-unfolding rrsig_of name_in labels_in
-address_sig_read = refl
 
 sections_read : sections_of message ≡ Some (question ∷ [], address ∷ address_signature ∷ [], [])
 unfolding message_octets name_within name_at question_at parts_at data_at record_at many_of questions_of answers_of authorities_of
@@ -167,38 +104,6 @@ one_group = refl
 
 -- ---- what is signed
 
-key_set_signed : Signed accepts_two (set_in keys) (beside (set_in keys) key_set_sig) zone_key (place example) 500
-unfolding inserted ascending parts_in
-key_set_signed = record {
-  same_owner = refl;
-  same_class = refl;
-  covers = refl;
-  signer = refl;
-  within = record { under = []; is = refl };
-  labels = omega arith;
-  algorithm = refl;
-  tag = refl;
-  zone_key = record { flag = refl; of_dnssec = refl };
-  period = record { ordered = omega arith; within = omega arith };
-  accepted = refl;
-}
-
-address_signed : Signed accepts_two (set_in group) (beside (set_in group) address_sig) zone_key (place example) 500
-unfolding inserted ascending parts_in
-address_signed = record {
-  same_owner = refl;
-  same_class = refl;
-  covers = refl;
-  signer = refl;
-  within = record { under = codes "www" ∷ []; is = refl };
-  labels = omega arith;
-  algorithm = refl;
-  tag = refl;
-  zone_key = record { flag = refl; of_dnssec = refl };
-  period = record { ordered = omega arith; within = omega arith };
-  accepted = refl;
-}
-
 keys_once : IsSignedOnce world keys (place example) (zone_key ∷ [])
 unfolding rrsig_of name_in labels_in
 keys_once =
@@ -211,7 +116,7 @@ address_once =
 
 has_keys : HasPlainKeys world replies keys
 has_keys = record {
-  anchor = key_record;
+  anchor = anchor;
   only = refl;
   of_class = refl;
   of_type = refl;

@@ -1,32 +1,32 @@
 -- A chain that holds: the key of `example.` as an anchor, its DNSKEY set, and the address of `www.example.`.
 use Rattle.std.proofs.Common.{◌≡◌, ℕ, List, [], ◌∷◌, ◌++◌, refl, sym, ap, ◌∙◌, subst, inl, arith, rules, ◌&&◌, ◌||◌}
-use Rattle.std.specs.Prelude.{codes, None, Some}
+use Rattle.std.specs.Prelude.{codes, length, IsTrue, None, Some, ◌≤◌}
 use Rattle.std.specs.Str.{bytes_eq}
 use Rattle.std.proofs.lemmas.Option.{same_Some}
-use Rattle.dsec_spec.specs.Names.{Labels, place, wire_octets}
+use Rattle.dsec_spec.specs.Names.{Labels, place, wire_octets, IsAtOrBelow}
 use Rattle.dsec_spec.specs.RecordData.{parts_in, labels_in, name_in}
 use Rattle.dsec_spec.specs.Records.{Key, Record, Rrsig, rrsig_octets, rrsig_of, RecordSet, beside}
 use Rattle.dsec_spec.specs.Period.{InPeriod}
-use Rattle.dsec_spec.specs.SignedBytes.{inserted, ascending}
+use Rattle.dsec_spec.specs.SignedBytes.{inserted, ascending, signed_bytes}
 use Rattle.dsec_spec.specs.Accepts.{Accepts}
 use Rattle.dsec_spec.specs.Signed.{Signed}
 use Rattle.dsec_spec.specs.Chain.{Link, anchor_key, set, IsAnchorKeyLink, IsSetLink, Holds}
 
-abbrev example : Labels
+abbrev pub example : Labels
 example = codes "example" ∷ []
 
-abbrev www : Labels
+abbrev pub www : Labels
 www = codes "www" ∷ codes "example" ∷ []
 
-abbrev zone_key : Key
+abbrev pub zone_key : Key
 zone_key = record { flags = 257; protocol = 3; algorithm = 13; public_key = 1 ∷ 2 ∷ [] }
 
-abbrev key_data : List ℕ
+abbrev pub key_data : List ℕ
 key_data = 1 ∷ 1 ∷ 3 ∷ 13 ∷ 1 ∷ 2 ∷ []
 
--- a signature by the key, from 0 to 1000
-abbrev sig_over : ℕ → ℕ → List ℕ → Rrsig
-sig_over covered labels signature = record {
+-- a signature of a zone by the key, from 0 to 1000
+abbrev pub sig_by : Labels → List ℕ → ℕ → ℕ → Rrsig
+sig_by zone signature covered labels = record {
   covered = covered;
   algorithm = 13;
   labels = labels;
@@ -34,15 +34,15 @@ sig_over covered labels signature = record {
   expiration = 1000;
   inception = 0;
   tag = 1296;
-  signer = example;
+  signer = zone;
   signature = signature;
 }
 
-abbrev key_set_sig : Rrsig
-key_set_sig = sig_over 48 1 (7 ∷ [])
+abbrev pub key_set_sig : Rrsig
+key_set_sig = sig_by example (7 ∷ []) 48 1
 
-abbrev address_sig : Rrsig
-address_sig = sig_over 1 2 (8 ∷ [])
+abbrev pub address_sig : Rrsig
+address_sig = sig_by example (8 ∷ []) 1 2
 
 abbrev key_set : RecordSet
 key_set = record { owner = example; class = 1; rtype = 48; datas = key_data ∷ [] }
@@ -63,11 +63,11 @@ address_message =
     ++ wire_octets www ++ 0 ∷ 1 ∷ 0 ∷ 1 ∷ 0 ∷ 0 ∷ 14 ∷ 16 ∷ 0 ∷ 4 ∷ 192 ∷ 0 ∷ 2 ∷ 1 ∷ []
 
 -- a verifier that accepts one signature, an octet, over each of these
-abbrev accepts_two : Accepts
+abbrev pub accepts_two : Accepts
 accepts_two flags protocol algorithm key message signature =
     (bytes_eq message key_message && bytes_eq signature (7 ∷ [])) || (bytes_eq message address_message && bytes_eq signature (8 ∷ []))
 
-abbrev anchor : Record
+abbrev pub anchor : Record
 anchor = record { owner = example; class = 1; rtype = 48; ttl = 3600; rdata = key_data }
 
 abbrev anchor_link : Link
@@ -77,45 +77,39 @@ abbrev address_link : Link
 address_link = record { kind = set; records = address_set; via = None; signing_key = key_data; rrsig = rrsig_octets address_sig }
 
 -- the RRSIGs' data say them
-key_set_sig_read : rrsig_of (rrsig_octets key_set_sig) ≡ Some key_set_sig
+pub key_set_sig_read : rrsig_of (rrsig_octets key_set_sig) ≡ Some key_set_sig
 unfolding rrsig_of name_in labels_in
 key_set_sig_read = refl
 
-address_sig_read : rrsig_of (rrsig_octets address_sig) ≡ Some address_sig
+pub address_sig_read : rrsig_of (rrsig_octets address_sig) ≡ Some address_sig
 unfolding rrsig_of name_in labels_in
 address_sig_read = refl
 
-key_set_signed : Signed accepts_two key_set (beside key_set key_set_sig) zone_key (place example) 500
-unfolding inserted ascending parts_in
-key_set_signed = record {
+-- the key has signed a set of the zone, at the moment 500, where a verifier accepts the signature
+pub signed_by : (accepts : Accepts) (records : RecordSet) (zone : Labels) (signature : List ℕ) (labels : ℕ) → IsAtOrBelow (place records.owner) (place zone)
+    → labels ≤ length records.owner → IsTrue (accepts 257 3 13 (1 ∷ 2 ∷ []) (signed_bytes (sig_by zone signature records.rtype labels) records) signature)
+    → Signed accepts records (beside records (sig_by zone signature records.rtype labels)) zone_key (place zone) 500
+signed_by accepts records zone signature labels within fits accepted = record {
   same_owner = refl;
   same_class = refl;
   covers = refl;
   signer = refl;
-  within = record { under = []; is = refl };
-  labels = omega arith;
+  within = within;
+  labels = fits;
   algorithm = refl;
   tag = refl;
   zone_key = record { flag = refl; of_dnssec = refl };
   period = record { ordered = omega arith; within = omega arith };
-  accepted = refl;
+  accepted = accepted;
 }
 
-address_signed : Signed accepts_two address_set (beside address_set address_sig) zone_key (place example) 500
+pub key_set_signed : Signed accepts_two key_set (beside key_set key_set_sig) zone_key (place example) 500
 unfolding inserted ascending parts_in
-address_signed = record {
-  same_owner = refl;
-  same_class = refl;
-  covers = refl;
-  signer = refl;
-  within = record { under = codes "www" ∷ []; is = refl };
-  labels = omega arith;
-  algorithm = refl;
-  tag = refl;
-  zone_key = record { flag = refl; of_dnssec = refl };
-  period = record { ordered = omega arith; within = omega arith };
-  accepted = refl;
-}
+key_set_signed = signed_by accepts_two key_set example (7 ∷ []) 1 (record { under = []; is = refl }) (omega arith) refl
+
+pub address_signed : Signed accepts_two address_set (beside address_set address_sig) zone_key (place example) 500
+unfolding inserted ascending parts_in
+address_signed = signed_by accepts_two address_set example (8 ∷ []) 2 (record { under = codes "www" ∷ []; is = refl }) (omega arith) refl
 
 -- the first link's set is signed by the anchor itself
 anchor_link_holds : IsAnchorKeyLink accepts_two (anchor ∷ []) anchor_link 500

@@ -5,40 +5,25 @@ use Rattle.std.specs.Str.{bytes_eq}
 use Rattle.sha2.specs.Sha256.{sha256}
 use Rattle.dsec_spec.specs.Names.{Labels, place, canonical_octets}
 use Rattle.dsec_spec.specs.RecordData.{labels_in, name_in}
-use Rattle.dsec_spec.specs.Records.{Key, key_octets, Record, Rrsig, rrsig_octets, rrsig_of, RecordSet, beside}
+use Rattle.dsec_spec.specs.Records.{key_octets, Record, Rrsig, rrsig_octets, rrsig_of, RecordSet, beside}
 use Rattle.dsec_spec.specs.Accepts.{Accepts}
 use Rattle.dsec_spec.specs.Signed.{Signed}
 use Rattle.dsec_spec.specs.Chain.{Link, anchor_ds, ds, key, set, IsAnchorDsLink, IsDsLink, IsKeyLink, IsSetLink, Holds}
+use Rattle.dsec_spec.proofs.ChainExample.{example as parent, zone_key, sig_by, signed_by}
 
-abbrev parent : Labels
-parent = codes "example" ∷ []
-
-abbrev child : Labels
+abbrev pub child : Labels
 child = codes "sub" ∷ codes "example" ∷ []
-
-abbrev zone_key : Key
-zone_key = record { flags = 257; protocol = 3; algorithm = 13; public_key = 1 ∷ 2 ∷ [] }
 
 -- a DS record's data for the key under this owner: tag 1296, algorithm 13, SHA-256
 abbrev ds_data : Labels → List ℕ
 ds_data owner = 5 ∷ 16 ∷ 13 ∷ 2 ∷ sha256 (canonical_octets owner ++ key_octets zone_key)
 
--- a signature from 0 to 1000 by the key of a zone
-abbrev sig_over : ℕ → ℕ → Labels → Rrsig
-sig_over covered labels signer = record {
-  covered = covered;
-  algorithm = 13;
-  labels = labels;
-  original_ttl = 3600;
-  expiration = 1000;
-  inception = 0;
-  tag = 1296;
-  signer = signer;
-  signature = 9 ∷ [];
-}
+-- a signature by the key of a zone
+abbrev pub sig_over : ℕ → ℕ → Labels → Rrsig
+sig_over covered labels zone = sig_by zone (9 ∷ []) covered labels
 
 -- a verifier that accepts one signature by the key, over any message
-abbrev accepts_nine : Accepts
+abbrev pub accepts_nine : Accepts
 accepts_nine flags protocol algorithm octets message signature = bytes_eq octets (1 ∷ 2 ∷ []) && bytes_eq signature (9 ∷ [])
 
 abbrev keys_of : Labels → RecordSet
@@ -83,64 +68,16 @@ unfolding rrsig_of name_in labels_in
 address_sig_read = refl
 
 parent_signed : Signed accepts_nine (keys_of parent) (beside (keys_of parent) (sig_over 48 1 parent)) zone_key (place parent) 500
-parent_signed = record {
-  same_owner = refl;
-  same_class = refl;
-  covers = refl;
-  signer = refl;
-  within = record { under = []; is = refl };
-  labels = omega arith;
-  algorithm = refl;
-  tag = refl;
-  zone_key = record { flag = refl; of_dnssec = refl };
-  period = record { ordered = omega arith; within = omega arith };
-  accepted = refl;
-}
+parent_signed = signed_by accepts_nine (keys_of parent) parent (9 ∷ []) 1 (record { under = []; is = refl }) (omega arith) refl
 
 ds_signed : Signed accepts_nine ds_set (beside ds_set (sig_over 43 2 parent)) zone_key (place parent) 500
-ds_signed = record {
-  same_owner = refl;
-  same_class = refl;
-  covers = refl;
-  signer = refl;
-  within = record { under = codes "sub" ∷ []; is = refl };
-  labels = omega arith;
-  algorithm = refl;
-  tag = refl;
-  zone_key = record { flag = refl; of_dnssec = refl };
-  period = record { ordered = omega arith; within = omega arith };
-  accepted = refl;
-}
+ds_signed = signed_by accepts_nine ds_set parent (9 ∷ []) 2 (record { under = codes "sub" ∷ []; is = refl }) (omega arith) refl
 
 child_signed : Signed accepts_nine (keys_of child) (beside (keys_of child) (sig_over 48 2 child)) zone_key (place child) 500
-child_signed = record {
-  same_owner = refl;
-  same_class = refl;
-  covers = refl;
-  signer = refl;
-  within = record { under = []; is = refl };
-  labels = omega arith;
-  algorithm = refl;
-  tag = refl;
-  zone_key = record { flag = refl; of_dnssec = refl };
-  period = record { ordered = omega arith; within = omega arith };
-  accepted = refl;
-}
+child_signed = signed_by accepts_nine (keys_of child) child (9 ∷ []) 2 (record { under = []; is = refl }) (omega arith) refl
 
 address_signed : Signed accepts_nine address_set (beside address_set (sig_over 1 2 child)) zone_key (place child) 500
-address_signed = record {
-  same_owner = refl;
-  same_class = refl;
-  covers = refl;
-  signer = refl;
-  within = record { under = []; is = refl };
-  labels = omega arith;
-  algorithm = refl;
-  tag = refl;
-  zone_key = record { flag = refl; of_dnssec = refl };
-  period = record { ordered = omega arith; within = omega arith };
-  accepted = refl;
-}
+address_signed = signed_by accepts_nine address_set child (9 ∷ []) 2 (record { under = []; is = refl }) (omega arith) refl
 
 parent_link_holds : IsAnchorDsLink accepts_nine (anchor ∷ []) parent_link 500
 parent_link_holds = record {
