@@ -15,6 +15,7 @@ use Rattle.dsec_nodes.specs.Taking.{counts}
 use Rattle.dsec_nodes.specs.Machine.{Question as Asked, Phase, begins, gets, asks_first, asks_keys, puts, ends, Walking, Step, node_get, node_put, ask, done, Input, begin, node, stored, reply, name_at, in_phase, is_further, ahead_from, ahead, with_got, asking, given, heard, made_by, making, below_by, first_reply, key_reply, replied, advanced, Answers, IsFurther}
 use Rattle.dsec_nodes.specs.SoundSteps.{SoundStep}
 use Rattle.dsec_nodes.specs.Judging.{Finding, is_shown, has_no_set, is_insecure, is_bogus, is_indeterminate, by_node, target_of}
+use Rattle.dsec_nodes.proofs.AnswerCases.{each_answer}
 use Rattle.dsec_nodes.proofs.MachineLaws.{further_by}
 use Rattle.dsec_course.specs.Course.{Waiting, to_begin, to_end, for_walk, for_nothing, Course, CourseAnswers, Way, at_once, by_walk, way_of}
 use Rattle.dsec_course.specs.Advancing.{with_judged, with_walk, by_way, going_on, by_found, by_step, by_waiting, course_advanced}
@@ -85,38 +86,21 @@ given_nearer w s (Some n) most fit le = by (counts w s.top (name_at s) n && may_
 -- each step of a walk has fewer steps ahead
 pub walk_nearer : (w : World) (s : Walking) (input : Input) → SoundStep w s → Answers s.phase input
     → steps_ahead (advanced w s input).0 < steps_ahead s
-walk_nearer w s input h a = by s.phase input refl a
+walk_nearer w s input h a = each_answer (λ x i. s.phase ≡ x → steps_ahead (advanced w s i).0 < steps_ahead s)
+    (λ e. ahead_nearer s (steps_ahead s) (omega (arith, at begins e)))
+    (λ o e. given_nearer w s o (steps_ahead s) (fit (further_by s gets e h.is_ahead)) (omega (arith, at gets e)))
+    (λ octets e. subst (λ (x : Phase). steps_ahead (replied w s x octets).0 < steps_ahead s) (sym e)
+    (first_nearer w s octets (steps_ahead s) (fit (further_by s asks_first e h.is_ahead)) (omega (arith, at asks_first e))))
+    (λ pending octets e. subst (λ (x : Phase). steps_ahead (replied w s x octets).0 < steps_ahead s) (sym e)
+    (key_nearer w s pending octets (steps_ahead s) (fit (further_by s (asks_keys pending) e h.is_ahead)) (omega (arith, at (asks_keys pending) e))))
+    (λ e. ahead_nearer s (steps_ahead s) (omega (arith, at puts e)))
+    s.phase input a refl
   where
     fit : IsFurther s s.reached → length s.top + s.behind ≤ length s.target
     fit further = fits w s s.reached h.shorter h.on_way further
 
     at : (x : Phase) → s.phase ≡ x → steps_ahead s ≡ 4 * names_ahead s + steps_in x
     at x e = ap (λ (y : Phase). 4 * names_ahead s + steps_in y) e
-
-    by : (x : Phase) (i : Input) → s.phase ≡ x → Answers x i → steps_ahead (advanced w s i).0 < steps_ahead s
-    by begins begin e b = ahead_nearer s (steps_ahead s) (omega (arith, at begins e))
-    by gets (node o) e b = given_nearer w s o (steps_ahead s) (fit (further_by s gets e h.is_ahead)) (omega (arith, at gets e))
-    by asks_first (reply octets) e b = subst (λ (x : Phase). steps_ahead (replied w s x octets).0 < steps_ahead s) (sym e)
-        (first_nearer w s octets (steps_ahead s) (fit (further_by s asks_first e h.is_ahead)) (omega (arith, at asks_first e)))
-    by (asks_keys pending) (reply octets) e b = subst (λ (x : Phase). steps_ahead (replied w s x octets).0 < steps_ahead s) (sym e)
-        (key_nearer w s pending octets (steps_ahead s) (fit (further_by s (asks_keys pending) e h.is_ahead)) (omega (arith, at (asks_keys pending) e)))
-    by puts stored e b = ahead_nearer s (steps_ahead s) (omega (arith, at puts e))
-    by begins (node o) e b = absurd b
-    by begins stored e b = absurd b
-    by begins (reply octets) e b = absurd b
-    by gets begin e b = absurd b
-    by gets stored e b = absurd b
-    by gets (reply octets) e b = absurd b
-    by asks_first begin e b = absurd b
-    by asks_first (node o) e b = absurd b
-    by asks_first stored e b = absurd b
-    by (asks_keys pending) begin e b = absurd b
-    by (asks_keys pending) (node o) e b = absurd b
-    by (asks_keys pending) stored e b = absurd b
-    by puts begin e b = absurd b
-    by puts (node o) e b = absurd b
-    by puts (reply octets) e b = absurd b
-    by ends i e b = absurd b
 
 -- judging goes on with no more steps than its groups take
 going_nearer : (w : World) (groups : List Group) (c : Course) → steps_left w (going_on w groups c).0 ≤ steps_for w groups

@@ -11,7 +11,8 @@ use Rattle.dsec_nodes.specs.Walk.{by_anchor_reply, Reached, held_keys, may_stand
 use Rattle.dsec_nodes.specs.Taking.{counts, RestsAt}
 use Rattle.dsec_nodes.specs.Held.{KeptAt}
 use Rattle.dsec_nodes.specs.SoundSteps.{KeptUnder, InZone, SoundAt, PendingSound, SoundStep}
-use Rattle.dsec_nodes.specs.Machine.{Question, Phase, begins, gets, asks_first, asks_keys, puts, ends, Walking, Step, node_get, node_put, ask, done, Input, begin, node, stored, reply, name_at, in_phase, is_further, ahead_from, ahead, with_got, asking, given, heard, made_by, making, below_by, first_reply, key_reply, replied, advanced, Answers, IsFurther}
+use Rattle.dsec_nodes.specs.Machine.{Question, Phase, gets, asks_first, asks_keys, ends, Walking, Step, node_get, node_put, ask, done, Input, name_at, in_phase, is_further, ahead_from, ahead, with_got, asking, given, heard, made_by, making, below_by, first_reply, key_reply, replied, advanced, Answers, IsFurther}
+use Rattle.dsec_nodes.proofs.AnswerCases.{each_answer}
 use Rattle.dsec_nodes.proofs.ChildLaws.{BelowFollows, ds_reply_below, key_reply_below}
 use Rattle.dsec_nodes.proofs.AnchorLaws.{anchor_reply_under}
 use Rattle.dsec_nodes.proofs.WalkLaws.{rests_below, strictly_taken}
@@ -116,29 +117,11 @@ given_under w s (Some n) = by (counts w s.top (name_at s) n && may_stand s.reach
 
 -- a node that a sound walk puts is kept, is the name's, counts, and has an anchor of the island's
 pub put_under : (w : World) (s : Walking) (input : Input) → SoundStep w s → Answers s.phase input → PutUnder w s.top (advanced w s input).1
-put_under w s input h a = by s.phase input refl a
-  where
-    by : (x : Phase) (i : Input) → s.phase ≡ x → Answers x i → PutUnder w s.top (advanced w s i).1
-    by begins begin e b = ahead_under w s.top s
-    by gets (node o) e b = given_under w s o
-    by asks_first (reply octets) e b =
-        subst (λ (x : Phase). PutUnder w s.top (replied w s x octets).1) (sym e) (first_under w s octets h (further_by s asks_first e h.is_ahead))
-    by (asks_keys pending) (reply octets) e b = subst (λ (x : Phase). PutUnder w s.top (replied w s x octets).1) (sym e)
-        (key_under w s pending octets h (subst (λ (x : Phase). PendingSound w s x s.reached) e h.pends) (further_by s (asks_keys pending) e h.is_ahead))
-    by puts stored e b = ahead_under w s.top s
-    by begins (node o) e b = absurd b
-    by begins stored e b = absurd b
-    by begins (reply octets) e b = absurd b
-    by gets begin e b = absurd b
-    by gets stored e b = absurd b
-    by gets (reply octets) e b = absurd b
-    by asks_first begin e b = absurd b
-    by asks_first (node o) e b = absurd b
-    by asks_first stored e b = absurd b
-    by (asks_keys pending) begin e b = absurd b
-    by (asks_keys pending) (node o) e b = absurd b
-    by (asks_keys pending) stored e b = absurd b
-    by puts begin e b = absurd b
-    by puts (node o) e b = absurd b
-    by puts (reply octets) e b = absurd b
-    by ends i e b = absurd b
+put_under w s input h a = each_answer (λ x i. s.phase ≡ x → PutUnder w s.top (advanced w s i).1)
+    (λ e. ahead_under w s.top s)
+    (λ o e. given_under w s o)
+    (λ octets e. subst (λ (x : Phase). PutUnder w s.top (replied w s x octets).1) (sym e) (first_under w s octets h (further_by s asks_first e h.is_ahead)))
+    (λ pending octets e. subst (λ (x : Phase). PutUnder w s.top (replied w s x octets).1) (sym e)
+    (key_under w s pending octets h (subst (λ (x : Phase). PendingSound w s x s.reached) e h.pends) (further_by s (asks_keys pending) e h.is_ahead)))
+    (λ e. ahead_under w s.top s)
+    s.phase input a refl

@@ -8,8 +8,9 @@ use Rattle.dsec_nodes.specs.Replies.{read_reply}
 use Rattle.dsec_nodes.specs.ByDs.{Pending, Below, made, asks, by_ds_reply, by_key_reply}
 use Rattle.dsec_nodes.specs.Walk.{by_anchor_reply, Reached, held_keys, may_stand}
 use Rattle.dsec_nodes.specs.Taking.{counts, RestsAt}
-use Rattle.dsec_nodes.specs.Machine.{Question, Phase, begins, gets, asks_first, asks_keys, puts, ends, Walking, Step, node_get, node_put, ask, done, Input, begin, node, stored, reply, name_at, type_at, asked_type, arrived, in_phase, is_further, ahead_from, ahead, with_got, asking, given, heard, made_by, making, below_by, first_reply, key_reply, replied, advanced, Answers}
+use Rattle.dsec_nodes.specs.Machine.{Question, Phase, gets, asks_keys, ends, Walking, Step, node_get, node_put, ask, done, Input, begin, node, stored, reply, name_at, type_at, asked_type, arrived, in_phase, is_further, ahead_from, ahead, with_got, asking, given, heard, made_by, making, below_by, first_reply, key_reply, replied, advanced, Answers}
 use Rattle.dsec_nodes.specs.InStep.{WaitsBelow}
+use Rattle.dsec_nodes.proofs.AnswerCases.{each_answer}
 use Rattle.dsec_nodes.proofs.NextLaws.{arrived_node}
 use Rattle.dsec_nodes.proofs.TakingLaws.{taken}
 
@@ -139,35 +140,18 @@ given_leaves w s (Some n) = by (counts w s.top (name_at s) n && may_stand s.reac
 
 -- what an input that answers makes of a walk
 pub advances : (w : World) (s : Walking) (input : Input) → Answers s.phase input → Advances w s input
-advances w s input a = by s.phase input refl a
-  where
-    by : (x : Phase) (i : Input) → s.phase ≡ x → Answers x i → Advances w s i
-    by begins begin e b = record { got = s.got; leaves = ahead_leaves s s refl refl; more = inl refl }
-    by gets (node o) e b = let g = given_leaves w s o in record { got = g.0; leaves = g.1; more = g.2 }
-    by asks_first (reply octets) e b = record {
+advances w s input a = each_answer (λ x i. s.phase ≡ x → Advances w s i)
+    (λ e. record { got = s.got; leaves = ahead_leaves s s refl refl; more = inl refl })
+    (λ o e. let g = given_leaves w s o in record { got = g.0; leaves = g.1; more = g.2 })
+    (λ octets e. record {
       got = s.got;
       leaves = subst (λ (x : Phase). Leaves s (heard s (asked_type x s.reached) octets) s.got (replied w s x octets)) (sym e) (first_leaves w s octets);
       more = inl refl;
-    }
-    by (asks_keys pending) (reply octets) e b = record {
+    })
+    (λ pending octets e. record {
       got = s.got;
       leaves = subst (λ (x : Phase). Leaves s (heard s (asked_type x s.reached) octets) s.got (replied w s x octets)) (sym e) (key_leaves w s pending octets e);
       more = inl refl;
-    }
-    by puts stored e b = record { got = s.got; leaves = ahead_leaves s s refl refl; more = inl refl }
-    by begins (node o) e b = absurd b
-    by begins stored e b = absurd b
-    by begins (reply octets) e b = absurd b
-    by gets begin e b = absurd b
-    by gets stored e b = absurd b
-    by gets (reply octets) e b = absurd b
-    by asks_first begin e b = absurd b
-    by asks_first (node o) e b = absurd b
-    by asks_first stored e b = absurd b
-    by (asks_keys pending) begin e b = absurd b
-    by (asks_keys pending) (node o) e b = absurd b
-    by (asks_keys pending) stored e b = absurd b
-    by puts begin e b = absurd b
-    by puts (node o) e b = absurd b
-    by puts (reply octets) e b = absurd b
-    by ends i e b = absurd b
+    })
+    (λ e. record { got = s.got; leaves = ahead_leaves s s refl refl; more = inl refl })
+    s.phase input a refl

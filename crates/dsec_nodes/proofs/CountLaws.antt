@@ -9,10 +9,11 @@ use Rattle.dsec_nodes.specs.Nodes.{Node, Standing, apex, within, insecure, bogus
 use Rattle.dsec_nodes.specs.Replies.{read_reply}
 use Rattle.dsec_nodes.specs.ByDs.{Pending, Below, made, asks, by_ds_reply, by_key_reply}
 use Rattle.dsec_nodes.specs.Walk.{goes_on, by_anchor_reply, Reached, held_keys, may_stand}
-use Rattle.dsec_nodes.specs.Machine.{in_phase, node_get, done, started, Question, Phase, begins, gets, asks_first, asks_keys, puts, ends, Walking, Step, Input, begin, node, stored, reply, name_at, is_further, ahead, ahead_from, with_got, asking, given, heard, made_by, making, below_by, first_reply, key_reply, replied, advanced, Answers, IsFurther, IsAhead}
+use Rattle.dsec_nodes.specs.Machine.{in_phase, node_get, done, started, Question, Phase, begins, gets, asks_first, asks_keys, puts, ends, Walking, Step, Input, name_at, is_further, ahead, ahead_from, with_got, asking, given, heard, made_by, making, below_by, first_reply, key_reply, replied, advanced, Answers, IsFurther, IsAhead}
 use Rattle.dsec_nodes.specs.InStep.{most_asked, one_more, WaitsBelow, HasBegun, IsCounted}
 use Rattle.dsec_nodes.specs.SoundSteps.{SoundAt, SoundStep}
 use Rattle.dsec_nodes.specs.Taking.{counts}
+use Rattle.dsec_nodes.proofs.AnswerCases.{each_answer}
 
 -- the next step from what is reached asks nothing
 ahead_counted : (s : Walking) → HasBegun s s.reached → length s.asked ≤ most_asked s.behind → IsCounted (ahead s).0
@@ -90,37 +91,19 @@ given_counted w s (Some n) b c = by (counts w s.top (name_at s) n && may_stand s
 
 -- each step keeps the count
 pub advanced_counted : (w : World) (s : Walking) (input : Input) → IsCounted s → Answers s.phase input → IsCounted (advanced w s input).0
-advanced_counted w s input h a = by s.phase input refl a
+advanced_counted w s input h a = each_answer (λ x i. s.phase ≡ x → IsCounted (advanced w s i).0)
+    (λ e. ahead_counted s h.begun (plain begins e refl))
+    (λ o e. given_counted w s o h.begun (plain gets e refl))
+    (λ octets e. subst (λ (x : Phase). IsCounted (replied w s x octets).0) (sym e) (first_counted w s octets h.begun (plain asks_first e refl)))
+    (λ pending octets e. let one : one_more s.phase ≡ 1 = ap one_more e in
+    subst (λ (x : Phase). IsCounted (replied w s x octets).0) (sym e)
+    (key_counted w s pending octets h.begun (omega (arith, h.counted, one)) s.reached refl
+    (subst (λ (x : Phase). WaitsBelow x s.reached) e h.waits)))
+    (λ e. ahead_counted s h.begun (plain puts e refl))
+    s.phase input a refl
   where
     plain : (x : Phase) → s.phase ≡ x → one_more x ≡ 0 → length s.asked ≤ most_asked s.behind
     plain x e none = let more = ap one_more e ∙ none in omega (arith, h.counted, more)
-
-    by : (x : Phase) (i : Input) → s.phase ≡ x → Answers x i → IsCounted (advanced w s i).0
-    by begins begin e b = ahead_counted s h.begun (plain begins e refl)
-    by gets (node o) e b = given_counted w s o h.begun (plain gets e refl)
-    by asks_first (reply octets) e b = subst (λ (x : Phase). IsCounted (replied w s x octets).0) (sym e) (first_counted w s octets h.begun (plain asks_first e refl))
-    by (asks_keys pending) (reply octets) e b =
-        let one : one_more s.phase ≡ 1 = ap one_more e in
-        subst (λ (x : Phase). IsCounted (replied w s x octets).0) (sym e)
-        (key_counted w s pending octets h.begun (omega (arith, h.counted, one)) s.reached refl
-        (subst (λ (x : Phase). WaitsBelow x s.reached) e h.waits))
-    by puts stored e b = ahead_counted s h.begun (plain puts e refl)
-    by begins (node o) e b = absurd b
-    by begins stored e b = absurd b
-    by begins (reply octets) e b = absurd b
-    by gets begin e b = absurd b
-    by gets stored e b = absurd b
-    by gets (reply octets) e b = absurd b
-    by asks_first begin e b = absurd b
-    by asks_first (node o) e b = absurd b
-    by asks_first stored e b = absurd b
-    by (asks_keys pending) begin e b = absurd b
-    by (asks_keys pending) (node o) e b = absurd b
-    by (asks_keys pending) stored e b = absurd b
-    by puts begin e b = absurd b
-    by puts (node o) e b = absurd b
-    by puts (reply octets) e b = absurd b
-    by ends i e b = absurd b
 
 -- a walk that hasn't begun has asked nothing
 pub started_counted : (top target : Place) → IsCounted (started top target)

@@ -16,6 +16,7 @@ pub mod TakingLaws
 pub mod WayLaws
 pub mod DnameLaws
 pub mod NextLaws
+pub mod AnswerCases
 pub mod MachineLaws
 pub mod SoundWalk
 pub mod CountLaws

@@ -10,9 +10,10 @@ use Rattle.dsec_nodes.specs.Nodes.{Node, Standing, apex, within, insecure, bogus
 use Rattle.dsec_nodes.specs.Replies.{read_reply}
 use Rattle.dsec_nodes.specs.ByDs.{Pending, Below, made, asks, by_ds_reply, by_key_reply}
 use Rattle.dsec_nodes.specs.Walk.{by_anchor_reply, finished, Reached, held_keys, goes_on, way, node_of, may_stand}
-use Rattle.dsec_nodes.specs.Machine.{started, Question, Phase, begins, gets, asks_first, asks_keys, puts, ends, Walking, node_get, node_put, done, Input, begin, node, stored, reply, name_at, in_phase, is_further, ahead_from, ahead, with_got, asking, given, heard, with_node, made_by, making, below_by, first_reply, key_reply, replied, advanced, IsFurther, IsAhead, Answers}
+use Rattle.dsec_nodes.specs.Machine.{started, Question, Phase, gets, asks_first, asks_keys, puts, ends, Walking, node_get, node_put, done, Input, name_at, in_phase, is_further, ahead_from, ahead, with_got, asking, given, heard, with_node, made_by, making, below_by, first_reply, key_reply, replied, advanced, IsFurther, IsAhead, Answers}
 use Rattle.dsec_nodes.specs.InStep.{AskedOf, Goes, GotOf, InStep, PendingIs, ReachedIs}
 use Rattle.dsec_nodes.specs.Taking.{counts}
+use Rattle.dsec_nodes.proofs.AnswerCases.{each_answer}
 use Rattle.dsec_nodes.proofs.TakingLaws.{taken}
 use Rattle.dsec_nodes.proofs.WayLaws.{ended}
 use Rattle.dsec_nodes.proofs.NextLaws.{NextIs, got_next, made_stands, put_is, bogus_is}
@@ -202,33 +203,16 @@ key_goes w s pending octets h phase further = by s.reached refl
 -- A walk goes on in step with the recursion: where the replies are those of a table and the nodes that were given are of it, each node that is
 -- put is of it, and the node that it ends with is the name's.
 pub advanced_goes : (w : World) (s : Walking) (input : Input) → InStep w s → Answers s.phase input → Goes w (advanced w s input)
-advanced_goes w s input h a = by s.phase input refl a
+advanced_goes w s input h a = each_answer (λ x i. s.phase ≡ x → Goes w (advanced w s i))
+    (λ e. ahead_goes w s standing)
+    (λ o e. given_goes w s o h (further_by s gets e h.is_ahead))
+    (λ octets e. subst (λ (x : Phase). Goes w (replied w s x octets)) (sym e) (first_goes w s octets h (further_by s asks_first e h.is_ahead)))
+    (λ pending octets e. subst (λ (x : Phase). Goes w (replied w s x octets)) (sym e) (key_goes w s pending octets h e (further_by s (asks_keys pending) e h.is_ahead)))
+    (λ e. ahead_goes w s standing)
+    s.phase input a refl
   where
     standing : Stands w s
     standing = record { below = h.below; shorter = h.shorter; reached_is = λ replies x g. (h.agrees replies x g).0 }
-
-    by : (x : Phase) (i : Input) → s.phase ≡ x → Answers x i → Goes w (advanced w s i)
-    by begins begin e b = ahead_goes w s standing
-    by gets (node o) e b = given_goes w s o h (further_by s gets e h.is_ahead)
-    by asks_first (reply octets) e b = subst (λ (x : Phase). Goes w (replied w s x octets)) (sym e) (first_goes w s octets h (further_by s asks_first e h.is_ahead))
-    by (asks_keys pending) (reply octets) e b = subst (λ (x : Phase). Goes w (replied w s x octets)) (sym e) (key_goes w s pending octets h e (further_by s (asks_keys pending) e h.is_ahead))
-    by puts stored e b = ahead_goes w s standing
-    by begins (node o) e b = absurd b
-    by begins stored e b = absurd b
-    by begins (reply octets) e b = absurd b
-    by gets begin e b = absurd b
-    by gets stored e b = absurd b
-    by gets (reply octets) e b = absurd b
-    by asks_first begin e b = absurd b
-    by asks_first (node o) e b = absurd b
-    by asks_first stored e b = absurd b
-    by (asks_keys pending) begin e b = absurd b
-    by (asks_keys pending) (node o) e b = absurd b
-    by (asks_keys pending) stored e b = absurd b
-    by puts begin e b = absurd b
-    by puts (node o) e b = absurd b
-    by puts (reply octets) e b = absurd b
-    by ends i e b = absurd b
 
 -- a walk that hasn't begun is in step
 pub started_in_step : (w : World) (top target : Place) → top ≡ take (length top) target → length top ≤ length target

@@ -12,7 +12,8 @@ use Rattle.dsec_nodes.specs.ByDs.{Pending, Below, made, asks, by_ds_reply, by_ke
 use Rattle.dsec_nodes.specs.Walk.{by_anchor_reply, Reached, held_keys, goes_on, goes_on_at, may_stand}
 use Rattle.dsec_nodes.specs.Taking.{counts}
 use Rattle.dsec_nodes.specs.SoundSteps.{SoundAt, PendingSound, SoundStep}
-use Rattle.dsec_nodes.specs.Machine.{Question, Phase, begins, gets, asks_first, asks_keys, puts, ends, Walking, Step, node_get, node_put, ask, done, Input, begin, node, stored, reply, name_at, arrived, in_phase, is_further, ahead_from, ahead, with_got, asking, given, heard, made_by, making, below_by, first_reply, key_reply, replied, advanced, Answers, IsFurther}
+use Rattle.dsec_nodes.specs.Machine.{Question, Phase, gets, asks_first, asks_keys, ends, Walking, Step, node_get, node_put, ask, done, Input, name_at, arrived, in_phase, is_further, ahead_from, ahead, with_got, asking, given, heard, made_by, making, below_by, first_reply, key_reply, replied, advanced, Answers, IsFurther}
+use Rattle.dsec_nodes.proofs.AnswerCases.{each_answer}
 use Rattle.dsec_nodes.proofs.AnchorLaws.{anchor_reply_under}
 use Rattle.dsec_nodes.proofs.ChildLaws.{BelowFollows, ds_reply_below, key_reply_below}
 use Rattle.dsec_nodes.proofs.MachineLaws.{further_by}
@@ -141,32 +142,14 @@ key_names w s pending octets h p further is = by s.reached refl
 
 -- each step of a sound walk reaches the node of the next name, and ends at the target where its node is Secure
 pub advanced_names : (w : World) (s : Walking) (input : Input) → SoundStep w s → IsNamed s s.reached → Answers s.phase input → Names (advanced w s input)
-advanced_names w s input h is a = by s.phase input refl a
+advanced_names w s input h is a = each_answer (λ x i. s.phase ≡ x → Names (advanced w s i))
+    (λ e. ahead_names s is inside)
+    (λ o e. given_names w s o is (fits w s s.reached h.shorter h.on_way (further_by s gets e h.is_ahead)))
+    (λ octets e. subst (λ (x : Phase). Names (replied w s x octets)) (sym e) (first_names w s octets h (further_by s asks_first e h.is_ahead) is))
+    (λ pending octets e. subst (λ (x : Phase). Names (replied w s x octets)) (sym e)
+    (key_names w s pending octets h (subst (λ (x : Phase). PendingSound w s x s.reached) e h.pends) (further_by s (asks_keys pending) e h.is_ahead) is))
+    (λ e. ahead_names s is inside)
+    s.phase input a refl
   where
     inside : IsWithinTarget s s.reached
     inside = within_target w s s.reached h.on_way
-
-    by : (x : Phase) (i : Input) → s.phase ≡ x → Answers x i → Names (advanced w s i)
-    by begins begin e b = ahead_names s is inside
-    by gets (node o) e b = given_names w s o is (fits w s s.reached h.shorter h.on_way (further_by s gets e h.is_ahead))
-    by asks_first (reply octets) e b =
-        subst (λ (x : Phase). Names (replied w s x octets)) (sym e) (first_names w s octets h (further_by s asks_first e h.is_ahead) is)
-    by (asks_keys pending) (reply octets) e b = subst (λ (x : Phase). Names (replied w s x octets)) (sym e)
-        (key_names w s pending octets h (subst (λ (x : Phase). PendingSound w s x s.reached) e h.pends) (further_by s (asks_keys pending) e h.is_ahead) is)
-    by puts stored e b = ahead_names s is inside
-    by begins (node o) e b = absurd b
-    by begins stored e b = absurd b
-    by begins (reply octets) e b = absurd b
-    by gets begin e b = absurd b
-    by gets stored e b = absurd b
-    by gets (reply octets) e b = absurd b
-    by asks_first begin e b = absurd b
-    by asks_first (node o) e b = absurd b
-    by asks_first stored e b = absurd b
-    by (asks_keys pending) begin e b = absurd b
-    by (asks_keys pending) (node o) e b = absurd b
-    by (asks_keys pending) stored e b = absurd b
-    by puts begin e b = absurd b
-    by puts (node o) e b = absurd b
-    by puts (reply octets) e b = absurd b
-    by ends i e b = absurd b

@@ -10,10 +10,11 @@ use Rattle.dsec_nodes.specs.Nodes.{Node, Standing, apex, within, insecure, bogus
 use Rattle.dsec_nodes.specs.Replies.{read_reply}
 use Rattle.dsec_nodes.specs.ByDs.{Pending, Below, made, asks, by_ds_reply, by_key_reply}
 use Rattle.dsec_nodes.specs.Walk.{by_anchor_reply, Reached, held_keys, after, goes_on, goes_on_at, may_stand}
-use Rattle.dsec_nodes.specs.Machine.{started, Question, Phase, begins, gets, asks_first, asks_keys, puts, ends, Walking, Step, node_get, done, Input, begin, node, stored, reply, name_at, arrived, in_phase, is_further, ahead_from, ahead, with_got, asking, given, heard, made_by, making, below_by, first_reply, key_reply, replied, advanced, IsFurther, Answers}
+use Rattle.dsec_nodes.specs.Machine.{started, Question, Phase, begins, gets, asks_first, asks_keys, puts, ends, Walking, Step, node_get, done, Input, node, reply, name_at, arrived, in_phase, is_further, ahead_from, ahead, with_got, asking, given, heard, made_by, making, below_by, first_reply, key_reply, replied, advanced, IsFurther, Answers}
 use Rattle.dsec_nodes.specs.InStep.{Goes, InStep}
 use Rattle.dsec_nodes.specs.SoundSteps.{SoundAt, PendingSound, SoundStep, InputKept, Sound}
 use Rattle.dsec_nodes.specs.Taking.{counts}
+use Rattle.dsec_nodes.proofs.AnswerCases.{each_answer}
 use Rattle.dsec_nodes.proofs.AnchorLaws.{anchor_reply_under, anchor_reply_not_within}
 use Rattle.dsec_nodes.proofs.ChildLaws.{BelowFollows, ds_reply_below, key_reply_below}
 use Rattle.dsec_nodes.proofs.CountLaws.{advanced_counted, asked_at_most, started_counted}
@@ -210,32 +211,15 @@ key_in_zone w s pending octets h p g z = by s.reached refl
 
 -- each step keeps the last zone one that counts
 advanced_in_zone : (w : World) (s : Walking) (input : Input) → IsUnderWay w s → Answers s.phase input → IsInZone w (advanced w s input).0.reached
-advanced_in_zone w s input h a = by s.phase input refl a
-  where
-    by : (x : Phase) (i : Input) → s.phase ≡ x → Answers x i → IsInZone w (advanced w s i).0.reached
-    by begins begin e b = ahead_in_zone w s h.in_zone
-    by gets (node o) e b = given_in_zone w s o (further_by s gets e h.is_sound.is_ahead) h.in_zone
-    by asks_first (reply octets) e b = subst (λ (x : Phase). IsInZone w (replied w s x octets).0.reached) (sym e)
-        (first_in_zone w s octets h.is_sound (further_by s asks_first e h.is_sound.is_ahead) h.in_zone)
-    by (asks_keys pending) (reply octets) e b = subst (λ (x : Phase). IsInZone w (replied w s x octets).0.reached) (sym e)
-        (key_in_zone w s pending octets h.is_sound (subst (λ (x : Phase). PendingSound w s x s.reached) e h.is_sound.pends) (further_by s (asks_keys pending) e h.is_sound.is_ahead) h.in_zone)
-    by puts stored e b = ahead_in_zone w s h.in_zone
-    by begins (node o) e b = absurd b
-    by begins stored e b = absurd b
-    by begins (reply octets) e b = absurd b
-    by gets begin e b = absurd b
-    by gets stored e b = absurd b
-    by gets (reply octets) e b = absurd b
-    by asks_first begin e b = absurd b
-    by asks_first (node o) e b = absurd b
-    by asks_first stored e b = absurd b
-    by (asks_keys pending) begin e b = absurd b
-    by (asks_keys pending) (node o) e b = absurd b
-    by (asks_keys pending) stored e b = absurd b
-    by puts begin e b = absurd b
-    by puts (node o) e b = absurd b
-    by puts (reply octets) e b = absurd b
-    by ends i e b = absurd b
+advanced_in_zone w s input h a = each_answer (λ x i. s.phase ≡ x → IsInZone w (advanced w s i).0.reached)
+    (λ e. ahead_in_zone w s h.in_zone)
+    (λ o e. given_in_zone w s o (further_by s gets e h.is_sound.is_ahead) h.in_zone)
+    (λ octets e. subst (λ (x : Phase). IsInZone w (replied w s x octets).0.reached) (sym e)
+    (first_in_zone w s octets h.is_sound (further_by s asks_first e h.is_sound.is_ahead) h.in_zone))
+    (λ pending octets e. subst (λ (x : Phase). IsInZone w (replied w s x octets).0.reached) (sym e)
+    (key_in_zone w s pending octets h.is_sound (subst (λ (x : Phase). PendingSound w s x s.reached) e h.is_sound.pends) (further_by s (asks_keys pending) e h.is_sound.is_ahead) h.in_zone))
+    (λ e. ahead_in_zone w s h.in_zone)
+    s.phase input a refl
 
 -- a walk that can be taken on can be so after each step
 pub advanced_under_way : (w : World) (s : Walking) (input : Input) → IsUnderWay w s → Answers s.phase input → InputKept w input
