@@ -25,7 +25,7 @@ use Rattle.dsec_course.proofs.Lists.{all_front, all_back, all_both, all_map}
 use Rattle.dsec_course.proofs.WalkSteps.{GotMore, advances}
 
 -- what is in a list of one is that one
-only : (x y : Node) → Contains (x ∷ []) y → x ≡ y
+pub only : (x y : Node) → Contains (x ∷ []) y → x ≡ y
 only x y h = elim (in_more x y [] h) [
   | inl same ↦ same
   | inr none ↦ absurd (not_in_none y none)
@@ -95,8 +95,8 @@ step_walks w T first c group s (done n) h = by (by_node w group n).finding
     by (is_insecure cause signed) = going_walks w T first c.left d h
     by is_indeterminate = going_walks w T first c.left d h
 
--- one more of a list that all are
-trace_more : (w : World) (held : Node → Type 0) (puts : List Node) (s t : Walking) (i : Input) (got : List Node) → t.top ≡ s.top → t.got ≡ got
+-- where the nodes that a walk was given are from, with one more that was given
+pub trace_more : (w : World) (held : Node → Type 0) (puts : List Node) (s t : Walking) (i : Input) (got : List Node) → t.top ≡ s.top → t.got ≡ got
     → GotMore w s i got → GivenFrom held puts i → Trace w held puts s → Trace w held puts t
 trace_more w held puts s t i got top is more from h =
     subst (AllByRecursion (At t.top)) (sym is) (subst (λ (p : Place). AllByRecursion (At p) got) (sym top) all)

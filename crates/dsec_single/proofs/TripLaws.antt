@@ -1,11 +1,10 @@
 -- A walk over nodes that were held and an upstream goes on soundly and in step, whatever it is given of what was held, kept, and of what it has put.
 use Rattle.std.proofs.Common.{◌≡◌, ◌⊎◌, ◌≤◌, List, [], ◌∷◌, ◌++◌, length, take, refl, sym, ap, ◌∙◌, subst, inl, inr}
 use Rattle.std.specs.Prelude.{Contains}
-use Rattle.std.specs.List.{AllByRecursion}
 use Rattle.std.proofs.lemmas.Option.{same_Some}
 use Rattle.dsec_spec.specs.Names.{Place, place}
 use Rattle.dsec_spec.specs.Records.{Record}
-use Rattle.dsec_spec.proofs.Members.{in_more, not_in_none, in_either}
+use Rattle.dsec_spec.proofs.Members.{not_in_none, in_either}
 use Rattle.dsec_nodes.specs.World.{World, Replies}
 use Rattle.dsec_nodes.specs.Nodes.{Node, Kept}
 use Rattle.dsec_nodes.specs.Walk.{node_of}
@@ -17,10 +16,10 @@ use Rattle.dsec_nodes.proofs.CountLaws.{started_counted}
 use Rattle.dsec_nodes.proofs.MachineLaws.{advanced_goes, started_in_step}
 use Rattle.dsec_nodes.proofs.SoundWalk.{advanced_sound, started_sound}
 use Rattle.dsec_course.specs.Hearing.{GivenFrom, IsOfTable}
-use Rattle.dsec_course.proofs.Lists.{all_front, all_both, all_map}
-use Rattle.dsec_course.proofs.TraceLaws.{Trace, in_longer, input_kept}
+use Rattle.dsec_course.proofs.Lists.{all_front, all_map}
+use Rattle.dsec_course.proofs.TraceLaws.{Trace, in_longer, input_kept, only, trace_more}
 use Rattle.dsec_course.proofs.WalkPuts.{PutUnder, put_under}
-use Rattle.dsec_course.proofs.WalkSteps.{WalkAwaits, HasReached, asked_after, GotMore, Advances, advances}
+use Rattle.dsec_course.proofs.WalkSteps.{WalkAwaits, HasReached, asked_after, Advances, advances}
 use Rattle.dsec_walk.specs.UnderWay.{IsUnderWay}
 use Rattle.dsec_walk.proofs.UnderWayLaws.{advanced_under_way}
 use Rattle.dsec_single.specs.Trips.{Trip, put_in, trip_at, first_trip, trip_on, AreGiven, after_given}
@@ -44,33 +43,10 @@ pub record HoldsTrip (w : World) (held : Node → Type 0) (top target : Place) (
   pub of_table : (replies : Replies) → ((n : Node) → held n → IsOfTable w replies n) → AskedOf replies t.walk.asked
       → (n : Node) → Contains t.puts n → IsOfTable w replies n
 
--- what is in a list of one is that one
-only : (x y : Node) → Contains (x ∷ []) y → x ≡ y
-only x y h = elim (in_more x y [] h) [
-  | inl same ↦ same
-  | inr none ↦ absurd (not_in_none y none)
-]
-
 -- a node has one anchor, and so one island
 same_island : (anchors : List Record) (a b : Place) (n : Node) → RestsAt anchors a n → RestsAt anchors b n → a ≡ b
 same_island anchors a b n r s =
     sym r.at ∙ (ap (λ (x : Record). place x.owner) (same_Some r.anchor s.anchor (sym r.its ∙ s.its)) ∙ s.at)
-
--- where a node was given from, with one more that was given
-trace_more : (w : World) (held : Node → Type 0) (puts : List Node) (s t : Walking) (i : Input) (got : List Node) → t.top ≡ s.top → t.got ≡ got
-    → GotMore w s i got → GivenFrom held puts i → Trace w held puts s → Trace w held puts t
-trace_more w held puts s t i got top is more from h =
-    subst (AllByRecursion (At t.top)) (sym is) (subst (λ (p : Place). AllByRecursion (At p) got) (sym top) all)
-  where
-    At : Place → Node → Type 0
-    At p n = (held n ⊎ Contains puts n) × RestsAt w.anchors p n
-
-    all : AllByRecursion (At s.top) got
-    all = elim more [
-      | inl same ↦ subst (AllByRecursion (At s.top)) (sym same) h
-      | inr new ↦ subst (AllByRecursion (At s.top)) (sym new.2)
-          (all_both (At s.top) s.got (new.0 ∷ []) h ((subst (GivenFrom held puts) new.1 from, new.3), tt))
-    ]
 
 -- where the held nodes and the puts are of a table, so are those that were given
 pub got_of : (w : World) (replies : Replies) (held : Node → Type 0) (puts : List Node) (s : Walking) → ((n : Node) → held n → IsOfTable w replies n)
