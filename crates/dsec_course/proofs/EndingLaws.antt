@@ -17,11 +17,11 @@ use Rattle.dsec_nodes.specs.SoundSteps.{SoundStep}
 use Rattle.dsec_nodes.specs.Judging.{Finding, is_shown, has_no_set, is_insecure, is_bogus, is_indeterminate, by_node, target_of}
 use Rattle.dsec_nodes.proofs.AnswerCases.{each_answer}
 use Rattle.dsec_nodes.proofs.MachineLaws.{further_by}
+use Rattle.dsec_nodes.proofs.SoundWalk.{fits}
 use Rattle.dsec_course.specs.Course.{Waiting, to_begin, to_end, for_walk, for_nothing, Course, CourseAnswers, Way, at_once, by_walk, way_of}
 use Rattle.dsec_course.specs.Advancing.{with_judged, with_walk, by_way, going_on, by_found, by_step, by_waiting, course_advanced}
 use Rattle.dsec_course.specs.Justified.{route_by, route_of, SoundCourseAt, SoundCourse}
 use Rattle.dsec_course.specs.Ending.{steps_in, steps_ahead, most_steps, steps_for, steps_by, steps_left}
-use Rattle.dsec_course.proofs.WalkPuts.{fits}
 
 -- how far a walk is from its target
 abbrev pub names_ahead : Walking → ℕ

@@ -1,7 +1,6 @@
 -- A node that a walk puts is kept, counts at the moment of judging, and has an anchor of the island's.
-use Rattle.std.proofs.Common.{◌≡◌, ℕ, ◌+◌, ◌≤◌, ◌&&◌, Bool, true, false, cond, List, length, take, Option, Some, None, refl, sym, ap, ◌∙◌, subst, arith}
-use Rattle.std.proofs.lemmas.Bool.{and_parts, leb-true}
-use Rattle.dsec_spec.specs.Names.{Place, IsStrictlyBelow}
+use Rattle.std.proofs.Common.{◌≡◌, ℕ, ◌+◌, ◌&&◌, Bool, true, false, cond, List, length, take, Option, Some, None, refl, sym, ap, ◌∙◌, subst, arith}
+use Rattle.dsec_spec.specs.Names.{Place}
 use Rattle.dsec_spec.specs.Numbers.{DS, DNSKEY}
 use Rattle.dsec_nodes.specs.World.{World}
 use Rattle.dsec_nodes.specs.Nodes.{Node, Standing, apex, within, insecure, bogus, IsBogus}
@@ -10,13 +9,14 @@ use Rattle.dsec_nodes.specs.ByDs.{Pending, Below, made, asks, by_ds_reply, by_ke
 use Rattle.dsec_nodes.specs.Walk.{by_anchor_reply, Reached, held_keys, may_stand}
 use Rattle.dsec_nodes.specs.Taking.{counts, RestsAt}
 use Rattle.dsec_nodes.specs.Held.{KeptAt}
-use Rattle.dsec_nodes.specs.SoundSteps.{KeptUnder, InZone, SoundAt, PendingSound, SoundStep}
+use Rattle.dsec_nodes.specs.SoundSteps.{KeptUnder, SoundAt, PendingSound, SoundStep}
 use Rattle.dsec_nodes.specs.Machine.{Question, Phase, gets, asks_first, asks_keys, ends, Walking, Step, node_get, node_put, ask, done, Input, name_at, in_phase, is_further, ahead_from, ahead, with_got, asking, given, heard, made_by, making, below_by, first_reply, key_reply, replied, advanced, Answers, IsFurther}
 use Rattle.dsec_nodes.proofs.AnswerCases.{each_answer}
 use Rattle.dsec_nodes.proofs.ChildLaws.{BelowFollows, ds_reply_below, key_reply_below}
 use Rattle.dsec_nodes.proofs.AnchorLaws.{anchor_reply_under}
-use Rattle.dsec_nodes.proofs.WalkLaws.{rests_below, strictly_taken}
+use Rattle.dsec_nodes.proofs.WalkLaws.{rests_below}
 use Rattle.dsec_nodes.proofs.MachineLaws.{further_by}
+use Rattle.dsec_nodes.proofs.SoundWalk.{in_zone, next_below}
 
 -- a node that is put under an island is kept, is the name's, and counts
 abbrev pub PutUnder : World → Place → Step → Type 0
@@ -48,24 +48,6 @@ making_under w s asked n k = by n.standing refl
     by (within last) e = (k, ap IsBogus e)
     by (insecure cause signed) e = (k, ap IsBogus e)
     by (bogus cause) e = tt
-
--- the name that is next is within the target
-pub fits : (w : World) (s : Walking) (o : Option Reached) → length s.top ≤ length s.target → SoundAt w s o → IsFurther s o
-    → length s.top + s.behind ≤ length s.target
-fits w s None le f g = omega (arith, le, f)
-fits w s (Some r) le f g = leb-true (length s.top + s.behind) (length s.target) (and_parts _ _ g).1
-
--- a walk that goes on is in a zone that is held
-in_zone : (w : World) (s : Walking) (r : Reached) (f : SoundAt w s (Some r)) → IsFurther s (Some r)
-    → InZone w s.top s.target (length s.top + f.0) r
-in_zone w s r f g = f.3.in_zone (and_parts _ _ g).0
-
--- the name that is next is strictly below the last zone
-next_below : (w : World) (s : Walking) (r : Reached) (f : SoundAt w s (Some r)) → length s.top ≤ length s.target → IsFurther s (Some r)
-    → IsStrictlyBelow (name_at s) r.zone.signer
-next_below w s r f le g =
-    let z = in_zone w s r f g in
-    subst (λ (p : Place). IsStrictlyBelow (name_at s) p) (sym z.is) (strictly_taken s.target z.count (length s.top + s.behind) (omega (arith, z.at_most, f.1)) (fits w s (Some r) le f g))
 
 -- the node of the first reply at a name
 first_under : (w : World) (s : Walking) (octets : Option (List ℕ)) → SoundStep w s → IsFurther s s.reached

@@ -31,18 +31,18 @@ whole : (w : World) (s : Walking) → SoundStep w s → Whole w s
 whole w s h = record { below = h.below; shorter = h.shorter; on_way = h.on_way }
 
 -- the name that is next is within the target
-fits : (w : World) (s : Walking) (o : Option Reached) → length s.top ≤ length s.target → SoundAt w s o → IsFurther s o
+pub fits : (w : World) (s : Walking) (o : Option Reached) → length s.top ≤ length s.target → SoundAt w s o → IsFurther s o
     → length s.top + s.behind ≤ length s.target
 fits w s None le f g = omega (arith, le, f)
 fits w s (Some r) le f g = leb-true (length s.top + s.behind) (length s.target) (and_parts _ _ g).1
 
 -- a walk that goes on is in a zone that is held
-in_zone : (w : World) (s : Walking) (r : Reached) (f : SoundAt w s (Some r)) → IsFurther s (Some r)
+pub in_zone : (w : World) (s : Walking) (r : Reached) (f : SoundAt w s (Some r)) → IsFurther s (Some r)
     → InZone w s.top s.target (length s.top + f.0) r
 in_zone w s r f g = f.3.in_zone (and_parts _ _ g).0
 
 -- the name that is next is strictly below the last zone
-next_below : (w : World) (s : Walking) (r : Reached) (f : SoundAt w s (Some r)) → length s.top ≤ length s.target → IsFurther s (Some r)
+pub next_below : (w : World) (s : Walking) (r : Reached) (f : SoundAt w s (Some r)) → length s.top ≤ length s.target → IsFurther s (Some r)
     → IsStrictlyBelow (name_at s) r.zone.signer
 next_below w s r f le g =
     let z = in_zone w s r f g in

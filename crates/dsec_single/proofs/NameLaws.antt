@@ -20,7 +20,7 @@ use Rattle.dsec_nodes.proofs.MachineLaws.{further_by}
 use Rattle.dsec_nodes.proofs.NextLaws.{arrived_node}
 use Rattle.dsec_nodes.proofs.TakingLaws.{taken}
 use Rattle.dsec_nodes.proofs.WalkLaws.{strictly_taken}
-use Rattle.dsec_course.proofs.WalkPuts.{fits}
+use Rattle.dsec_nodes.proofs.SoundWalk.{fits}
 
 -- what is reached is the node of the last name that is behind
 abbrev pub IsNamed : Walking → Option Reached → Type 0
