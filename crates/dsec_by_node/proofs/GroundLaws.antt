@@ -1,5 +1,5 @@
 -- What a finding by a node that is kept at the moment rests on.
-use Rattle.std.proofs.Common.{◌≡◌, ℕ, ◌+◌, ◌≤◌, Bool, true, false, cond, List, [], Option, Some, Result, Ok, Err, IfOk, IfSome, refl, sym, ap, ◌∙◌, subst, arith}
+use Rattle.std.proofs.Common.{◌≡◌, ℕ, ◌+◌, ◌≤◌, Bool, true, false, cond, List, [], ◌∷◌, Option, Some, Result, Ok, Err, IfOk, IfSome, refl, sym, ap, ◌∙◌, subst, arith}
 use Rattle.std.specs.Prelude.{◌≢◌, nat_le}
 use Rattle.std.proofs.lemmas.Bool.{and_parts, leb-true, true≢false}
 use Rattle.dsec_spec.specs.Names.{place, IsStrictlyBelow}
@@ -19,6 +19,7 @@ use Rattle.dsec_nodes.specs.Taking.{is_in_time}
 use Rattle.dsec_nodes.specs.Held.{HeldZone, GoodPair}
 use Rattle.dsec_nodes.specs.Judging.{is_shown, Judged, found_by, found_at, by_node}
 use Rattle.dsec_nodes.proofs.KeptLaws.{held}
+use Rattle.dsec_nodes.proofs.ShownLaws.{holds_by}
 use Rattle.dsec_nodes.proofs.Signs.{from_under}
 use Rattle.dsec_node.specs.Counting.{seconds_kept}
 use Rattle.dsec_node.specs.Views.{world_of}
@@ -38,28 +39,7 @@ shown_by w group n keys p some z above g = (
     z.its,
     record {
       has_records = some;
-      holds = record {
-        chain = n.links;
-        last = link_under chain.set keys group p;
-        zone = n.signer;
-        keys = keys;
-        are = refl;
-        leads = z.chain_to w.now (omega arith) (omega arith);
-        shows = record {
-          of_kind = refl;
-          within = g.counts.signed.within;
-          ds_above = above;
-          by_held = g.says.there;
-          signed = record {
-            public_key = p.1;
-            reads = g.says.reads;
-            signature = g.counts.signature;
-            reads_signature = g.counts.reads_signature;
-            signed = g.counts.signed;
-          };
-        };
-        same = refl;
-      };
+      holds = holds_by w (z.anchor ∷ []) group n.links n.signer keys p (z.chain_to w.now (omega arith) (omega arith)) above g;
       before = n.links;
       last = link_under chain.set keys group p;
       ends = refl;

@@ -7,7 +7,7 @@ use Rattle.std.proofs.lemmas.List.{take-append-drop}
 use Rattle.dsec_spec.specs.Names.{Place, place, IsAtOrBelow, IsStrictlyBelow, is_strictly_below}
 use Rattle.dsec_spec.specs.Numbers.{DS}
 use Rattle.dsec_spec.specs.Records.{Record, Key}
-use Rattle.dsec_spec.specs.Groups.{Group}
+use Rattle.dsec_spec.specs.Groups.{Group, set_in}
 use Rattle.dsec_spec.specs.Islands.{looked_for_at, island, signers, is_usable, target}
 use Rattle.dsec_spec.specs.Trying.{Tried, good, nothing, all_bad, too_many_bad}
 use Rattle.dsec_spec.specs.Sound.{IsIsland}
@@ -99,35 +99,43 @@ target_between group top from is below = subst (λ (f : Place). IsAtOrBelow (tar
           over,
         )
 
+-- a group by a good pair of one of its signatures and a key of a zone holds, where links lead down to the zone and its keys
+pub holds_by : (w : World) (anchors : List Record) (group : Group) (links : List Link) (zone : Place) (keys : List (List ℕ)) (p : Record × Key)
+    → IsChain w.accepts anchors links zone keys (moment w)
+    → (group.rtype ≡ DS → place group.owner ≢ [] → IsStrictlyBelow (place group.owner) zone) → GoodPair w zone keys group p
+    → Holds w.accepts anchors (links ++ link_under chain.set keys group p ∷ []) (set_in group) (moment w)
+holds_by w anchors group links zone keys p leads above g = record {
+  chain = links;
+  last = link_under chain.set keys group p;
+  zone = zone;
+  keys = keys;
+  are = refl;
+  leads = leads;
+  shows = record {
+    of_kind = refl;
+    within = g.counts.signed.within;
+    ds_above = above;
+    by_held = g.says.there;
+    signed = record {
+      public_key = p.1;
+      reads = g.says.reads;
+      signature = g.counts.signature;
+      reads_signature = g.counts.reads_signature;
+      signed = g.counts.signed;
+    };
+  };
+  same = refl;
+}
+
 -- a group by a good pair of one of its signatures and a key of its zone is shown
 pub shown_by : (w : World) (top : Place) (group : Group) (n : Node) (keys : List (List ℕ)) (p : Record × Key) → length group.records ≢ 0
     → island w.anchors (place group.owner) group.rtype ≡ Some top → ZoneOver w top (target_of group (Some top)) n keys
     → GoodPair w n.signer keys group p
     → IsShownSet w (record { group = group; signer = n.signer; finding = is_shown n.links (link_under chain.set keys group p) p.0 }) n.links (link_under chain.set keys group p) p.0
+unfolding holds_by
 shown_by w top group n keys p some e z g = record {
   has_records = λ none. some (ap length none);
-  holds = record {
-    chain = n.links;
-    last = link_under chain.set keys group p;
-    zone = n.signer;
-    keys = keys;
-    are = refl;
-    leads = chain_among w.accepts z.zone_held.anchor w.anchors n.links n.signer keys (moment w) listed own;
-    shows = record {
-      of_kind = refl;
-      within = g.counts.signed.within;
-      ds_above = above;
-      by_held = g.says.there;
-      signed = record {
-        public_key = p.1;
-        reads = g.says.reads;
-        signature = g.counts.signature;
-        reads_signature = g.counts.reads_signature;
-        signed = g.counts.signed;
-      };
-    };
-    same = refl;
-  };
+  holds = holds_by w w.anchors group n.links n.signer keys p (chain_among w.accepts z.zone_held.anchor w.anchors n.links n.signer keys (moment w) listed own) above g;
   zone_is = refl;
   island = top;
   is_island = its_island;
