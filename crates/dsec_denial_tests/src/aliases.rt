@@ -1,12 +1,13 @@
 //! Aliases that are followed through the groups of a reply.
 
 use crate::hashed_records::{AT_NS2, OPEN_AT_NS2};
-use crate::reply::{Signed, name, section};
+use crate::reply::{Signed, section};
 use dsec_cause::Cause;
 use dsec_crypto::StandIn;
 use dsec_follow::{AliasEnd, AliasStep, do_cname_dname};
 use dsec_found::JudgedGroup;
 use dsec_group::{Limits, NoMemo, ValidationState};
+use dsec_lines::name;
 use dsec_number::{Class, Rtype};
 use std::alloc::Global;
 use std::process::Abort;

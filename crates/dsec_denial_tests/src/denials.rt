@@ -5,9 +5,10 @@ use crate::hashed_records::{
     AT_A, AT_APEX, AT_NS1, AT_NS2, AT_STAR, AT_W, AT_XW, AT_YW, OPEN_AT_A, OPEN_AT_NS2,
     SLOW_AT_APEX, SLOWER_AT_APEX,
 };
-use crate::reply::{Signed, name, section};
+use crate::reply::{Signed, section};
 use crate::told::{Asked, Want, answered};
 use dsec_cause::Cause;
+use dsec_lines::name;
 use dsec_number::Rtype;
 use std::alloc::Global;
 use std::process::Abort;

@@ -1,8 +1,8 @@
 //! Hashes of names, computed and kept: those of RFC 5155 appendix A.
 
-use crate::reply::name;
 use dsec_crypto::StandIn;
 use dsec_group::{Memo, NoMemo};
+use dsec_lines::name;
 use dsec_name::Name;
 use dsec_nsec3_hash::{cached_nsec3_hash, nsec3_label_to_hash, supported_nsec3_hash};
 use dsec_number::Nsec3HashAlgorithm;

@@ -7,11 +7,9 @@ use dsec_child::anchored;
 use dsec_crypto::StandIn;
 use dsec_found::{JudgedGroup, judged_by_node};
 use dsec_group::{NoMemo, Seed, Steps, groups};
-use dsec_name::Name;
+use dsec_lines::{KEY, name, record};
 use dsec_node::{Config, Node};
-use dsec_number::Class;
-use dsec_wire::{Record, Records};
-use dsec_zonefile::{Entry, Zonefile};
+use dsec_wire::Records;
 use std::alloc::Global;
 use std::marker::Brand;
 use std::sync::Arc;
@@ -23,32 +21,9 @@ pub(crate) type Signed = [&'static str; 2];
 /// The moment of the tests.
 const NOW: u64 = 500;
 
-/// The zone's key, which is its anchor too.
-const KEY: &str = "example. 60 IN DNSKEY 257 3 13 AQI=";
-
 /// The reply to the question for the zone's keys: the key, and a signature by it from the moment 0 to 1000.
 const KEY_REPLY: &[u8] =
     b"\x00\x00\x84\x00\x00\x01\x00\x02\x00\x00\x00\x00\x07\x65\x78\x61\x6d\x70\x6c\x65\x00\x00\x30\x00\x01\x07\x65\x78\x61\x6d\x70\x6c\x65\x00\x00\x30\x00\x01\x00\x00\x0e\x10\x00\x06\x01\x01\x03\x0d\x01\x02\x07\x65\x78\x61\x6d\x70\x6c\x65\x00\x00\x2e\x00\x01\x00\x00\x0e\x10\x00\x3b\x00\x30\x0d\x01\x00\x00\x0e\x10\x00\x00\x03\xe8\x00\x00\x00\x00\x05\x10\x07\x65\x78\x61\x6d\x70\x6c\x65\x00\xd1\xe2\xfd\xe8\x56\xa7\x39\x99\x6d\x32\x77\x78\x7d\x3a\x44\xa1\x87\x82\xef\x12\x3b\x6d\x97\xb8\x9f\xe4\xbb\x25\x97\x1d\xd1\x72";
-
-pub(crate) fn name(alloc: Global, text: &str) -> Option<Name> {
-    match Name::parse(alloc, text) {
-        Ok(name) => Some(name),
-        Err(_) => None,
-    }
-}
-
-/// The record of a line.
-fn record(alloc: Global, line: &str) -> Option<Record> {
-    let mut zonefile = Zonefile::new(alloc);
-    zonefile.set_default_class(Class::IN);
-    if zonefile.extend_from_slice(line.as_bytes()).is_err() {
-        return None;
-    }
-    match zonefile.next_entry() {
-        Ok(Some(Entry::Record(record))) => Some(record),
-        _ => None,
-    }
-}
 
 /// The records of sets.
 fn records(alloc: Global, sets: &[Signed]) -> Option<Records> {

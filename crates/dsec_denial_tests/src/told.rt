@@ -2,11 +2,11 @@
 
 ghost use Rattle.std.specs.Prelude.{◌≡◌, ◌<◌};
 
-use crate::reply::name;
 use dsec_cause::Cause;
 use dsec_crypto::StandIn;
 use dsec_found::JudgedGroup;
 use dsec_group::{Limits, NoMemo, Steps, ValidationState};
+use dsec_lines::name;
 use dsec_name::{Name, NoMemory};
 use dsec_negative::Used;
 use dsec_nsec3_calls::{

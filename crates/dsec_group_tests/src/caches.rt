@@ -2,10 +2,11 @@
 //! SHA-256 sums, made with Python's hashlib.
 
 use crate::checks::{Want, check, says};
-use crate::lines::{ADDRESS, GOOD, KEY};
+use crate::lines::{ADDRESS, GOOD};
 use dsec_cause::Cause;
 use dsec_crypto::{StandIn, Verifier};
 use dsec_group::Memo;
+use dsec_lines::KEY;
 use dsec_validated::SigCache;
 use std::alloc::Global;
 use std::process::Abort;

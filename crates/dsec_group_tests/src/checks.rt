@@ -2,12 +2,13 @@
 
 ghost use Rattle.std.specs.Prelude.{◌≡◌, ◌<◌};
 
-use crate::lines::{ADDRESS, GOOD, KEY, NO_ZONE_KEY, name, records};
+use crate::lines::{ADDRESS, GOOD, NO_ZONE_KEY};
 use dsec_cause::Cause;
 use dsec_crypto::{StandIn, Verifier};
 use dsec_group::{
     Group, KeyCheck, Limits, Memo, NoMemo, Seed, Steps, ValidationState, check_with_keys, groups,
 };
+use dsec_lines::{KEY, name, records};
 use dsec_name::NoMemory;
 use dsec_number::Timestamp;
 use dsec_wire::{Dnskey, Record, Records};

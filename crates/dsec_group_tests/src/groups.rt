@@ -1,7 +1,7 @@
 //! Sections in groups: signatures, letters, duplicates and order.
 
-use crate::lines::records;
 use dsec_group::{Group, Seed, groups};
+use dsec_lines::records;
 use dsec_name::NoMemory;
 use dsec_number::{Class, Rtype};
 use dsec_wire::Records;

@@ -1,7 +1,7 @@
 //! For how long groups and signatures may be kept.
 
-use crate::lines::{record, records};
 use dsec_group::{Seed, groups, ttl_for_sig};
+use dsec_lines::{record, records};
 use dsec_number::{Rtype, Timestamp};
 use dsec_wire::Records;
 use std::alloc::Global;

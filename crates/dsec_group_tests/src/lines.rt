@@ -1,20 +1,7 @@
-//! Records as lines of zone text, and those that several tests share.
-
-use dsec_name::Name;
-use dsec_number::Class;
-use dsec_wire::Record;
-use dsec_zonefile::{Entry, Zonefile};
-use std::alloc::Global;
-
-/// A zone's key, of the tag 1296.
-pub(crate) const KEY: &str = "example. 60 IN DNSKEY 257 3 13 AQI=";
+//! Lines of zone text that several tests share.
 
 /// The key without the zone flag, of the tag 1040.
 pub(crate) const NO_ZONE_KEY: &str = "example. 60 IN DNSKEY 1 3 13 AQI=";
-
-/// A signature over the zone's key by itself, from the moment 0 to 1000.
-pub(crate) const KEY_SIGNATURE: &str =
-    "example. 60 IN RRSIG \\# 59 00300d0100000e10000003e8000000000510076578616d706c6500d1e2fde856a739996d3277787d3a44a18782ef123b6d97b89fe4bb25971dd172";
 
 /// An address, whose TTL isn't the one that is signed.
 pub(crate) const ADDRESS: &str = "www.example. 60 IN A 192.0.2.1";
@@ -22,35 +9,3 @@ pub(crate) const ADDRESS: &str = "www.example. 60 IN A 192.0.2.1";
 /// A signature over the address by the zone's key, from the moment 0 to 1000, whose signer has a letter in upper case.
 pub(crate) const GOOD: &str =
     "www.example. 60 IN RRSIG \\# 59 00010d0200000e10000003e8000000000510074578616d706c65005740ff5d596306bfe2c5c7bd74ece6c7082af619d51f42ffbb83f974b9ca9083";
-
-/// The record of a line.
-pub(crate) fn record(alloc: Global, line: &str) -> Option<Record> {
-    let mut zonefile = Zonefile::new(alloc);
-    zonefile.set_default_class(Class::IN);
-    if zonefile.extend_from_slice(line.as_bytes()).is_err() {
-        return None;
-    }
-    match zonefile.next_entry() {
-        Ok(Some(Entry::Record(record))) => Some(record),
-        _ => None,
-    }
-}
-
-/// The records of lines.
-pub(crate) fn records(alloc: Global, lines: &[&str]) -> Option<Vec<Record>> {
-    let mut made = Vec::new(alloc);
-    for line in lines {
-        let one = record(alloc, line)?;
-        if made.push(one).is_err() {
-            return None;
-        }
-    }
-    Some(made)
-}
-
-pub(crate) fn name(alloc: Global, text: &str) -> Option<Name> {
-    match Name::parse(alloc, text) {
-        Ok(name) => Some(name),
-        Err(_) => None,
-    }
-}

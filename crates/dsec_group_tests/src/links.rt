@@ -3,7 +3,7 @@
 ghost use Rattle.std.specs.Prelude.{◌≡◌};
 ghost use Rattle.dsec_spec.specs.Numbers.{RRSIG};
 
-use crate::lines::{KEY, KEY_SIGNATURE, record};
+use dsec_lines::{KEY, KEY_SIGNATURE, record};
 use dsec_link::{Link, LinkKind, Links, RecordSet};
 use dsec_name::{NoMemory, Octets};
 use dsec_number::Rtype;

@@ -4,10 +4,11 @@ ghost use Rattle.std.specs.Prelude.{◌≡◌};
 ghost use Rattle.dsec_crypto.specs.StandIn.{stand_in};
 
 use crate::checks::{Want, check, says};
-use crate::lines::{ADDRESS, GOOD, KEY, NO_ZONE_KEY, name, record, records};
+use crate::lines::{ADDRESS, GOOD, NO_ZONE_KEY};
 use dsec_cause::Cause;
 use dsec_crypto::{StandIn, Verifier};
 use dsec_group::{Group, Memo, Seed, groups};
+use dsec_lines::{KEY, name, record, records};
 use dsec_name::{Name, NoMemory};
 use dsec_number::Timestamp;
 use dsec_wire::{Dnskey, Record, Records};

@@ -1,8 +1,8 @@
 //! CNAME records that follow from a DNAME record, moved to its group (RFC 6672 3.1).
 
-use crate::lines::records;
 use dsec_cause::Cause;
 use dsec_group::{Group, GroupSet, Seed, groups};
+use dsec_lines::records;
 use dsec_number::Rtype;
 use dsec_wire::{Record, Records};
 use std::alloc::Global;

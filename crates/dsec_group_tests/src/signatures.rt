@@ -1,7 +1,8 @@
 //! Octets that are signed, written out by hand, and signatures over them that are SHA-256 sums, made with Python's hashlib.
 
-use crate::lines::{ADDRESS, GOOD, KEY, KEY_SIGNATURE, name, record};
+use crate::lines::{ADDRESS, GOOD};
 use dsec_crypto::{AlgorithmError, StandIn, TableVerifier, Verifier};
+use dsec_lines::{KEY, KEY_SIGNATURE, name, record};
 use dsec_link::{RrsigExt, TaggedKey, matches, may_sign, signed_bytes};
 use dsec_name::{Name, NoMemory};
 use dsec_number::{Rtype, Timestamp};

@@ -1,9 +1,10 @@
 //! Groups that aren't Secure, with what is said of them.
 
-use crate::lines::{ADDRESS, GOOD, name, records};
+use crate::lines::{ADDRESS, GOOD};
 use dsec_cause::Cause;
 use dsec_crypto::StandIn;
 use dsec_group::{Group, Seed, ValidationState, groups};
+use dsec_lines::{name, records};
 use dsec_name::{Name, NoMemory};
 use dsec_number::{Class, Rtype};
 use dsec_validated::ValidatedGroup;

@@ -8,8 +8,8 @@ use crate::key_lines::{
     TWINS_BAD_1, TWINS_BAD_2, TWINS_BAD_3, TWINS_BAD_4, TWINS_SIGNED, UNKNOWN_ALGORITHM_DS,
     UNKNOWN_DIGEST_DS, WRONG_DS,
 };
-use crate::lines::{KEY, KEY_SIGNATURE, records};
 use dsec_cause::Cause;
+use dsec_lines::{KEY, KEY_SIGNATURE, records};
 use dsec_wire::Record;
 use std::alloc::Global;
 use std::process::Abort;

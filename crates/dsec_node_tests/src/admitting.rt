@@ -3,11 +3,11 @@
 ghost use Rattle.std.specs.Prelude.{◌≡◌, ◌<◌, IfSome};
 ghost use Rattle.dsec_spec.specs.Numbers.{DNSKEY};
 
-use crate::lines::records;
 use dsec_cause::Cause;
 use dsec_child::{Admission, admit_by_anchor, admit_by_ds, find_key_for_ds};
 use dsec_crypto::StandIn;
 use dsec_group::{Group, GroupSet, Memo, Seed, Steps, groups};
+use dsec_lines::records;
 use dsec_name::NoMemory;
 use dsec_node::Config;
 use dsec_number::{Rtype, Timestamp};

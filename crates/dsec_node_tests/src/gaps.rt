@@ -1,7 +1,7 @@
 //! The gap of an NSEC record (RFC 4034 4).
 
-use crate::lines::name;
 use dsec_denial::nsec_in_range;
+use dsec_lines::name;
 use std::alloc::Global;
 use std::process::Abort;
 

@@ -10,6 +10,4 @@ mod gaps;
 #[cfg(test)]
 mod key_lines;
 #[cfg(test)]
-mod lines;
-#[cfg(test)]
 mod nodes;

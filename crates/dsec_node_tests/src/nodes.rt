@@ -3,10 +3,10 @@
 ghost use Rattle.std.specs.Prelude.{◌≡◌, ◌≤◌};
 ghost use Rattle.dsec_spec.specs.Numbers.{DNSKEY};
 
-use crate::lines::{KEY, KEY_SIGNATURE, name, record, records};
 use dsec_cause::Cause;
 use dsec_crypto::StandIn;
 use dsec_group::{Group, Seed, ValidationState, groups};
+use dsec_lines::{KEY, KEY_SIGNATURE, name, record, records};
 use dsec_link::LinkKind;
 use dsec_name::{Name, NoMemory};
 use dsec_node::{Caches, Config, Keys, Node, OwnedCaches, bogus_node, kept_for, link_by_keys};

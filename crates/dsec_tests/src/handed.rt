@@ -1,7 +1,6 @@
 //! Messages that are handed on: rewritten, or as they came.
 
 use crate::judged::replies;
-use crate::lines::KEY;
 use crate::vectors::{
     BAD_TWICE, GOOD, GOOD_CUT, GOOD_ONCE, GOOD_TWICE, LARGE, LARGE_ONCE, LARGER, ONCE,
     ONCE_ASKED_TWICE, SINGLE, SINGLE_BROKEN, TOO_SHORT, TWICE, TWICE_ASKED_TWICE, TWICE_BROKEN,
@@ -10,6 +9,7 @@ use dsec_anchors::TrustAnchors;
 use dsec_answer::{Error, ValidationContext};
 use dsec_crypto::StandIn;
 use dsec_group::ValidationState;
+use dsec_lines::KEY;
 use dsec_outside::TableUpstream;
 use dsec_wire::Message;
 use std::alloc::Global;

@@ -1,6 +1,5 @@
 //! Verdicts under other limits, and over an upstream that fails.
 
-use crate::lines::KEY;
 use crate::vectors::{DENIED, DENIED_LATER, FOUR, GOOD, KEYS, ONE_BAD};
 use dsec_anchors::TrustAnchors;
 use dsec_answer::{ValidationContext, Verdict, Why};
@@ -8,6 +7,7 @@ use dsec_cause::Cause;
 use dsec_crypto::{StandIn, Verifier};
 use dsec_found::JudgedGroup;
 use dsec_group::ValidationState;
+use dsec_lines::KEY;
 use dsec_link::LinkKind;
 use dsec_name::Name;
 use dsec_node::Config;

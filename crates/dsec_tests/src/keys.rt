@@ -1,8 +1,8 @@
 //! Digests and sizes of keys from outside: the root's key of 2017 with the digests that IANA and Python's hashlib give, the
 //! key of RFC 4034 5.4 and RFC 4509 2.3, and one of Ed25519.
 
-use crate::lines::record;
 use dsec_crypto::AlgorithmError;
+use dsec_lines::record;
 use dsec_link::{DnskeyExt, DsExt};
 use dsec_name::Name;
 use dsec_wire::{Dnskey, Ds};

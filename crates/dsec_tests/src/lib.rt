@@ -12,8 +12,6 @@ mod judged;
 #[cfg(test)]
 mod keys;
 #[cfg(test)]
-mod lines;
-#[cfg(test)]
 mod runs;
 #[cfg(test)]
 mod vectors;

@@ -1,6 +1,6 @@
 //! Texts of keys, as another reader of BIND's text reads them.
 
-use crate::lines::record;
+use dsec_lines::record;
 use dsec_number::Rtype;
 use dsec_records::*;
 use dsec_wire::Record;

@@ -1,6 +1,7 @@
 //! The calls that sign whole zones, in place and into other records.
 
-use crate::lines::{ADDRESS, KEY, NS, SOA, ZONE, are_lines, are_same, keys, name, zone, zone_and};
+use crate::lines::{ADDRESS, KEY, NS, SOA, ZONE, are_lines, are_same, keys, zone, zone_and};
+use dsec_lines::name;
 use dsec_name::Name;
 use dsec_number::Timestamp;
 use dsec_records::{DenialConfig, Nsec3Config, Nsec3HashError, SortedRecords, is_of_one_class};

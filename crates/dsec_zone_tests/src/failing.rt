@@ -1,8 +1,9 @@
 //! Signers that fail, at each call in turn.
 
 use crate::calls::{Denial, config, sign_here};
-use crate::lines::{KEY, ZONE, are_same, name, stand_in, zone, zone_and};
+use crate::lines::{KEY, ZONE, are_same, stand_in, zone, zone_and};
 use crate::signers::FailingKey;
+use dsec_lines::name;
 use dsec_records::SortedRecords;
 use dsec_sign::{SignError, SigningError, SigningKey};
 use std::alloc::Global;

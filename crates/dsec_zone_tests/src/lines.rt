@@ -1,4 +1,4 @@
-//! Records as lines of zone text, keys, and records that are compared with lines.
+//! Zones and keys as lines of zone text, and records that are compared with lines.
 
 ghost use Rattle.std.specs.Prelude.{◌≡◌, IfSome, IsTrue};
 ghost use Rattle.std.proofs.Math.Bool.{not};
@@ -9,12 +9,10 @@ ghost use Rattle.dsec_sorted.specs.IterViews.{left_of};
 ghost use Rattle.dsec_sorted.specs.SetViews.{members_of};
 ghost use Rattle.dsec_sorted.specs.Sets.{AreOfOneSet};
 
-use dsec_name::Name;
-use dsec_number::Class;
+use dsec_lines::{name, record, records};
 use dsec_records::{RecordsIter, Rrset, SortedRecords, is_sorted_canonical};
 use dsec_sign::{SigningKey, StandInKey};
 use dsec_wire::Record;
-use dsec_zonefile::{Entry, Zonefile};
 use std::alloc::Global;
 
 /// A zone's key, of the tag 1296.
@@ -28,31 +26,6 @@ pub(crate) const SOA: &str = "example. 3600 IN SOA ns.example. host.example. 1 3
 pub(crate) const NS: &str = "example. 3600 IN NS ns.example.";
 
 pub(crate) const ADDRESS: &str = "ns.example. 3600 IN A 192.0.2.1";
-
-/// The record of a line.
-pub(crate) fn record(alloc: Global, line: &str) -> Option<Record> {
-    let mut zonefile = Zonefile::new(alloc);
-    zonefile.set_default_class(Class::IN);
-    if zonefile.extend_from_slice(line.as_bytes()).is_err() {
-        return None;
-    }
-    match zonefile.next_entry() {
-        Ok(Some(Entry::Record(record))) => Some(record),
-        _ => None,
-    }
-}
-
-/// The records of lines.
-pub(crate) fn records(alloc: Global, lines: &[&str]) -> Option<Vec<Record>> {
-    let mut made = Vec::new(alloc);
-    for line in lines {
-        let one = record(alloc, line)?;
-        if made.push(one).is_err() {
-            return None;
-        }
-    }
-    Some(made)
-}
 
 /// The records of lines in canonical order, of duplicates the first.
 pub(crate) fn zone(alloc: Global, lines: &[&str]) -> Option<SortedRecords> {
@@ -70,13 +43,6 @@ pub(crate) fn zone_and(alloc: Global, lines: &[&str], others: &[&str]) -> Option
     let others = records(alloc, others)?;
     match zone.extend(others) {
         Ok(()) => Some(zone),
-        Err(_) => None,
-    }
-}
-
-pub(crate) fn name(alloc: Global, text: &str) -> Option<Name> {
-    match Name::parse(alloc, text) {
-        Ok(name) => Some(name),
         Err(_) => None,
     }
 }

@@ -4,9 +4,9 @@ ghost use Rattle.std.specs.Prelude.{IsTrue};
 ghost use Rattle.dsec_sorted.specs.Sets.{AreWithin};
 
 use crate::lines::{
-    ADDRESS, are_lines, are_of_one_set, is_same, keys, name, owners_of, record, records,
-    sorted_set_of, zone,
+    ADDRESS, are_lines, are_of_one_set, is_same, keys, owners_of, sorted_set_of, zone,
 };
+use dsec_lines::{name, record, records};
 use dsec_number::{Rtype, Timestamp};
 use dsec_records::{InsertError, Rrset, RrsetError, RtypeBitmap, SortedRecords, is_of_one_class};
 use dsec_sign::Signable;

@@ -1,6 +1,7 @@
 //! The signature of a set: what it says, and why there is none.
 
-use crate::lines::{KEY, is_line, key, records, set_of, sorted_set_of};
+use crate::lines::{KEY, is_line, key, set_of, sorted_set_of};
+use dsec_lines::records;
 use dsec_number::Timestamp;
 use dsec_sign::{SigningError, sign_rrset, sign_sorted_rrset_in};
 use dsec_wire::Record;

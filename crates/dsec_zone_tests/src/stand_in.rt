@@ -1,7 +1,7 @@
 //! The keys that the stand-in takes.
 
-use crate::lines::record;
 use dsec_crypto::FromDnskeyError;
+use dsec_lines::record;
 use dsec_sign::{SignRaw, StandInKey};
 use std::alloc::Global;
 use std::process::Abort;

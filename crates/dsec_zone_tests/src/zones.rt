@@ -1,6 +1,7 @@
 //! The signatures of a zone, and why there are none.
 
-use crate::lines::{ADDRESS, KEY, NS, SOA, ZONE, are_lines, keys, name, owners_of, zone};
+use crate::lines::{ADDRESS, KEY, NS, SOA, ZONE, are_lines, keys, owners_of, zone};
+use dsec_lines::name;
 use dsec_name::Name;
 use dsec_number::Timestamp;
 use dsec_records::{SortedRecords, is_of_one_class};

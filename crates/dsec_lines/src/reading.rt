@@ -1,4 +1,4 @@
-//! Records as lines of zone text, and those that several tests share.
+//! Records and names of text.
 
 use dsec_name::Name;
 use dsec_number::Class;
@@ -6,15 +6,9 @@ use dsec_wire::Record;
 use dsec_zonefile::{Entry, Zonefile};
 use std::alloc::Global;
 
-/// A zone's key, of the tag 1296.
-pub(crate) const KEY: &str = "example. 60 IN DNSKEY 257 3 13 AQI=";
-
-/// A signature over the zone's key by itself, from the moment 0 to 1000.
-pub(crate) const KEY_SIGNATURE: &str =
-    "example. 60 IN RRSIG \\# 59 00300d0100000e10000003e8000000000510076578616d706c6500d1e2fde856a739996d3277787d3a44a18782ef123b6d97b89fe4bb25971dd172";
-
-/// The record of a line.
-pub(crate) fn record(alloc: Global, line: &str) -> Option<Record> {
+/// The record of a line of zone text (RFC 1035 5.1). A line that has no class is of class IN. None where the line isn't a record's, and where
+/// there is no memory; of several lines the first counts.
+pub fn record(alloc: Global, line: &str) -> Option<Record> {
     let mut zonefile = Zonefile::new(alloc);
     zonefile.set_default_class(Class::IN);
     if zonefile.extend_from_slice(line.as_bytes()).is_err() {
@@ -26,8 +20,8 @@ pub(crate) fn record(alloc: Global, line: &str) -> Option<Record> {
     }
 }
 
-/// The records of lines.
-pub(crate) fn records(alloc: Global, lines: &[&str]) -> Option<Vec<Record>> {
+/// The records of lines, each as `record` reads it, in their order. None where one of them has none, and where there is no memory.
+pub fn records(alloc: Global, lines: &[&str]) -> Option<Vec<Record>> {
     let mut made = Vec::new(alloc);
     for line in lines {
         let one = record(alloc, line)?;
@@ -38,7 +32,8 @@ pub(crate) fn records(alloc: Global, lines: &[&str]) -> Option<Vec<Record>> {
     Some(made)
 }
 
-pub(crate) fn name(alloc: Global, text: &str) -> Option<Name> {
+/// The name of a text. None where the text is no name's, and where there is no memory.
+pub fn name(alloc: Global, text: &str) -> Option<Name> {
     match Name::parse(alloc, text) {
         Ok(name) => Some(name),
         Err(_) => None,
