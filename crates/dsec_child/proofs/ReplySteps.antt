@@ -45,10 +45,10 @@ by_sections octets all e =
     ∙ ap (λ (o : Option (List Record × ℕ)). sections_by (o >>= λ answers. Some (answers.0, all.authority))) read.answers)
 
 -- the same by its groups
-pub by_groups : (octets : List ℕ) (read : GroupsRead) → groups_and_place octets ≡ Some read → sections read.0.answer read.0.authority ≡ read_reply (Some octets)
+pub by_groups : (octets : List ℕ) (read : GroupsRead) → groups_and_place octets ≡ Some read → sections read.0.answer.groups read.0.authority.groups ≡ read_reply (Some octets)
 by_groups octets read e =
     let has = from_groups octets read e in
-    ap (λ (g : GroupedSections). sections g.answer g.authority) has.grouped
+    ap (λ (g : GroupedSections). sections g.answer.groups g.authority.groups) has.grouped
     ∙ by_sections octets has.sections (ap (λ (o : Option SectionsRead). ◌>>=◌ {A = SectionsRead} {B = Sections} o (λ all. Some all.0)) has.whole)
 
 no_authorities : (octets : List ℕ) → authorities_of octets ≡ None → unreadable ≡ read_reply (Some octets)

@@ -7,4 +7,4 @@ use Rattle.dsec_child.specs.declared.reply.Reply.TheVariants.{Failed, Unreadable
 abbrev pub reply_view : Reply → nodes.Reply
 reply_view Failed = nodes.failed
 reply_view Unreadable = nodes.unreadable
-reply_view (Sections answers authorities) = nodes.sections answers authorities
+reply_view (Sections answers authorities) = nodes.sections answers.groups authorities.groups

@@ -8,7 +8,7 @@ ghost use Rattle.dsec_nodes.specs.Signing.{is_set_at as set_is_at};
 ghost use Rattle.dsec_child.specs.Replied.{reply_view};
 
 use crate::way::is_same;
-use dsec_group::{Group, GroupSet, Seed, read_groups};
+use dsec_group::{Group, GroupSet, read_groups};
 use dsec_name::{Name, NoMemory};
 use dsec_number::{Class, Rtype};
 use dsec_wire::{Message, MessageError};
@@ -35,7 +35,7 @@ pub(crate) fn read_reply(alloc: Global, reply: Option<Vec<u8>>) -> Result<Reply,
     let Ok(message) = Message::from_octets(octets) else {
         return Ok(Reply::Unreadable);
     };
-    match read_groups(alloc, &message, Seed::of_message(&message)) {
+    match read_groups(alloc, &message) {
         Ok((sections, _)) => Ok(Reply::Sections(sections.answer, sections.authority)),
         Err(MessageError::ParseError) => Ok(Reply::Unreadable),
         Err(MessageError::NoMemory) => Err(NoMemory),

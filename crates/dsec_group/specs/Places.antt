@@ -34,6 +34,15 @@ KnowsGroups it keys = KnowsOnce it.is_made it.places keys
 abbrev pub AreApart : List Group → Type 0
 AreApart groups = (keys : List GroupKey) × AreKeys keys groups × IsDistinct same_key keys
 
+-- groups, and the seed that their keys are hashed by
+pub record SeededGroups : Type 0 where
+  pub groups : List Group
+  pub seed : Seed
+
+-- what the keys of groups are hashed by: the hasher of their places
+abbrev pub seed_of : Places → Seed
+seed_of it = hasher_of it.places
+
 -- no two of the groups have the same key, and each has its place
 abbrev pub AreKept : Places → List Group → Type 0
 AreKept it groups = AreApart groups × KnowsGroups it (map group_key groups)

@@ -10,8 +10,7 @@ use crate::seed::Seed;
 use dsec_wire::Record;
 use std::hash::{BuildHasher, Hasher};
 
-/// Whether a record belongs to a group: whether it is of one owner, class and grouped type with the group's first. Names are
-/// compared last.
+/// Whether a record belongs to a group: it is of one owner, class and grouped type with the group's first. Names come last.
 pub(crate) fn belongs(next: &Record, group: &Group) -> bool
     ensures { result ≡ belongs_to next.now group.now }
 {

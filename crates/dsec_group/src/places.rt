@@ -3,7 +3,8 @@
 ghost use Rattle.std.specs.Prelude.{◌≡◌, ◌++◌, ◌∷◌, [], List, Option, IfOk, OnOk, Some, false, map, position};
 ghost use Rattle.dsec_group.specs.Adding.{belongs_to};
 ghost use Rattle.dsec_group.specs.Keys.{GroupKey, group_key, is_key, key_of};
-ghost use Rattle.dsec_group.specs.Places.{AreKept, HasPlace, Knows, KnowsGroups};
+ghost use Rattle.dsec_group.specs.Places.{AreKept, HasPlace, Knows, KnowsGroups, seed_of};
+ghost use Rattle.indexmap.specs.IndexMap.{hasher_of};
 
 use crate::group::Group;
 use crate::key::{belongs, hash_of};
@@ -27,7 +28,8 @@ pub(crate) struct Places {
 impl Places {
     /// The places of no groups.
     pub(crate) fn new(alloc: Global, seed: Seed) -> Places
-        ensures { result.is_made ≡ false }
+        ensures unmade { result.is_made ≡ false }
+        ensures seed { seed_of result ≡ seed }
     {
         Places {
             places: IndexMap::with_hasher(alloc, seed),
@@ -36,7 +38,9 @@ impl Places {
     }
 
     /// What the hashes begin with.
-    pub(crate) fn seed(&self) -> Seed {
+    pub(crate) fn seed(&self) -> Seed
+        ensures { result ≡ seed_of self.now }
+    {
         *self.places.hasher()
     }
 
@@ -66,6 +70,7 @@ impl Places {
     pub(crate) fn note(&mut self, groups: &[Group], leader: &Record) -> Result<(), NoMemory>
         ensures kept { KnowsGroups self.old (map group_key groups.now) → KnowsGroups self.new (map group_key groups.now) }
         ensures noted { OnOk result (KnowsGroups self.old (map group_key groups.now) → KnowsGroups self.new (map group_key groups.now ++ Some (key_of leader.now) ∷ [])) }
+        ensures seed { seed_of self.new ≡ seed_of self.old }
     {
         if self.is_made {
             return put(&mut self.places, leader, groups.len());
@@ -94,7 +99,8 @@ fn places_of(
     alloc: Global,
     seed: Seed,
 ) -> Result<IndexMap<u64, usize, Seed>, NoMemory>
-    ensures { IfOk result (λ places. Knows places (map group_key groups.now)) }
+    ensures knows { IfOk result (λ places. Knows places (map group_key groups.now)) }
+    ensures seed { IfOk result (λ places. hasher_of places ≡ seed) }
 {
     let mut places = IndexMap::with_hasher(alloc, seed);
     for index in 0..groups.len() {
@@ -111,6 +117,7 @@ fn put(
 ) -> Result<(), NoMemory>
     ensures kept { (keys : List (Option GroupKey)) → Knows places.old keys → Knows places.new keys }
     ensures put { OnOk result (HasPlace places.new (Some (key_of leader.now))) }
+    ensures seed { hasher_of places.new ≡ hasher_of places.old }
 {
     let hash = hash_of(leader, *places.hasher());
     places.insert(hash, index)?;

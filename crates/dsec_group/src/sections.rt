@@ -1,10 +1,10 @@
 //! The sections of a message, each record put into its group as it is read (RFC 1035 4.1, RFC 2181 5).
 
-ghost use Rattle.std.specs.Prelude.{◌≡◌, List, ℕ};
-ghost use Rattle.dsec_spec.specs.Groups as grouping;
+ghost use Rattle.std.specs.Prelude.{ℕ};
 ghost use Rattle.dsec_spec.specs.Messages.{record_at as record_of};
 ghost use Rattle.dsec_spec.specs.Reading.{Reads, many_of};
 ghost use Rattle.dsec_wire.specs.Errors.{wants_memory};
+ghost use Rattle.dsec_group.specs.Places.{SeededGroups};
 ghost use Rattle.dsec_group.specs.Reading.{GroupsRead, groups_and_place, section_in_groups};
 
 use crate::seed::Seed;
@@ -23,15 +23,15 @@ pub struct GroupedSections {
     pub authority: GroupSet,
 }
 
-/// The questions of a message and the groups of its answer and authority sections, hashed by a seed, and the place after them. Only records
-/// that groups keep take memory.
+/// The questions of a message and the groups of its answer and authority sections, hashed by the message's own seed, and the place
+/// after them. Only records that groups keep take memory.
 pub fn read_groups(
     alloc: Global,
     message: &Message,
-    seed: Seed,
 ) -> Result<(GroupedSections, usize), MessageError>
     ensures { Reads {Y = GroupsRead} wants_memory (λ read. (read.0, read.1)) result (groups_and_place message.now) }
 {
+    let seed = Seed::of_message(message);
     let header = message.header();
     let octets = message.as_slice();
     let (question, at) = message.question_and_place(alloc)?;
@@ -55,7 +55,7 @@ fn groups_at(
     message: &[u8],
     start: usize,
 ) -> Result<(GroupSet, usize), MessageError>
-    ensures { Reads {Y = List grouping.Group × ℕ} wants_memory (λ read. (read.0, read.1)) result (section_in_groups (many_of (record_of message.now) count start)) }
+    ensures { Reads {Y = SeededGroups × ℕ} wants_memory (λ read. (read.0, read.1)) result (section_in_groups seed (many_of (record_of message.now) count start)) }
 {
     let mut groups = GroupSet::with_seed(alloc, seed);
     let mut at = start;

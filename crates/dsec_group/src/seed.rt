@@ -66,7 +66,6 @@ pub struct SeededHasher {
 }
 
 impl BuildHasher for Seed {
-    ghost use Rattle.dsec_spec.specs.Messages.{header_of};
     ghost use Rattle.dsec_group.specs.Hashing.{begun};
 
     type Hasher = SeededHasher;
@@ -82,7 +81,6 @@ impl BuildHasher for Seed {
 }
 
 impl Hasher for SeededHasher {
-    ghost use Rattle.dsec_spec.specs.Messages.{header_of};
     ghost use Rattle.dsec_group.specs.Hashing.{written};
 
     ghost write = { written };

@@ -1,8 +1,7 @@
 //! Bare aliases, moved to the groups that they follow from (RFC 6672 3.1).
 
-ghost use Rattle.std.specs.Prelude.{◌≡◌, ◌++◌, ◌∷◌, [], IfOk, OnErr, OnOk, Some, None, count_by, if◌then◌else◌, length, map, nat_lt, slice_get, unwrap_or};
+ghost use Rattle.std.specs.Prelude.{◌≡◌, IfOk, OnErr, OnOk, Some, None, count_by, if◌then◌else◌, length, map, unwrap_or};
 ghost use Rattle.dsec_cause.specs.declared.cause.Cause.TheVariants.{TooManyUnsignedCnames};
-ghost use Rattle.dsec_spec.specs.Groups as grouping;
 ghost use Rattle.dsec_spec.specs.Redirection.{followed as followed_of, has_too_many, is_bare, moved, staying_from, with_followers};
 ghost use Rattle.dsec_group.specs.Followers.{follower_view, followers_at, followers_in};
 
@@ -31,9 +30,10 @@ impl GroupSet {
         anchors: &[Record],
         max_cname_dname: u8,
     ) -> Result<Option<Cause>, NoMemory>
-        ensures cause { IfOk result (λ cause. cause ≡ (if has_too_many max_cname_dname self.old then Some TooManyUnsignedCnames else None)) }
-        ensures moved { OnOk result (self.new ≡ unwrap_or (moved anchors.now max_cname_dname self.old) self.old) }
-        ensures err { OnErr result (self.new ≡ self.old) }
+        ensures cause { IfOk result (λ cause. cause ≡ (if has_too_many max_cname_dname self.old.groups then Some TooManyUnsignedCnames else None)) }
+        ensures moved { OnOk result (self.new.groups ≡ unwrap_or (moved anchors.now max_cname_dname self.old.groups) self.old.groups) }
+        ensures err { OnErr result (self.new.groups ≡ self.old.groups) }
+        ensures seed { self.new.seed ≡ self.old.seed }
     {
         let bare = bare_count(self.as_slice());
         if bare > usize::from(max_cname_dname) {
@@ -48,13 +48,14 @@ impl GroupSet {
 
     /// The groups with each bare alias moved.
     fn settled(&self, anchors: &[Record]) -> Result<GroupSet, NoMemory>
-        ensures { IfOk result (λ set. set ≡ staying_from anchors.now self.now 0 self.now) }
+        ensures stay { IfOk result (λ set. set.groups ≡ staying_from anchors.now self.now.groups 0 self.now.groups) }
+        ensures seed { IfOk result (λ set. set.seed ≡ self.now.seed) }
     {
         let groups = self.as_slice();
         let alloc = self.allocator();
         let all = all_followed(alloc, anchors, groups)?;
         let followers = followers_among(alloc, groups, &all)?;
-        let mut settled = self.blank();
+        let mut settled = GroupSet::with_seed(alloc, self.seed());
         for index in 0..groups.len() {
             if all[index].is_none() {
                 settled.push(with_all(&groups[index], index, &followers)?)?;

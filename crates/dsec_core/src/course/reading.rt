@@ -6,6 +6,7 @@ ghost use Rattle.dsec_spec.specs.Reading.{Gives};
 ghost use Rattle.dsec_course.specs.Advancing.{beginning as beginning_of, begun as begun_of, begun_by};
 ghost use Rattle.dsec_found.specs.Errors.{wants_memory};
 ghost use Rattle.dsec_group.specs.Reading.{in_groups};
+ghost use Rattle.dsec_group.specs.declared.seed.Seed.{Seed};
 ghost use Rattle.dsec_wire.specs.declared.sections.Sections.{Sections};
 ghost use Rattle.dsec_core.specs.Progress.{MovesOrEnds, read_as};
 ghost use Rattle.dsec_core.specs.Views.{waits_view};
@@ -14,7 +15,7 @@ use super::{Course, Waits};
 use dsec_cause::Cause;
 use dsec_crypto::Verifier;
 use dsec_found::Error;
-use dsec_group::{Group, GroupSet, GroupedSections, Seed, read_groups};
+use dsec_group::{Group, GroupSet, GroupedSections, read_groups};
 use dsec_name::NoMemory;
 use dsec_number::Rcode;
 use dsec_outcome::Outcome;
@@ -31,7 +32,7 @@ pub(crate) fn begun<V: Verifier>(
 ) -> Result<Course<V>, Error>
     ensures { Gives wants_memory (λ course. course) result (read_as (begun_of anchors.now most message.now)) }
 {
-    let (sections, at) = read_groups(alloc, message, Seed::of_message(message))?;
+    let (sections, at) = read_groups(alloc, message)?;
     let rcode = message.rcode_before(alloc, at)?;
     let octets = octets_of(alloc, message)?;
     Ok(by_groups(alloc, anchors, most, octets, rcode, sections)?)
@@ -47,7 +48,7 @@ fn by_groups<V: Verifier>(
     groups: GroupedSections,
 ) -> Result<Course<V>, NoMemory>
     requires { rcode_of octets.items ≡ Some rcode }
-    ensures { (sections : Sections) → groups ≡ in_groups sections
+    ensures { (seed : Seed) (sections : Sections) → groups ≡ in_groups seed sections
         → IfOk result (λ course. Ok course ≡ begun_by anchors.now most octets.items (Some (sections.question, sections.answer, sections.authority))) }
 {
     let GroupedSections {
@@ -96,7 +97,7 @@ fn moved_or_ended(
     most: u8,
     answers: &mut GroupSet,
 ) -> Result<Option<Cause>, NoMemory>
-    ensures { IfOk result (λ cause. MovesOrEnds anchors.now most answers.old answers.new cause) }
+    ensures { IfOk result (λ cause. MovesOrEnds anchors.now most answers.old.groups answers.new.groups cause) }
 {
     answers.move_redundant_cnames(anchors, most)
 }
@@ -130,7 +131,7 @@ fn beginning<V: Verifier>(
 
 /// The groups of both sections, in order.
 fn in_order(answers: GroupSet, authorities: GroupSet) -> Result<Vec<Group>, NoMemory>
-    ensures { IfOk result (λ all. all.items ≡ answers ++ authorities) }
+    ensures { IfOk result (λ all. all.items ≡ answers.groups ++ authorities.groups) }
 {
     let mut all = answers.into_vec();
     let mut others = authorities.into_vec();

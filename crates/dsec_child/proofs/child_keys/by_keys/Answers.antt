@@ -22,7 +22,7 @@ returns-in-Sections-clause-node g c =
     let reply = reply_of (option_map (λ (v : Vec ℕ Global). v.items) c.args.reply) in
     let e = sym (ap reply_view c.in-Sections.is) ∙ c.in_ok-answers.ensures in
     let f = sym (ap (option_map (λ (b : Bor Group). b.now)) c.in-None.is) ∙ (c.set_at.ensures.first ∙ (ap (λ (p : Place). find (is_set_at p DNSKEY) c.as_slice.result.now) c.name-name.ensures ∙ ap (find (is_set_at pending.name DNSKEY)) c.as_slice.ensures.value)) in
-    if_ok c.bogus.result (λ n h. h [] ∙ (ap (λ (p : Place). bogus_at w p NoDnskey) c.name-name.ensures ∙ by_no_set w c.args.zone.now pending reply c.in-Sections.answers c.in-Sections.field-1 e f)) c.bogus.ensures
+    if_ok c.bogus.result (λ n h. h [] ∙ (ap (λ (p : Place). bogus_at w p NoDnskey) c.name-name.ensures ∙ by_no_set w c.args.zone.now pending reply c.in-Sections.answers.groups c.in-Sections.field-1.groups e f)) c.bogus.ensures
 
 pub returns-in-Failed-clause-node : goal.returns-in-Failed-clause-node
 returns-in-Failed-clause-node g c =

@@ -21,7 +21,7 @@ returns-in-Sections-clause-node g c =
     let reply = reply_of (option_map (λ (v : Vec ℕ Global). v.items) c.args.reply) in
     let e = sym (ap reply_view c.in-Sections.is) ∙ c.in_ok-answers.ensures in
     let f = sym (ap (option_map (λ (b : Bor Group). b.now)) c.in-None.is) ∙ (c.set_at.ensures.first ∙ ap (find (is_set_at top DNSKEY)) c.as_slice.ensures.value) in
-    if_ok c.bogus.result (λ n h. h anchors ∙ by_no_set w top reply c.in-Sections.answers c.in-Sections.field-1 e f) c.bogus.ensures
+    if_ok c.bogus.result (λ n h. h anchors ∙ by_no_set w top reply c.in-Sections.answers.groups c.in-Sections.field-1.groups e f) c.bogus.ensures
 
 pub returns-in-Failed-clause-node : goal.returns-in-Failed-clause-node
 returns-in-Failed-clause-node g c =

@@ -8,5 +8,5 @@ use Rattle.dsec_group.proofs.sections.groups_at.Given as goal
 
 abbrev pub invariant-loop : goal.invariant-loop
 invariant-loop l =
-    (front : List Record) × (l.groups ≡ groups_of front)
+    (front : List Record) × (l.groups.groups ≡ groups_of front) × (l.groups.seed ≡ l.fn.seed)
     × (after_front front (many_of (record_at l.message) (l.count - l.counter) l.at) ≡ many_of (record_at l.message) l.count l.start)

@@ -1,9 +1,10 @@
 use Rattle.std.proofs.Common.{Option, Some, refl, ap, ◌∙◌}
 use Rattle.std.proofs.lemmas.Result.{err_from_is_err_and}
-use Rattle.dsec_spec.specs.Messages.{rcode_of}
+use Rattle.dsec_spec.specs.Messages.{header_of, rcode_of}
 use Rattle.dsec_spec.specs.Reading.{◌>>=◌}
 use Rattle.dsec_wire.specs.declared.sections.Sections.{Sections}
 use Rattle.dsec_wire.specs.MessageSections.{SectionsRead}
+use Rattle.dsec_group.specs.Hashing.{message_seed}
 use Rattle.dsec_group.proofs.ReadingLaws.{from_groups}
 use Rattle.dsec_core.proofs.ReadSteps.{begun_read, refused}
 use Rattle.dsec_core.proofs.course.reading.begun.Goals as goal
@@ -22,4 +23,4 @@ pub returns : goal.returns
 returns g c =
     let has = from_groups c.args.message.now (c.in_ok-sections.sections, c.in_ok-sections.at) c.in_ok-sections.ensures in
     begun_read c.args.anchors.now c.args.most c.args.message.now c.in_ok-octets.octets.items has.sections c.in_ok-by_groups.field-0 c.in_ok-octets.ensures
-    (ap (λ (o : Option SectionsRead). ◌>>=◌ {A = SectionsRead} {B = Sections} o (λ all. Some all.0)) has.whole) (c.in_ok-by_groups.ensures has.sections has.grouped)
+    (ap (λ (o : Option SectionsRead). ◌>>=◌ {A = SectionsRead} {B = Sections} o (λ all. Some all.0)) has.whole) (c.in_ok-by_groups.ensures (message_seed c.args.message.now (header_of c.args.message.now)) has.sections has.grouped)

@@ -13,9 +13,9 @@ returns-then-self-clause-noted c =
     once_noted c.put.result c.args.self.now.is_made c.args.self.now.places c.put.new.places keys (Some (key_of c.args.leader.now)) c.if-self.true (c.put.ensures.kept keys) c.put.ensures.put
 
 pub returns-clause-kept : goal.returns-clause-kept
-returns-clause-kept c = λ _. c.put-2.ensures.kept (map group_key c.args.groups.now) c.in_ok-places.ensures
+returns-clause-kept c = λ _. c.put-2.ensures.kept (map group_key c.args.groups.now) c.in_ok-places.ensures.knows
 
 pub returns-clause-noted : goal.returns-clause-noted
 returns-clause-noted c = λ _.
     let keys = map group_key c.args.groups.now in
-    knows_more c.put-2.new.places keys (Some (key_of c.args.leader.now)) (c.put-2.ensures.kept keys c.in_ok-places.ensures) c.in_ok-put.ensures.put
+    knows_more c.put-2.new.places keys (Some (key_of c.args.leader.now)) (c.put-2.ensures.kept keys c.in_ok-places.ensures.knows) c.in_ok-put.ensures.put

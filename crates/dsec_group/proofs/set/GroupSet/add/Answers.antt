@@ -5,4 +5,4 @@ use Rattle.dsec_group.proofs.set.GroupSet.add.Goals as goal
 
 pub returns-clause-section : goal.returns-clause-section
 returns-clause-section c = λ section e.
-    subst (λ gs. OnOk c.place.result (c.place.new.self ≡ gs)) (ap (placed c.args.next) e ∙ sym (groups_more section c.args.next)) c.place.ensures.ok
+    subst (λ gs. OnOk c.place.result (c.place.new.self.groups ≡ gs)) (ap (placed c.args.next) e ∙ sym (groups_more section c.args.next)) c.place.ensures.ok

@@ -6,4 +6,4 @@ use Rattle.dsec_group.proofs.set.GroupSet.move_redundant_cnames.Goals as goal
 
 pub returns-else-bare-gt0-clause-moved : goal.returns-else-bare-gt0-clause-moved
 returns-else-bare-gt0-clause-moved c =
-    nothing_moved c.args.anchors.now c.args.max_cname_dname c.args.self.now (ap (count_by is_bare) (sym c.as_slice.ensures.value) ∙ omega (arith, c.bare_count-bare.ensures, c.if-bare-gt0.false))
+    nothing_moved c.args.anchors.now c.args.max_cname_dname c.args.self.now.groups (ap (count_by is_bare) (sym c.as_slice.ensures.value) ∙ omega (arith, c.bare_count-bare.ensures, c.if-bare-gt0.false))

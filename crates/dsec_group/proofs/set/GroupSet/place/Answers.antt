@@ -3,6 +3,7 @@ use Rattle.std.specs.Prelude.{OnOk, slice_get, slice_set}
 use Rattle.dsec_spec.specs.Groups.{Group}
 use Rattle.dsec_group.specs.Adding.{placed, put_in}
 use Rattle.dsec_group.specs.Keys.{group_key}
+use Rattle.dsec_group.specs.Places.{SeededGroups}
 use Rattle.dsec_group.proofs.IndexLaws.{set_keys, set_placed, there_is}
 use Rattle.dsec_group.proofs.PlaceLaws.{kept_same}
 use Rattle.dsec_group.proofs.set.GroupSet.place.Goals as goal
@@ -23,5 +24,5 @@ returns-in-Some-clause-ok c =
     let found = subst (λ gs. (g : Group) → slice_get gs i ≡ Some g → placed c.args.next gs ≡ slice_set gs i (put_in c.args.next g)) c.deref.ensures.value c.in-Some.ensures.found in
     let within = subst (λ gs. i < length gs) c.deref.ensures.value c.in-Some.ensures.within in
     let there = there_is gs i c.index_mut.result.now c.index_mut.result.now within c.index_mut.ensures.value in
-    subst (λ all. OnOk c.put.result (slice_set gs i c.put.new.self ≡ placed c.args.next all)) c.self.view_is
+    subst (λ (all : SeededGroups). OnOk c.put.result (slice_set gs i c.put.new.self ≡ placed c.args.next all.groups)) c.self.view_is
     (set_placed c.args.next gs i c.index_mut.result.now c.put.new.self there c.put.result c.put.ensures.ok found)

@@ -13,7 +13,7 @@ use Rattle.dsec_group.proofs.set.GroupSet.settled.Goals.{then-is_none+in_ok-with
 
 pub loop-index-init : goal.loop-index-init
 unfolding staying_from
-loop-index-init c = c.blank-settled.ensures
+loop-index-init c = (c.with_seed-settled.ensures.empty, c.with_seed-settled.ensures.seed ∙ c.seed.ensures)
 
 pub push-requires : goal.push-requires
 push-requires c = record {
@@ -23,7 +23,7 @@ push-requires c = record {
       let g = c.index-groups-index.result in
       let at = ap (λ (gs : List Group). slice_get gs i) (sym c.as_slice-groups.ensures.value) ∙ there_is groups i g g c.loop-index-test.true c.index-groups-index.is in
       let before = ap (λ (gs : List Group). has_key k (take i gs)) c.as_slice-groups.ensures.value ∙ c.as_slice-groups.ensures.distinct i g at k (ap group_key (sym c.in_ok-with_all.ensures) ∙ its) in
-      ap (has_key k) c.loop-index.invariant ∙ staying_keys c.args.anchors.now k groups (take i groups) 0 before;
+      ap (has_key k) c.loop-index.invariant.0 ∙ staying_keys c.args.anchors.now k groups (take i groups) 0 before;
 }
 
 pub loop-index-preserved : goal.loop-index-preserved
@@ -37,7 +37,10 @@ loop-index-preserved c =
     elim c.if-is_none.branch [
       | then-is_none+in_ok-with_all+in_ok-push w ↦ let g = w.index-groups-index.result in
           let there : is_some (followed c.args.anchors.now groups g) ≡ not c.is_none.result = ap is_some (followed_index_at c.args.anchors.now groups c.in_ok-all.all.items i c.index.result.now g c.in_ok-all.ensures c.index.ensures c.loop-index-test.true w.index-groups-index.is) ∙ c.is_none.ensures in
-          rw w.settled-is (stays_on c.args.anchors.now groups i g c.loop-index.settled c.loop-index-test.true w.index-groups-index.is c.loop-index.invariant
-          w.push.new.self w.in_ok-with_all.field-0 _ (there ∙ ap not w.if-is_none.true) w.in_ok-with_all.ensures (pairs w.deref-then-is_none.result.now w.deref-then-is_none.ensures.value) w.in_ok-push.ensures.ok)
-      | else-is_none w ↦ rw w.settled-is (leaves_off c.args.anchors.now groups i e.0 c.loop-index.settled c.loop-index-test.true e.1 c.loop-index.invariant (some ∙ ap not w.if-is_none.false))
+          rw w.settled-is (
+            stays_on c.args.anchors.now groups i g c.loop-index.settled.groups c.loop-index-test.true w.index-groups-index.is c.loop-index.invariant.0
+                w.push.new.self.groups w.in_ok-with_all.field-0 _ (there ∙ ap not w.if-is_none.true) w.in_ok-with_all.ensures (pairs w.deref-then-is_none.result.now w.deref-then-is_none.ensures.value) w.in_ok-push.ensures.ok,
+            w.push.ensures.seed ∙ c.loop-index.invariant.1,
+          )
+      | else-is_none w ↦ rw w.settled-is (leaves_off c.args.anchors.now groups i e.0 c.loop-index.settled.groups c.loop-index-test.true e.1 c.loop-index.invariant.0 (some ∙ ap not w.if-is_none.false), c.loop-index.invariant.1)
     ]
