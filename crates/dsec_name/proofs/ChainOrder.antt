@@ -1,15 +1,17 @@
--- The order of a name and one that it stands under.
+-- The order of a name and one that it stands under, or of two that stand under the same.
 use Rattle.std.proofs.Common.{◌≡◌, ℕ, ◌+◌, ◌<◌, List, [], ◌∷◌, ◌++◌, length, refl, sym, ap, ◌∙◌, arith, append-nil}
-use Rattle.std.specs.Prelude.{reverse}
-use Rattle.std.specs.Ordering.{ordering_then}
+use Rattle.std.specs.Prelude.{map, reverse}
+use Rattle.std.specs.Char.{to_ascii_lowercase}
+use Rattle.std.specs.Cmp.Lexicographic.{slice_cmp}
+use Rattle.std.specs.Ordering.{nat_cmp, ordering_then}
 use Rattle.std.specs.declared.cmp.Ordering.{Ordering}
-use Rattle.std.specs.declared.cmp.Ordering.TheVariants.{Less, Greater}
+use Rattle.std.specs.declared.cmp.Ordering.TheVariants.{Less, Equal, Greater}
 use Rattle.std.proofs.lemmas.Cmp.{tied_itself}
 use Rattle.std.proofs.lemmas.List.{reverse-append, length-reverse}
 use Rattle.dsec_spec.specs.Names.{Labels, Place, place, place_cmp, lower, name_cmp, IsAtOrBelow, wire_length}
 use Rattle.dsec_spec.proofs.WireNameLemmas.{wire_length-lower}
 use Rattle.dsec_name.specs.NameLaws.{place_total}
-use Rattle.dsec_name.proofs.PlaceOrder.{above_labels, fronts_first, something_first, nothing_first}
+use Rattle.dsec_name.proofs.PlaceOrder.{above_labels, fronts_first, order_step, something_first, nothing_first, then_Equal}
 
 -- a front of a place with more behind it comes after that front, and the front before it
 front_then : (p under : Place) → 0 < length under → place_cmp (p ++ under) p ≡ Greater
@@ -38,3 +40,11 @@ longer_after m n long h =
 pub shorter_before : (m n : Labels) → wire_length m < wire_length n → IsAtOrBelow (place n) (place m) → name_cmp m n ≡ Less
 shorter_before m n long h =
     let u = under_longer n m long h in ap (place_cmp (place m)) u.1 ∙ front_before (place m) u.0 u.2
+
+-- of names with the same labels behind the first, the first decide
+pub siblings : (label other_label : List ℕ) (name : Labels) → name_cmp (label ∷ name) (other_label ∷ name) ≡ slice_cmp nat_cmp (map to_ascii_lowercase label) (map to_ascii_lowercase other_label)
+siblings label other_label name =
+    let by_label = slice_cmp nat_cmp (map to_ascii_lowercase label) (map to_ascii_lowercase other_label) in
+    sym (then_Equal (name_cmp (label ∷ name) (other_label ∷ name)))
+    ∙ (order_step label other_label name name Equal refl
+    ∙ (ap (λ (o : Ordering). ordering_then o (ordering_then by_label Equal)) (tied_itself place_total (place name)) ∙ then_Equal by_label))

@@ -17,7 +17,7 @@ then_assoc Less b c = refl
 then_assoc Equal b c = refl
 then_assoc Greater b c = refl
 
-then_Equal : (a : Ordering) → ordering_then a Equal ≡ a
+pub then_Equal : (a : Ordering) → ordering_then a Equal ≡ a
 then_Equal Less = refl
 then_Equal Equal = refl
 then_Equal Greater = refl

@@ -31,6 +31,19 @@ pub(crate) fn compare(one: &[u8], other: &[u8]) -> Ordering
     order
 }
 
+/// The order of two names whose octets behind the first label are the same: that of their first labels, where `compare` counts and
+/// compares all. None of any others.
+pub(crate) fn order_of_siblings(one: &[u8], other: &[u8]) -> Option<Ordering>
+    ensures { IfSome result (λ order. order ≡ name_cmp (labels_of one.now) (labels_of other.now)) }
+{
+    let (label, rest) = split_label(one)?;
+    let (other_label, other_rest) = split_label(other)?;
+    if *rest == *other_rest {
+        return Some(compare_labels(label, other_label));
+    }
+    None
+}
+
 /// The order of two names of which one stands under the other: by one comparison of octets, where `compare` takes one for each label.
 /// None of any others.
 pub(crate) fn order_in_chain(one: &[u8], other: &[u8]) -> Option<Ordering>

@@ -11,7 +11,7 @@ ghost use Rattle.dsec_name.specs.NameRefs.{name_view};
 ghost use Rattle.dsec_name.specs.Parts.{parent_of};
 ghost use Rattle.dsec_name.specs.Wire.{IsOnWire, name_on_wire, wire_labels};
 
-use crate::compare::{compare, is_at_or_below, order_in_chain};
+use crate::compare::{compare, is_at_or_below, order_in_chain, order_of_siblings};
 use crate::error::{NameError, NoMemory};
 use crate::name_ref::NameRef;
 use arrayvec::ArrayVec;
@@ -157,6 +157,9 @@ impl Name {
     pub fn canonical_cmp(&self, other: &Self) -> Ordering
         ensures { result ≡ name_cmp self.now other.now }
     {
+        if let Some(order) = order_of_siblings(&self.octets, &other.octets) {
+            return order;
+        }
         match order_in_chain(&self.octets, &other.octets) {
             Some(order) => order,
             None => compare(&self.octets, &other.octets),
