@@ -231,8 +231,8 @@ def by_nsec(name, types):
 
 
 def deep_insecure(share):
-    """As many names with an address as have room, below a delegation without DS, which is 119 names below the anchor at most."""
-    depth = int(share * 119)
+    """As many names with an address as have room, below a delegation without DS, which is 119 names below the anchor."""
+    depth = 119
     zone = deep(depth)
     name = label(0) + zone
     octets = message(name, 1, fitting(room(share, name), each(lambda index: [record(label(index) + pointer(name, zone), 1, ADDRESS)])))

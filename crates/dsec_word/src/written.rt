@@ -1,10 +1,11 @@
 //! Names, numbers and octets, written at the end of a text.
 
-ghost use Rattle.std.specs.Prelude.{◌≡◌, ◌++◌, OnOk, decimal};
+ghost use Rattle.std.specs.Prelude.{◌≡◌, ◌++◌, OnErr, OnOk, decimal};
 ghost use Rattle.hex.specs.Hex.{encode_lower};
 ghost use Rattle.dsec_name.specs.NameDisplay.{name_text};
 
 use dsec_name::{Name, NoMemory};
+use itoa::Buffer;
 use std::io::Write;
 
 /// A name, as it is displayed.
@@ -19,12 +20,12 @@ pub fn push_name(out: &mut Vec<u8>, name: &Name) -> Result<(), NoMemory>
 
 /// A number in decimal.
 pub fn push_number(out: &mut Vec<u8>, n: u64) -> Result<(), NoMemory>
-    ensures { OnOk result (out.new.items ≡ out.old.items ++ decimal n) }
+    ensures ok { OnOk result (out.new.items ≡ out.old.items ++ decimal n) }
+    ensures err { OnErr result (out.new.items ≡ out.old.items) }
 {
-    match write!(out, "{n}") {
-        Ok(()) => Ok(()),
-        Err(_) => Err(NoMemory),
-    }
+    let mut buffer = Buffer::new();
+    out.extend_from_slice(buffer.format(n).as_bytes())?;
+    Ok(())
 }
 
 /// Octets in lower-case hex.
