@@ -232,11 +232,10 @@ def by_nsec(name, types):
 
 def deep_insecure(share):
     """As many names with an address as have room, below a delegation without DS, which is 119 names below the anchor."""
-    depth = 119
-    zone = deep(depth)
+    zone = deep(119)
     name = label(0) + zone
     octets = message(name, 1, fitting(room(share, name), each(lambda index: [record(label(index) + pointer(name, zone), 1, ADDRESS)])))
-    replies = [(text_of(deep(labels)), "DS", by_nsec(deep(labels), WITH_A if labels < depth else WITH_NS)) for labels in range(1, depth + 1)]
+    replies = [(text_of(deep(labels)), "DS", by_nsec(deep(labels), WITH_A if labels < 119 else WITH_NS)) for labels in range(1, 120)]
     return Judged(octets, replies_below(0) + replies, [ANCHOR])
 
 
