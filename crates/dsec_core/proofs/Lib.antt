@@ -1,7 +1,6 @@
 pub mod ReadSteps
 pub mod WaySteps
 pub mod GroupSteps
-pub mod EndSteps
 pub mod BeginLaws
 pub mod BoundSteps
 pub mod StepLaws

@@ -71,8 +71,8 @@ pub fn on_judged<V: Verifier>(
     }
 }
 
-/// What it comes to where a group is bogus: by the links of the node whose keys were tried with it.
-fn bogus_under<V: Verifier>(cause: Cause, node: &Arc<Node<V>>) -> Result<Outcome<V>, NoMemory>
+/// What a message comes to where a group is bogus for a cause: it is bogus, by the links of the node whose keys were tried with it.
+pub fn bogus_under<V: Verifier>(cause: Cause, node: &Arc<Node<V>>) -> Result<Outcome<V>, NoMemory>
     ensures { IfOk result (λ outcome. outcome ≡ bogus_by cause (by_links (arc_value node.now).links)) }
 {
     let node = Arc::try_clone(node)?;

@@ -10,6 +10,6 @@ mod denied;
 mod outcome;
 mod used;
 
-pub use answer::{on_judged, on_questions};
+pub use answer::{bogus_under, on_judged, on_questions};
 pub use outcome::{Outcome, Why};
 pub use used::UsedGroup;

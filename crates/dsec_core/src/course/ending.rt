@@ -1,26 +1,21 @@
 //! What a message comes to where all its groups are judged (RFC 4033 5).
 
 ghost use Rattle.std.specs.Prelude.{◌≡◌, [], IfOk};
-ghost use Rattle.std.specs.Arc.{arc_value};
 ghost use Rattle.dsec_course.specs.Advancing.{at_last, going_on};
 ghost use Rattle.dsec_course.specs.Course as courses;
-ghost use Rattle.dsec_nodes.specs.Outcomes.{bogus_by, by_links};
 ghost use Rattle.dsec_walk.specs.Views.{world_in};
 ghost use Rattle.dsec_core.specs.Progress.{ended_by};
 ghost use Rattle.dsec_core.specs.Views.{next_view};
 
 use super::{Course, Waits};
 use crate::step::{Next, Step};
-use dsec_cause::Cause;
 use dsec_crypto::Verifier;
 use dsec_found::{AllJudged, Error, JudgedGroup, and_next};
 use dsec_group::{Memo, ValidationState};
 use dsec_name::NoMemory;
-use dsec_node::Node;
-use dsec_outcome::{Outcome, on_judged, on_questions};
+use dsec_outcome::{Outcome, bogus_under, on_questions};
 use dsec_walk::Setting;
 use std::alloc::Global;
-use std::sync::Arc;
 
 impl<V: Verifier> Course<V> {
     /// The end, where no group is left.
@@ -65,55 +60,20 @@ impl<V: Verifier> Course<V> {
             Err(_) => Ok(Next::Refuses),
         }
     }
+}
 
-    /// What the message comes to by a judged group, if that is bogus.
-    pub(super) fn ended(
-        &self,
-        alloc: Global,
-        setting: &Setting<'_>,
-        judged: &JudgedGroup<V>,
-        memo: &mut impl Memo<V>,
-    ) -> Result<Option<Outcome<V>>, NoMemory>
-        ensures { IfOk result (λ outcome. outcome ≡ ended_by judged.now.finding) }
-    {
-        if judged.state() != ValidationState::Bogus {
-            return Ok(None);
-        }
-        match and_next(Vec::new(alloc), judged.clone()?)? {
-            AllJudged::OneBogus(cause, node) => {
-                Ok(Some(self.bogus(alloc, setting, cause, node, memo)?))
-            }
-            AllJudged::All(_) => Ok(None),
-        }
+/// What the message comes to by a judged group, if that is bogus.
+pub(super) fn ended<V: Verifier>(
+    alloc: Global,
+    judged: &JudgedGroup<V>,
+) -> Result<Option<Outcome<V>>, NoMemory>
+    ensures { IfOk result (λ outcome. outcome ≡ ended_by judged.now.finding) }
+{
+    if judged.state() != ValidationState::Bogus {
+        return Ok(None);
     }
-
-    /// What the message comes to by a bogus group, with its cause and the node whose keys were tried with it.
-    fn bogus(
-        &self,
-        alloc: Global,
-        setting: &Setting<'_>,
-        cause: Cause,
-        node: Arc<Node<V>>,
-        memo: &mut impl Memo<V>,
-    ) -> Result<Outcome<V>, NoMemory>
-        ensures { IfOk result (λ outcome. outcome ≡ bogus_by cause (by_links (arc_value node).links)) }
-    {
-        let bogus = AllJudged::OneBogus(cause, node);
-        let others = AllJudged::All(Vec::new(alloc));
-        match on_judged(
-            alloc,
-            setting.anchors,
-            self.most,
-            setting.config,
-            self.rcode,
-            &self.questions,
-            &bogus,
-            &others,
-            memo,
-        ) {
-            Ok(outcome) => Ok(outcome),
-            // A message with a bogus group is never refused.
-            Err(_) => Err(NoMemory),
-        }
+    match and_next(Vec::new(alloc), judged.clone()?)? {
+        AllJudged::OneBogus(cause, node) => Ok(Some(bogus_under(cause, &node)?)),
+        AllJudged::All(_) => Ok(None),
     }
 }

@@ -12,6 +12,7 @@ ghost use Rattle.dsec_walk.specs.Views.{input_view, world_in};
 ghost use Rattle.dsec_core.specs.Validating.{judged_by};
 ghost use Rattle.dsec_core.specs.Views.{next_view};
 
+use super::ending::ended;
 use super::{Course, Waits};
 use crate::step::{Next, Step};
 use dsec_crypto::Verifier;
@@ -115,7 +116,7 @@ impl<V: Verifier> Course<V> {
     {
         let (config, moment) = (setting.config, setting.moment);
         let judged = judged_by_node::<V, L>(alloc, config, moment, group, node, memo, steps)?;
-        let outcome = self.ended(alloc, setting, &judged, memo)?;
+        let outcome = ended(alloc, &judged)?;
         self.walks.push(walk)?;
         self.judged.push(judged)?;
         match outcome {
