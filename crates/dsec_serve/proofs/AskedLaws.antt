@@ -6,7 +6,6 @@ use Rattle.dsec_spec.specs.Outside.{Table}
 use Rattle.dsec_nodes.specs.World.{World}
 use Rattle.dsec_nodes.specs.Nodes.{Node}
 use Rattle.dsec_nodes.specs.Machine.{Question as Asked, Input, begin, node, stored, reply}
-use Rattle.dsec_nodes.specs.Outcomes.{Outcome}
 use Rattle.dsec_found.specs.declared.error.Error.{Error}
 use Rattle.dsec_course.specs.Course.{Course, CourseStep, get_node, put_node, ask_for, end_with, CourseAnswers, Awaits, asked_in}
 use Rattle.dsec_course.specs.Advancing.{begun, course_advanced}
@@ -17,10 +16,9 @@ use Rattle.dsec_core.specs.Validating.{AdvancesTo}
 use Rattle.dsec_core.specs.Views.{step_view}
 use Rattle.dsec_serve.specs.Outside.{Outside, WasHeld, IsServed}
 use Rattle.dsec_serve.specs.Calls.{WereHeard, most_questions}
-use Rattle.dsec_serve.specs.Judgements.{judgement_at, IsJudging}
 use Rattle.dsec_serve.specs.Turns.{asks, IsAt}
 use Rattle.dsec_serve.proofs.ServingLaws.{serving_holds, begins_unasked}
-use Rattle.dsec_serve.proofs.CallLaws.{were_heard, heard_few, ends_ok}
+use Rattle.dsec_serve.proofs.CallLaws.{were_heard, heard_few}
 
 -- each answer counts the question of its step
 pub turned_asked : {V : Type 0} (w : World) (most : ℕ) (message : List ℕ) (table : Option Table) (before now next : Outside) (old new : Course)
@@ -104,12 +102,3 @@ pub first_unasked : {V : Type 0} (w : World) (most : ℕ) (message : List ℕ) (
     → AdvancesTo (course_advanced w old begin) new (Ok step) → length (asked_in new) ≡ 0
 first_unasked w most message old new step e a =
     ap (λ (p : Course × CourseStep). length (asked_in p.0)) a ∙ ap length (begins_unasked w most message old e)
-
--- a message that has come to its end has a verdict
-pub at_end : (w : World) (most : ℕ) (message : List ℕ) (table : Option Table) (before now : Outside) (course : Course) (o : Outcome) (questions : ℕ)
-    → IsAt w most message table before now course (end_with (Ok o)) → questions ≡ length (asked_in course)
-    → IsJudging w most message table before now (judgement_at w course (Ok (record { outcome = o; questions = questions })))
-at_end w most message table before now course o questions (r, at, its, s) count =
-    subst (λ (c : Course). IsJudging w most message table before now (judgement_at w c (Ok (record { outcome = o; questions = questions })))) at
-    (subst (λ (n : ℕ). IsJudging w most message table before now (judgement_at w r.course (Ok (record { outcome = o; questions = n }))))
-    (ap (λ (c : Course). length (asked_in c)) at ∙ sym count) (ends_ok w most message table before now r o s its))

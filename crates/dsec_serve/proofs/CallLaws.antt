@@ -99,6 +99,11 @@ ends_ok w most message table before now r o s e =
     } in
     record { call = call; hands_on = hands_on_at w most message table before now r (Ok o) s e }
 
+pub ok_asks : (w : World) (most : ℕ) (message : List ℕ) (table : Option Table) (before now : Outside) (r : Run) (o : Outcome)
+    (s : IsServing w most message table before now r) (e : r.step ≡ end_with (Ok o)) → (ends_ok w most message table before now r o s e).call.asked ≡ asked_in r.course
+unfolding ends_ok
+ok_asks w most message table before now r o s e = refl
+
 -- a refusal at the end
 pub ends_refused : (w : World) (most : ℕ) (message : List ℕ) (table : Option Table) (before now : Outside) (r : Run)
     → IsServing w most message table before now r → r.step ≡ end_with (Err not_one_question)
@@ -120,6 +125,12 @@ ends_refused w most message table before now r s e =
     } in
     record { call = call; hands_on = hands_on_at w most message table before now r (Err not_one_question) s e }
 
+pub refused_asks : (w : World) (most : ℕ) (message : List ℕ) (table : Option Table) (before now : Outside) (r : Run)
+    (s : IsServing w most message table before now r) (e : r.step ≡ end_with (Err not_one_question))
+    → (ends_refused w most message table before now r s e).call.asked ≡ asked_in r.course
+unfolding ends_refused
+refused_asks w most message table before now r s e = refl
+
 -- no memory, at any step: nothing that was judged is kept
 pub ends_without_memory : (w : World) (most : ℕ) (message : List ℕ) (table : Option Table) (before now : Outside) (r : Run) (course : Course)
     → IsServing w most message table before now r → course.judged ≡ [] → IsJudging w most message table before now (judgement_at w course (Err NoMemory))
@@ -136,6 +147,12 @@ ends_without_memory w most message table before now r course s none =
       agrees = λ replies h asked. record { says = tt; holds = held_so w most message table before now r replies s h asked };
     } in
     record { call = call; hands_on = none_without_groups (moment w) course none }
+
+pub without_memory_asks : (w : World) (most : ℕ) (message : List ℕ) (table : Option Table) (before now : Outside) (r : Run) (course : Course)
+    (s : IsServing w most message table before now r) (none : course.judged ≡ [])
+    → (ends_without_memory w most message table before now r course s none).call.asked ≡ asked_in r.course
+unfolding ends_without_memory
+without_memory_asks w most message table before now r course s none = refl
 
 -- a question found no memory, while it was waited for
 pub ends_at_a_question : (w : World) (most : ℕ) (message : List ℕ) (table : Option Table) (before now next : Outside) (r : Run) (course : Course)
@@ -157,6 +174,13 @@ ends_at_a_question w most message table before now next r course s same a f hear
       };
     } in
     record { call = call; hands_on = none_while_waiting (moment w) course waits }
+
+pub at_a_question_asks : (w : World) (most : ℕ) (message : List ℕ) (table : Option Table) (before now next : Outside) (r : Run) (course : Course)
+    (s : IsServing w most message table before now r) (same : next.held ≡ now.held) (a : next.asked ≡ risen now.asked) (f : next.faults ≡ now.faults)
+    (heard : next.heard ≡ now.heard) (waits : course.waits ≡ for_nothing → ⊥)
+    → (ends_at_a_question w most message table before now next r course s same a f heard waits).call.asked ≡ asked_in r.course
+unfolding ends_at_a_question
+at_a_question_asks w most message table before now next r course s same a f heard waits = refl
 
 -- a message that can't be read
 pub ends_unread : (w : World) (most : ℕ) (message : List ℕ) (table : Option Table) (before : Outside) → begun w.anchors most message ≡ Err unreadable
@@ -193,7 +217,7 @@ ends_unbegun w most message table before =
     record { call = call; hands_on = refl }
 
 -- what was heard leaves the groups as they are
-groups_after : (w : World) (held : Node → Type 0) (inputs : List Input) (r : Run) → AreHeard w held r inputs
+pub groups_after : (w : World) (held : Node → Type 0) (inputs : List Input) (r : Run) → AreHeard w held r inputs
     → groups_in (after_heard w r inputs).course ≡ groups_in r.course
 groups_after w held [] r h = refl
 groups_after w held (i ∷ inputs) r h = groups_after w held inputs (ran_on w r i) h.2 ∙ groups_stay w r.course i h.0

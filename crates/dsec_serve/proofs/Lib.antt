@@ -5,5 +5,7 @@ pub mod TellingLaws
 pub mod TurnLaws
 pub mod FewLaws
 pub mod AskedLaws
+pub mod ChecksLaws
+pub mod WithinLaws
 pub mod StartLaws
 pub mod JudgementLaws

@@ -19,6 +19,7 @@ use Rattle.dsec_core.specs.Validating.{Validating, begun_as, most_of, with_cours
 use Rattle.dsec_serve.specs.Outside.{Outside}
 use Rattle.dsec_serve.specs.Verdicts.{Verdict}
 use Rattle.dsec_serve.specs.Judgements.{Judgement, judgement_at, IsJudging}
+use Rattle.dsec_serve.specs.Checked.{IsJudgingWithin}
 use Rattle.dsec_serve.proofs.CallLaws.{ends_unread, ends_unbegun}
 
 -- what was started has these parts, and is begun
@@ -46,13 +47,13 @@ started anchors config moment message it e = by (begun anchors config.max_cname_
 
 -- so a call over what was started is one over its parts
 pub started_call : (accepts : Accepts) (anchors : List Record) (config : Settings) (moment : ℕ) (message : List ℕ) (it : Validating) (table : Option Table)
-    (before after : Outside) (j : Judgement) → IsStarted anchors config moment message it
-    → IsJudging (world_by accepts it) (most_of it) message table before after j
-    → IsJudging (world_of accepts anchors (bounds_of config) moment) config.max_cname_dname message table before after j
-started_call accepts anchors config moment message it table before after j s c =
-    subst (λ (x : ℕ). IsJudging (world_of accepts anchors (bounds_of config) x) config.max_cname_dname message table before after j) s.same_moment
-    (subst (λ (x : List Record). IsJudging (world_of accepts x (bounds_of config) it.moment) config.max_cname_dname message table before after j) s.same_anchors
-    (subst (λ (x : Settings). IsJudging (world_of accepts it.anchors (bounds_of x) it.moment) x.max_cname_dname message table before after j) s.same_config c))
+    (before after : Outside) (j : Judgement) (from to : ℕ) → IsStarted anchors config moment message it
+    → IsJudgingWithin (world_by accepts it) (most_of it) message table before after j from to
+    → IsJudgingWithin (world_of accepts anchors (bounds_of config) moment) config.max_cname_dname message table before after j from to
+started_call accepts anchors config moment message it table before after j from to s c =
+    subst (λ (x : ℕ). IsJudgingWithin (world_of accepts anchors (bounds_of config) x) config.max_cname_dname message table before after j from to) s.same_moment
+    (subst (λ (x : List Record). IsJudgingWithin (world_of accepts x (bounds_of config) it.moment) config.max_cname_dname message table before after j from to) s.same_anchors
+    (subst (λ (x : Settings). IsJudgingWithin (world_of accepts it.anchors (bounds_of x) it.moment) x.max_cname_dname message table before after j from to) s.same_config c))
 
 -- a judgement, by its answer and by the moment and the course of what was judged
 abbrev judged_so : Result Verdict Error → ℕ → Course → Judgement
@@ -60,13 +61,13 @@ judged_so answer t c = record { answer = answer; groups = to_rewrite (on_circle 
 
 -- so a judgement over what was started is one over its parts
 pub started_judged : (accepts : Accepts) (anchors : List Record) (config : Settings) (moment : ℕ) (message : List ℕ) (it last : Validating) (table : Option Table)
-    (before after : Outside) (answer : Result Verdict Error) (j : Judgement) → IsStarted anchors config moment message it → last ≡ with_course it last.course
-    → j ≡ judged_so answer last.moment last.course
-    → IsJudging (world_by accepts it) (most_of it) message table before after (judgement_at (world_by accepts it) last.course answer)
-    → IsJudging (world_of accepts anchors (bounds_of config) moment) config.max_cname_dname message table before after j
-started_judged accepts anchors config moment message it last table before after answer j s same is h =
-    started_call accepts anchors config moment message it table before after j s
-    (subst (IsJudging (world_by accepts it) (most_of it) message table before after)
+    (before after : Outside) (answer : Result Verdict Error) (j : Judgement) (from to : ℕ) → IsStarted anchors config moment message it
+    → last ≡ with_course it last.course → j ≡ judged_so answer last.moment last.course
+    → IsJudgingWithin (world_by accepts it) (most_of it) message table before after (judgement_at (world_by accepts it) last.course answer) from to
+    → IsJudgingWithin (world_of accepts anchors (bounds_of config) moment) config.max_cname_dname message table before after j from to
+started_judged accepts anchors config moment message it last table before after answer j from to s same is h =
+    started_call accepts anchors config moment message it table before after j from to s
+    (subst (λ (x : Judgement). IsJudgingWithin (world_by accepts it) (most_of it) message table before after x from to)
     (ap (λ (t : ℕ). judged_so answer t last.course) (sym (ap (λ (v : Validating). v.moment) same)) ∙ sym is) h)
 
 -- with the anchors that these are

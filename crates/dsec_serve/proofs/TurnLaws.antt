@@ -72,7 +72,7 @@ at_awaits w most message table before now course step (r, at, its, s) =
     subst (λ (x : CourseStep). Awaits x course.waits) its (subst (λ (c : Course). Awaits r.step c.waits) at (serving_holds w most message table before now r s).awaits)
 
 -- what is asked is waited for
-asked_waits : (step : CourseStep) (waits : Waiting) → asks step ≡ 1 → Awaits step waits → waits ≡ for_nothing → ⊥
+pub asked_waits : (step : CourseStep) (waits : Waiting) → asks step ≡ 1 → Awaits step waits → waits ≡ for_nothing → ⊥
 asked_waits (get_node name) waits e a over = cc
 asked_waits (put_node name n) waits e a over = cc
 asked_waits (end_with r) waits e a over = cc

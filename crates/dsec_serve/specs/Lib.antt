@@ -4,4 +4,5 @@ pub use Rattle.dsec_core.specs.Outcomes
 pub mod Serving
 pub mod Calls
 pub mod Judgements
+pub mod Checked
 pub mod Turns

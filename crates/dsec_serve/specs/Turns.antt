@@ -1,8 +1,8 @@
 -- One step of a message that is judged over caches and an upstream, in code.
-use Rattle.std.specs.Prelude.{◌≡◌, ℕ, List, Bool, true, false, Option, Result, Ok, Err}
+use Rattle.std.specs.Prelude.{◌≡◌, ◌≤◌, ℕ, ◌+◌, ◌*◌, List, length, Bool, true, false, Option, Result, Ok, Err}
 use Rattle.dsec_spec.specs.Outside.{Table}
 use Rattle.dsec_nodes.specs.World.{World}
-use Rattle.dsec_course.specs.Course.{Course, CourseStep, get_node, put_node, ask_for, end_with}
+use Rattle.dsec_course.specs.Course.{Course, CourseStep, get_node, put_node, ask_for, end_with, asked_in}
 use Rattle.dsec_course.specs.Hearing.{Run}
 use Rattle.dsec_found.specs.declared.error.Error.{Error}
 use Rattle.dsec_core.specs.declared.step.Step.{Step}
@@ -10,6 +10,7 @@ use Rattle.dsec_core.specs.Views.{step_view}
 use Rattle.dsec_serve.specs.Outside.{Outside}
 use Rattle.dsec_serve.specs.Serving.{IsServing}
 use Rattle.dsec_serve.specs.Judgements.{judgement_at, IsJudging}
+use Rattle.dsec_serve.specs.Checked.{sets_at_most, IsJudgingWithin}
 
 -- whether a step is the end
 abbrev pub ends : CourseStep → Bool
@@ -40,3 +41,16 @@ abbrev pub EndsSo : {V : Type 0} → World → ℕ → List ℕ → Option Table
 EndsSo w most message table before now course (Ok step) =
     (ends (step_view step) ≡ true) × IsAt w most message table before now course (step_view step)
 EndsSo w most message table before now course (Err e) = IsJudging w most message table before now (judgement_at w course (Err e))
+
+-- how many sets were checked at most so far (RFC 4035 5.2, 5.3)
+abbrev pub sets_so_far : Course → ℕ
+sets_so_far c = sets_at_most (asked_in c) (length c.judged)
+
+-- from one count of checked signatures to the other no more were checked than are tried of so many sets
+abbrev pub AreFew : World → Course → ℕ → ℕ → Type 0
+AreFew w course from to = to ≤ from + sets_so_far course * w.bounds.room
+
+-- where it has come to the next step, few signatures were checked so far; where the call ends with an error, few in all
+abbrev pub CountsTo : {V : Type 0} → World → ℕ → List ℕ → Option Table → Outside → Outside → Course → ℕ → ℕ → Result (Step V) Error → Type 0
+CountsTo w most message table before now course from to (Ok step) = AreFew w course from to
+CountsTo w most message table before now course from to (Err e) = IsJudgingWithin w most message table before now (judgement_at w course (Err e)) from to

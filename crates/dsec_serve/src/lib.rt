@@ -12,5 +12,5 @@ pub use answering::answer_to;
 pub use dsec_core::{Input, Outcome, Step, UsedGroup, Validation, Why, all_bounded};
 pub use dsec_found::Error;
 pub use judgement::Judgement;
-pub use validating::judge_in;
+pub use validating::{judge_counted_in, judge_in};
 pub use verdict::Verdict;

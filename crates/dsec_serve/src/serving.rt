@@ -6,7 +6,7 @@ ghost use Rattle.dsec_core.specs.Views.{step_view};
 ghost use Rattle.dsec_course.specs.Course.{asked_in};
 ghost use Rattle.dsec_serve.specs.Calls.{most_questions};
 ghost use Rattle.dsec_serve.specs.Outside.{Outside};
-ghost use Rattle.dsec_serve.specs.Turns.{asks, ends, EndsSo, IsAt};
+ghost use Rattle.dsec_serve.specs.Turns.{asks, ends, AreFew, CountsTo, EndsSo, IsAt};
 
 use crate::turn::turn;
 use dsec_core::{Step, Validation};
@@ -60,6 +60,10 @@ pub(crate) fn serve<V: Verifier, C: Caches<V>, M: Memo<V>, U: Upstream, L: Ledge
     ensures ends { (most : ℕ) (message : List ℕ) (before : Outside)
         → IsAt (world_by V.accepts validation.old) most message (U.table upstream.old) before (record { held = C.held caches.old; asked = U.asked upstream.old; faults = U.faults upstream.old; heard = U.heard upstream.old }) validation.old.course (step_view step)
         → EndsSo (world_by V.accepts validation.old) most message (U.table upstream.old) before (record { held = C.held caches.new; asked = U.asked upstream.new; faults = U.faults upstream.new; heard = U.heard upstream.new }) validation.new.course result }
+    ensures checks { (most : ℕ) (message : List ℕ) (before : Outside) (from : ℕ)
+        → IsAt (world_by V.accepts validation.old) most message (U.table upstream.old) before (record { held = C.held caches.old; asked = U.asked upstream.old; faults = U.faults upstream.old; heard = U.heard upstream.old }) validation.old.course (step_view step)
+        → AreFew (world_by V.accepts validation.old) validation.old.course from steps.old
+        → CountsTo (world_by V.accepts validation.old) most message (U.table upstream.old) before (record { held = C.held caches.new; asked = U.asked upstream.new; faults = U.faults upstream.new; heard = U.heard upstream.new }) validation.new.course from steps.new result }
     ensures same { validation.new ≡ with_course validation.old validation.new.course }
     ensures same_table { U.table upstream.new ≡ U.table upstream.old }
 {

@@ -6,7 +6,7 @@ ghost use Rattle.dsec_core.specs.Views.{step_view};
 ghost use Rattle.dsec_course.specs.Course.{asked_in, Awaits};
 ghost use Rattle.dsec_course.specs.Ending.{steps_left};
 ghost use Rattle.dsec_serve.specs.Outside.{Outside};
-ghost use Rattle.dsec_serve.specs.Turns.{asks, ends, ComesTo, IsAt};
+ghost use Rattle.dsec_serve.specs.Turns.{asks, ends, AreFew, ComesTo, CountsTo, IsAt};
 
 use crate::answering::answer_to;
 use dsec_core::{Step, Validation};
@@ -40,6 +40,10 @@ pub(crate) fn turn<V: Verifier, C: Caches<V>, M: Memo<V>, U: Upstream, L: Ledger
     ensures asked { (most : ℕ) (message : List ℕ) (before : Outside)
         → IsAt (world_by V.accepts validation.old) most message (U.table upstream.old) before (record { held = C.held caches.old; asked = U.asked upstream.old; faults = U.faults upstream.old; heard = U.heard upstream.old }) validation.old.course (step_view step)
         → IfOk result (λ _. length (asked_in validation.new.course) ≡ length (asked_in validation.old.course) + asks (step_view step)) }
+    ensures checks { (most : ℕ) (message : List ℕ) (before : Outside) (from : ℕ)
+        → IsAt (world_by V.accepts validation.old) most message (U.table upstream.old) before (record { held = C.held caches.old; asked = U.asked upstream.old; faults = U.faults upstream.old; heard = U.heard upstream.old }) validation.old.course (step_view step)
+        → AreFew (world_by V.accepts validation.old) validation.old.course from steps.old
+        → CountsTo (world_by V.accepts validation.old) most message (U.table upstream.old) before (record { held = C.held caches.new; asked = U.asked upstream.new; faults = U.faults upstream.new; heard = U.heard upstream.new }) validation.new.course from steps.new result }
     ensures same { validation.new ≡ with_course validation.old validation.new.course }
     ensures same_table { U.table upstream.new ≡ U.table upstream.old }
 {

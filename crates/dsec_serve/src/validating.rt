@@ -1,6 +1,6 @@
 //! Messages judged over caches, a memo and an upstream (RFC 4033 5, RFC 4035 4.3, 4.5, 5).
 
-ghost use Rattle.std.specs.Prelude.{◌≡◌, ◌<◌, ◌≤◌, ℕ, List, length, ⊤, None, Ok, IfOk, IfSome, true};
+ghost use Rattle.std.specs.Prelude.{◌≡◌, ◌<◌, ◌≤◌, ◌+◌, ℕ, List, length, ⊤, None, Ok, IfOk, IfSome, true};
 ghost use Rattle.dsec_spec.specs.Records as records;
 ghost use Rattle.dsec_nodes.specs.Alone.{sections_of};
 ghost use Rattle.dsec_nodes.specs.Outcomes.{secure};
@@ -14,10 +14,11 @@ ghost use Rattle.dsec_course.specs.Course.{asked_in, end_with};
 ghost use Rattle.dsec_core.specs.Validating.{most_of, with_course, world_by};
 ghost use Rattle.dsec_cut.specs.Ended.{AreJudged};
 ghost use Rattle.dsec_core.specs.Views.{step_view};
-ghost use Rattle.dsec_serve.specs.Calls.{AgreesWith, CanCome, OkOrNoMemory, RefusedOrBogus, RefusedOrNoMemory, most_questions};
+ghost use Rattle.dsec_serve.specs.Calls.{AgreesWith, CanCome, OkOrNoMemory, RefusedOrBogus, RefusedOrNoMemory, count_of, most_questions};
+ghost use Rattle.dsec_serve.specs.Checked.{HeardWithin, IsJudgingWithin};
 ghost use Rattle.dsec_serve.specs.Judgements.{GroupsAgree, IsJudging, judgement_at};
 ghost use Rattle.dsec_serve.specs.Outside.{replies_of, HoldsTable, Outside};
-ghost use Rattle.dsec_serve.specs.Turns.{ends, IsAt};
+ghost use Rattle.dsec_serve.specs.Turns.{ends, AreFew, IsAt};
 
 use crate::judgement::Judgement;
 use crate::serving::serve;
@@ -101,14 +102,65 @@ fn counted<V: Verifier, C: Caches<V>, M: Memo<V>, U: Upstream, L: Ledger>(
         (record { held = C.held caches.new; asked = U.asked upstream.new; faults = U.faults upstream.new; heard = U.heard upstream.new }) result }
     ensures same_table { U.table upstream.new ≡ U.table upstream.old }
 {
+    let mut steps = Steps::<L>::begin(blank);
+    judge_counted_in(
+        alloc, anchors, config, caches, memo, message, upstream, now, &mut steps,
+    )
+}
+
+/// `judge_in` on the caller's ledger: each check of a signature is one of its steps. Of each set `max_bad_signatures + 1` signatures are checked
+/// at most. A question takes as many sets as its reply can have checked: to the one for a DS set a DS set, a CNAME set and each set of the
+/// authority section; to the one for a DNSKEY set that set. Each group of the message is one set more. So whatever caches and upstream do,
+/// the number of checks has a bound that the message and the replies give, of which none has more than 65,535 octets.
+pub fn judge_counted_in<V: Verifier, C: Caches<V>, M: Memo<V>, U: Upstream, L: Ledger>(
+    alloc: Global,
+    anchors: &TrustAnchors,
+    config: &Config,
+    caches: &mut C,
+    memo: &mut M,
+    message: &Message,
+    upstream: &mut U,
+    now: u64,
+    steps: &mut Steps<L>,
+) -> Judgement<V>
+    ensures judging { IsJudging (world_of V.accepts anchors.now (bounds_of config.now) now) config.now.max_cname_dname message.now (U.table upstream.old)
+        (record { held = C.held caches.old; asked = U.asked upstream.old; faults = U.faults upstream.old; heard = U.heard upstream.old })
+        (record { held = C.held caches.new; asked = U.asked upstream.new; faults = U.faults upstream.new; heard = U.heard upstream.new }) result }
+    ensures checks { IsJudgingWithin (world_of V.accepts anchors.now (bounds_of config.now) now) config.now.max_cname_dname message.now (U.table upstream.old)
+        (record { held = C.held caches.old; asked = U.asked upstream.old; faults = U.faults upstream.old; heard = U.heard upstream.old })
+        (record { held = C.held caches.new; asked = U.asked upstream.new; faults = U.faults upstream.new; heard = U.heard upstream.new }) result steps.old steps.new }
+    ensures heard { HeardWithin (U.heard upstream.old) (U.heard upstream.new) (count_of (begun anchors.now config.now.max_cname_dname message.now)) (config.now.max_bad_signatures + 1) steps.old steps.new }
+    ensures same_table { U.table upstream.new ≡ U.table upstream.old }
+{
+    judge(
+        alloc, anchors, config, caches, memo, message, upstream, now, steps,
+    )
+}
+
+/// The judgement on a message, and what it takes.
+fn judge<V: Verifier, C: Caches<V>, M: Memo<V>, U: Upstream, L: Ledger>(
+    alloc: Global,
+    anchors: &TrustAnchors,
+    config: &Config,
+    caches: &mut C,
+    memo: &mut M,
+    message: &Message,
+    upstream: &mut U,
+    now: u64,
+    steps: &mut Steps<L>,
+) -> Judgement<V>
+    ensures checks { IsJudgingWithin (world_of V.accepts anchors.now (bounds_of config.now) now) config.now.max_cname_dname message.now (U.table upstream.old)
+        (record { held = C.held caches.old; asked = U.asked upstream.old; faults = U.faults upstream.old; heard = U.heard upstream.old })
+        (record { held = C.held caches.new; asked = U.asked upstream.new; faults = U.faults upstream.new; heard = U.heard upstream.new }) result steps.old steps.new }
+    ensures same_table { U.table upstream.new ≡ U.table upstream.old }
+{
     let Ok(own) = anchors_copy(alloc, anchors) else {
         return Judgement::unbegun(Error::NoMemory);
     };
     let _ = most_asked(message);
-    let mut steps = Steps::<L>::begin(blank);
     match Validation::start(alloc, own, *config, message, now) {
         Ok(mut validation) => {
-            let answer = begin(alloc, &mut validation, caches, memo, upstream, &mut steps);
+            let answer = begin(alloc, &mut validation, caches, memo, upstream, steps);
             Judgement::new(answer, validation)
         }
         Err(error) => Judgement::unbegun(error),
@@ -141,10 +193,11 @@ fn begin<V: Verifier, C: Caches<V>, M: Memo<V>, U: Upstream, L: Ledger>(
     steps: &mut Steps<L>,
 ) -> Result<Verdict<V>, Error>
     requires begun { (message : List ℕ) × (begun validation.old.anchors (most_of validation.old) message ≡ Ok validation.old.course) × (most_questions validation.old.anchors (most_of validation.old) message ≤ 33422850) }
-    ensures judging { (message : List ℕ) → begun validation.old.anchors (most_of validation.old) message ≡ Ok validation.old.course
-        → IsJudging (world_by V.accepts validation.old) (most_of validation.old) message (U.table upstream.old)
+    ensures checks { (message : List ℕ) → begun validation.old.anchors (most_of validation.old) message ≡ Ok validation.old.course
+        → IsJudgingWithin (world_by V.accepts validation.old) (most_of validation.old) message (U.table upstream.old)
         (record { held = C.held caches.old; asked = U.asked upstream.old; faults = U.faults upstream.old; heard = U.heard upstream.old })
-        (record { held = C.held caches.new; asked = U.asked upstream.new; faults = U.faults upstream.new; heard = U.heard upstream.new }) (judgement_at (world_by V.accepts validation.old) validation.new.course result) }
+        (record { held = C.held caches.new; asked = U.asked upstream.new; faults = U.faults upstream.new; heard = U.heard upstream.new }) (judgement_at (world_by V.accepts validation.old) validation.new.course result)
+        steps.old steps.new }
     ensures same { validation.new ≡ with_course validation.old validation.new.course }
     ensures same_table { U.table upstream.new ≡ U.table upstream.old }
 {
@@ -167,10 +220,12 @@ fn finish<V: Verifier, C: Caches<V>, M: Memo<V>, U: Upstream, L: Ledger>(
     requires unasked { length (asked_in validation.old.course) ≡ 0 }
     requires at { (most : ℕ) × (message : List ℕ) × (before : Outside)
         × IsAt (world_by V.accepts validation.old) most message (U.table upstream.old) before (record { held = C.held caches.old; asked = U.asked upstream.old; faults = U.faults upstream.old; heard = U.heard upstream.old }) validation.old.course (step_view step) × (most_questions validation.old.anchors most message ≤ 33422850) }
-    ensures judging { (most : ℕ) (message : List ℕ) (before : Outside)
+    ensures checks { (most : ℕ) (message : List ℕ) (before : Outside) (from : ℕ)
         → IsAt (world_by V.accepts validation.old) most message (U.table upstream.old) before (record { held = C.held caches.old; asked = U.asked upstream.old; faults = U.faults upstream.old; heard = U.heard upstream.old }) validation.old.course (step_view step)
-        → IsJudging (world_by V.accepts validation.old) most message (U.table upstream.old) before
-        (record { held = C.held caches.new; asked = U.asked upstream.new; faults = U.faults upstream.new; heard = U.heard upstream.new }) (judgement_at (world_by V.accepts validation.old) validation.new.course result) }
+        → AreFew (world_by V.accepts validation.old) validation.old.course from steps.old
+        → IsJudgingWithin (world_by V.accepts validation.old) most message (U.table upstream.old) before
+        (record { held = C.held caches.new; asked = U.asked upstream.new; faults = U.faults upstream.new; heard = U.heard upstream.new }) (judgement_at (world_by V.accepts validation.old) validation.new.course result)
+        from steps.new }
     ensures same { validation.new ≡ with_course validation.old validation.new.course }
     ensures same_table { U.table upstream.new ≡ U.table upstream.old }
 {

@@ -4,7 +4,7 @@ use Rattle.dsec_course.specs.Ending.{steps_left}
 use Rattle.dsec_core.specs.Validating.{with_course, world_by}
 use Rattle.dsec_core.specs.Views.{step_view}
 use Rattle.dsec_serve.specs.Outside.{Outside}
-use Rattle.dsec_serve.specs.Turns.{IsAt}
+use Rattle.dsec_serve.specs.Turns.{AreFew, IsAt}
 use Rattle.dsec_serve.proofs.serving.serve.Given as goal
 
 abbrev pub invariant-loop-alloc : goal.invariant-loop-alloc
@@ -19,6 +19,8 @@ invariant-loop-alloc g l =
     (record { held = g.C.Caches.held l.caches; asked = g.U.Upstream.asked l.upstream; faults = g.U.Upstream.faults l.upstream; heard = g.U.Upstream.heard l.upstream })
     l.validation.course (step_view l.last))
     × (l.questions ≡ length (asked_in l.validation.course))
+    × ((from : ℕ) → AreFew (world_by g.V.Verifier.accepts l.fn.validation) l.fn.validation.course from l.fn.steps
+    → AreFew (world_by g.V.Verifier.accepts l.fn.validation) l.validation.course from l.steps)
 
 abbrev pub decreases-loop-alloc : goal.decreases-loop-alloc
 decreases-loop-alloc g l = steps_left (world_by g.V.Verifier.accepts l.fn.validation) l.validation.course
