@@ -126,6 +126,21 @@ pub fn judge_counted_in<V: Verifier, C: Caches<V>, M: Memo<V>, U: Upstream, L: L
     ensures judging { IsJudging (world_of V.accepts anchors.now (bounds_of config.now) now) config.now.max_cname_dname message.now (U.table upstream.old)
         (record { held = C.held caches.old; asked = U.asked upstream.old; faults = U.faults upstream.old; heard = U.heard upstream.old })
         (record { held = C.held caches.new; asked = U.asked upstream.new; faults = U.faults upstream.new; heard = U.heard upstream.new }) result }
+    ensures sound { IfOk result.answer (λ v. IsJustified (world_of V.accepts anchors.now (bounds_of config.now) now) config.now.max_cname_dname message.now v.outcome v.outcome.state) }
+    ensures told { IfSome (U.table upstream.old) (λ t. HoldsTable (world_of V.accepts anchors.now (bounds_of config.now) now) (replies_of t) (C.held caches.old)
+        → AgreesWith (world_of V.accepts anchors.now (bounds_of config.now) now) config.now.max_cname_dname message.now
+        (record { held = C.held caches.new; asked = U.asked upstream.new; faults = U.faults upstream.new; heard = U.heard upstream.new }) result.answer (replies_of t)) }
+    ensures complete { IfSome (U.table upstream.old) (λ t. HoldsTable (world_of V.accepts anchors.now (bounds_of config.now) now) (replies_of t) (C.held caches.old)
+        → IsPlainAnswer (world_of V.accepts anchors.now (bounds_of config.now) now) (replies_of t) message.now
+        → OkOrNoMemory (λ v. v.outcome.state ≡ secure) result.answer) }
+    ensures readable { (read : IsReadable message.now) → length read.questions ≡ 1 → OkOrNoMemory (λ v. ⊤) result.answer }
+    ensures unreadable { sections_of message.now ≡ None → RefusedOrNoMemory ParseError result.answer }
+    ensures not_one { HasNotOneQuestion message.now → RefusedOrBogus FormError result.answer }
+    ensures refusals { CanCome result.answer }
+    ensures few { IfOk result.answer (λ v. v.questions ≤ most_questions anchors.now config.now.max_cname_dname message.now) }
+    ensures groups_sound { IfSome result.groups (λ both. AreJudged (world_of V.accepts anchors.now (bounds_of config.now) now) config.now.max_cname_dname message.now both) }
+    ensures groups_told { IfSome (U.table upstream.old) (λ t. HoldsTable (world_of V.accepts anchors.now (bounds_of config.now) now) (replies_of t) (C.held caches.old)
+        → GroupsAgree (world_of V.accepts anchors.now (bounds_of config.now) now) config.now.max_cname_dname (replies_of t) message.now result) }
     ensures checks { IsJudgingWithin (world_of V.accepts anchors.now (bounds_of config.now) now) config.now.max_cname_dname message.now (U.table upstream.old)
         (record { held = C.held caches.old; asked = U.asked upstream.old; faults = U.faults upstream.old; heard = U.heard upstream.old })
         (record { held = C.held caches.new; asked = U.asked upstream.new; faults = U.faults upstream.new; heard = U.heard upstream.new }) result steps.old steps.new }
