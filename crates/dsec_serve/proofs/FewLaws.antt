@@ -1,19 +1,24 @@
--- How many groups a message has: no more than its header says records.
-use Rattle.std.proofs.Common.{◌≡◌, ℕ, zero, suc, ◌+◌, ◌≤◌, Bool, true, false, cond, List, [], ◌∷◌, ◌++◌, length, Option, Some, None, Result, Ok, Err, refl, sym, ap, ◌∙◌, subst, arith}
+-- How many groups a message has, and how many sets of a reply are checked: no more than a header says records, and two.
+use Rattle.std.proofs.Common.{◌≡◌, ℕ, zero, suc, ◌+◌, ◌≤◌, ◌==◌, Bool, true, false, cond, List, [], ◌∷◌, ◌++◌, length, Option, Some, None, Result, Ok, Err, refl, sym, ap, ◌∙◌, subst, arith}
 use Rattle.std.specs.Prelude.{filter, is_some}
 use Rattle.std.proofs.Math.Bool.{not}
 use Rattle.std.proofs.lemmas.List.{length-append, length-map}
 use Rattle.dsec_spec.specs.Reading.{many_of}
 use Rattle.dsec_spec.specs.Records.{Record}
+use Rattle.dsec_spec.specs.Numbers.{DS}
 use Rattle.dsec_spec.specs.Messages.{Question, Header, header_of, questions_of, answers_of, authorities_of, record_at}
 use Rattle.dsec_spec.specs.Groups.{Group, firsts, of_one_group, groups_of}
 use Rattle.dsec_spec.specs.Redirection.{followed, followers, with_followers, staying_from, has_too_many, moved}
 use Rattle.dsec_spec.proofs.ReadingLemmas.{from_bind}
+use Rattle.dsec_child.specs.Belows.{most_checked}
 use Rattle.dsec_nodes.specs.Alone.{Refusal, sections_of}
+use Rattle.dsec_nodes.specs.Machine.{Question as Asked}
+use Rattle.dsec_nodes.specs.Replies.{sections_by, both_of, read_reply}
 use Rattle.dsec_course.specs.Course.{Course}
 use Rattle.dsec_course.specs.Advancing.{begun_with, begun_by, begun}
 use Rattle.dsec_course.proofs.BeginningLaws.{begun_waits}
 use Rattle.dsec_serve.specs.Calls.{count_of}
+use Rattle.dsec_serve.specs.Checked.{sets_in}
 
 -- so many things are read
 many_length : {A : Type 0} (read : ℕ → Option (A × ℕ)) (n at : ℕ) (r : List A × ℕ) → many_of read n at ≡ Some r → length r.0 ≡ n
@@ -120,3 +125,23 @@ groups_counted anchors most message h is = by (begun anchors most message) refl
     by (Ok c) f =
         let l = ap length (begun_waits anchors most message c f).groups_are in
         omega (arith, l, by_sections c f (sections_of message) refl f)
+
+-- Of the reply to a question no more sets are checked than its header says records of the authority section, and two
+pub sets_counted : (q : Asked) (octets : List ℕ) (h : Header) → q.reply ≡ Some octets → header_of octets ≡ Some h → sets_in q ≤ 2 + h.authorities
+sets_counted q octets h e is = by (q.rtype == DS)
+  where
+    by_sections : (o : Option (List Record × List Record)) → both_of octets ≡ o → most_checked (sections_by o) ≤ 2 + h.authorities
+    by_sections None f = omega arith
+    by_sections (Some s) f =
+        let authorities = from_bind (authorities_of octets) _ s f in
+        let answers = from_bind (answers_of octets) _ s authorities.2 in
+        let same : (answers.0.0, authorities.0.0) ≡ s = cc in
+        let l = ap (λ (x : List Record × List Record). length x.1) same in
+        omega (arith, l, groups_few s.1, authorities_few octets h authorities.0 is authorities.1)
+
+    reply : most_checked (read_reply q.reply) ≤ 2 + h.authorities
+    reply = subst (λ (o : Option (List ℕ)). most_checked (read_reply o) ≤ 2 + h.authorities) (sym e) (by_sections (both_of octets) refl)
+
+    by : (b : Bool) → cond {A = ℕ} b (most_checked (read_reply q.reply)) 1 ≤ 2 + h.authorities
+    by true = reply
+    by false = omega arith

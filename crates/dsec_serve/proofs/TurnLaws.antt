@@ -1,11 +1,10 @@
--- One step of a message leads on, or the call ends.
+-- One step of a message leads on.
 use Rattle.std.proofs.Common.{◌≡◌, ◌<◌, ℕ, List, Option, None, IfOk, Result, Ok, Err, sym, ap, subst}
 use Rattle.dsec_spec.specs.Accepts.{Accepts}
-use Rattle.dsec_spec.specs.Outside.{Table, risen}
+use Rattle.dsec_spec.specs.Outside.{Table}
 use Rattle.dsec_nodes.specs.World.{World}
 use Rattle.dsec_nodes.specs.Machine.{Input, begin, node, stored, reply}
 use Rattle.dsec_found.specs.declared.error.Error.{Error}
-use Rattle.dsec_found.specs.declared.error.Error.TheVariants.{FormError, ParseError, NoMemory, InplaceError, OctetsConversion, PushError, PushNameError, ReadError, ShortMessage}
 use Rattle.dsec_course.specs.Course.{Waiting, for_nothing, Course, CourseStep, get_node, put_node, ask_for, end_with, CourseAnswers, Awaits}
 use Rattle.dsec_course.specs.Advancing.{begun, course_advanced}
 use Rattle.dsec_course.specs.Hearing.{Run, first_run, ran_on}
@@ -14,12 +13,11 @@ use Rattle.dsec_course.specs.Justified.{SoundCourse}
 use Rattle.dsec_course.proofs.EndingLaws.{course_nearer}
 use Rattle.dsec_core.specs.declared.step.Step.{Step}
 use Rattle.dsec_core.specs.Validating.{AdvancesTo}
+use Rattle.dsec_core.specs.Views.{step_view}
 use Rattle.dsec_serve.specs.Outside.{Outside, IsServed}
 use Rattle.dsec_serve.specs.Serving.{IsServing}
-use Rattle.dsec_serve.specs.Judgements.{judgement_at, IsJudging}
-use Rattle.dsec_serve.specs.Turns.{asks, IsAt, ComesTo}
+use Rattle.dsec_serve.specs.Turns.{asks, IsAt}
 use Rattle.dsec_serve.proofs.ServingLaws.{serving_begins, serving_goes_on, serving_holds}
-use Rattle.dsec_serve.proofs.CallLaws.{ends_refused, ends_without_memory, ends_at_a_question}
 
 -- what serves a step answers what is waited for
 pub served_answers : (accepts : Accepts) (table : Option Table) (before after : Outside) (step : CourseStep) (waits : Waiting) (i : Input)
@@ -41,25 +39,15 @@ served_answers accepts table before after (end_with r) waits i s a = absurd s
 -- what a run comes to by an answer
 comes_by : {V : Type 0} (w : World) (most : ℕ) (message : List ℕ) (table : Option Table) (before now : Outside) (r : Run) (course : Course)
     (result : Result (Step V) Error) → IsServing w most message table before now r → AdvancesTo (r.course, r.step) course result
-    → ComesTo w most message table before now course result
+    → IfOk result (λ x. IsAt w most message table before now course (step_view x))
 comes_by w most message table before now r course (Ok step) s e = (r, ap (λ (p : Course × CourseStep). p.0) (sym e), ap (λ (p : Course × CourseStep). p.1) (sym e), s)
-comes_by w most message table before now r course (Err FormError) s e =
-    subst (λ (c : Course). IsJudging w most message table before now (judgement_at w c (Err FormError))) (ap (λ (p : Course × CourseStep). p.0) (sym e))
-    (ends_refused w most message table before now r s (ap (λ (p : Course × CourseStep). p.1) (sym e)))
-comes_by w most message table before now r course (Err ParseError) s e = absurd e
-comes_by w most message table before now r course (Err (InplaceError e)) s x = absurd x
-comes_by w most message table before now r course (Err OctetsConversion) s x = absurd x
-comes_by w most message table before now r course (Err PushError) s x = absurd x
-comes_by w most message table before now r course (Err PushNameError) s x = absurd x
-comes_by w most message table before now r course (Err ReadError) s x = absurd x
-comes_by w most message table before now r course (Err ShortMessage) s x = absurd x
-comes_by w most message table before now r course (Err NoMemory) s e = ends_without_memory w most message table before now r course s e.1
+comes_by w most message table before now r course (Err e) s a = tt
 
 -- a step that was answered
 pub turned : {V : Type 0} (w : World) (most : ℕ) (message : List ℕ) (table : Option Table) (before now next : Outside) (old new : Course)
     (step : CourseStep) (i : Input) (result : Result (Step V) Error) → IsAt w most message table before now old step
     → IsServed w.accepts table now next step i → AdvancesTo (course_advanced w old i) new result
-    → ComesTo w most message table before next new result
+    → IfOk result (λ x. IsAt w most message table before next new (step_view x))
 turned w most message table before now next old new step i result (r, at, its, s) served e =
     comes_by w most message table before next (ran_on w r i) new result
     (serving_goes_on w most message table before now next r i s (subst (λ (x : CourseStep). IsServed w.accepts table now next x i) (sym its) served))
@@ -78,18 +66,10 @@ asked_waits (put_node name n) waits e a over = cc
 asked_waits (end_with r) waits e a over = cc
 asked_waits (ask_for name rtype) waits e a over = (subst (Awaits (ask_for name rtype)) over a None).0
 
--- a question that found no memory
-pub unanswered : (w : World) (most : ℕ) (message : List ℕ) (table : Option Table) (before now next : Outside) (old : Course) (step : CourseStep)
-    → IsAt w most message table before now old step → asks step ≡ 1 → next.held ≡ now.held → next.asked ≡ risen now.asked → next.faults ≡ now.faults
-    → next.heard ≡ now.heard → IsJudging w most message table before next (judgement_at w old (Err NoMemory))
-unanswered w most message table before now next old step (r, at, its, s) one same a f heard =
-    ends_at_a_question w most message table before now next r old s same a f heard
-    (asked_waits step old.waits one (at_awaits w most message table before now old step (r, at, its, s)))
-
 -- the beginning
 pub first_turned : {V : Type 0} (w : World) (most : ℕ) (message : List ℕ) (table : Option Table) (before : Outside) (old new : Course)
     (result : Result (Step V) Error) → begun w.anchors most message ≡ Ok old → AdvancesTo (course_advanced w old begin) new result
-    → ComesTo w most message table before before new result
+    → IfOk result (λ x. IsAt w most message table before before new (step_view x))
 first_turned w most message table before old new result e f =
     comes_by w most message table before before (first_run w old) new result (serving_begins w most message table before old e) f
 

@@ -6,10 +6,9 @@ use Rattle.dsec_course.specs.Course.{Course, CourseStep, get_node, put_node, ask
 use Rattle.dsec_course.specs.Hearing.{Run}
 use Rattle.dsec_found.specs.declared.error.Error.{Error}
 use Rattle.dsec_core.specs.declared.step.Step.{Step}
-use Rattle.dsec_core.specs.Views.{step_view}
 use Rattle.dsec_serve.specs.Outside.{Outside}
 use Rattle.dsec_serve.specs.Serving.{IsServing}
-use Rattle.dsec_serve.specs.Judgements.{judgement_at, IsJudging}
+use Rattle.dsec_serve.specs.Judgements.{judgement_at}
 use Rattle.dsec_serve.specs.Checked.{sets_at_most, IsJudgingWithin}
 
 -- whether a step is the end
@@ -30,17 +29,6 @@ asks (end_with r) = 0
 abbrev pub IsAt : World → ℕ → List ℕ → Option Table → Outside → Outside → Course → CourseStep → Type 0
 IsAt w most message table before now course step =
     (r : Run) × (r.course ≡ course) × (r.step ≡ step) × IsServing w most message table before now r
-
--- it has come to the next step, or the call ends with an error
-abbrev pub ComesTo : {V : Type 0} → World → ℕ → List ℕ → Option Table → Outside → Outside → Course → Result (Step V) Error → Type 0
-ComesTo w most message table before now course (Ok step) = IsAt w most message table before now course (step_view step)
-ComesTo w most message table before now course (Err e) = IsJudging w most message table before now (judgement_at w course (Err e))
-
--- it has come to the end, or the call ends with an error
-abbrev pub EndsSo : {V : Type 0} → World → ℕ → List ℕ → Option Table → Outside → Outside → Course → Result (Step V) Error → Type 0
-EndsSo w most message table before now course (Ok step) =
-    (ends (step_view step) ≡ true) × IsAt w most message table before now course (step_view step)
-EndsSo w most message table before now course (Err e) = IsJudging w most message table before now (judgement_at w course (Err e))
 
 -- how many sets were checked at most so far (RFC 4035 5.2, 5.3)
 abbrev pub sets_so_far : Course → ℕ

@@ -1,12 +1,12 @@
 //! A message judged to its end over caches and an upstream (RFC 4035 4.3).
 
-ghost use Rattle.std.specs.Prelude.{◌≡◌, ◌≤◌, ℕ, List, length, OnOk};
+ghost use Rattle.std.specs.Prelude.{◌≡◌, ◌≤◌, ℕ, List, length, true, IfOk, OnOk};
 ghost use Rattle.dsec_core.specs.Validating.{with_course, world_by};
 ghost use Rattle.dsec_core.specs.Views.{step_view};
 ghost use Rattle.dsec_course.specs.Course.{asked_in};
 ghost use Rattle.dsec_serve.specs.Calls.{most_questions};
 ghost use Rattle.dsec_serve.specs.Outside.{Outside};
-ghost use Rattle.dsec_serve.specs.Turns.{asks, ends, AreFew, CountsTo, EndsSo, IsAt};
+ghost use Rattle.dsec_serve.specs.Turns.{asks, ends, AreFew, CountsTo, IsAt};
 
 use crate::turn::turn;
 use dsec_core::{Step, Validation};
@@ -59,7 +59,8 @@ pub(crate) fn serve<V: Verifier, C: Caches<V>, M: Memo<V>, U: Upstream, L: Ledge
     ensures counted { OnOk result (questions.new ≡ length (asked_in validation.new.course)) }
     ensures ends { (most : ℕ) (message : List ℕ) (before : Outside)
         → IsAt (world_by V.accepts validation.old) most message (U.table upstream.old) before (record { held = C.held caches.old; asked = U.asked upstream.old; faults = U.faults upstream.old; heard = U.heard upstream.old }) validation.old.course (step_view step)
-        → EndsSo (world_by V.accepts validation.old) most message (U.table upstream.old) before (record { held = C.held caches.new; asked = U.asked upstream.new; faults = U.faults upstream.new; heard = U.heard upstream.new }) validation.new.course result }
+        → IfOk result (λ last. (ends (step_view last) ≡ true)
+        × IsAt (world_by V.accepts validation.old) most message (U.table upstream.old) before (record { held = C.held caches.new; asked = U.asked upstream.new; faults = U.faults upstream.new; heard = U.heard upstream.new }) validation.new.course (step_view last)) }
     ensures checks { (most : ℕ) (message : List ℕ) (before : Outside) (from : ℕ)
         → IsAt (world_by V.accepts validation.old) most message (U.table upstream.old) before (record { held = C.held caches.old; asked = U.asked upstream.old; faults = U.faults upstream.old; heard = U.heard upstream.old }) validation.old.course (step_view step)
         → AreFew (world_by V.accepts validation.old) validation.old.course from steps.old

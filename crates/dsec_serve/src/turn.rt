@@ -6,7 +6,7 @@ ghost use Rattle.dsec_core.specs.Views.{step_view};
 ghost use Rattle.dsec_course.specs.Course.{asked_in, Awaits};
 ghost use Rattle.dsec_course.specs.Ending.{steps_left};
 ghost use Rattle.dsec_serve.specs.Outside.{Outside};
-ghost use Rattle.dsec_serve.specs.Turns.{asks, ends, AreFew, ComesTo, CountsTo, IsAt};
+ghost use Rattle.dsec_serve.specs.Turns.{asks, ends, AreFew, CountsTo, IsAt};
 
 use crate::answering::answer_to;
 use dsec_core::{Step, Validation};
@@ -33,7 +33,7 @@ pub(crate) fn turn<V: Verifier, C: Caches<V>, M: Memo<V>, U: Upstream, L: Ledger
     requires awaits { Awaits (step_view step) validation.old.course.waits }
     ensures comes { (most : ℕ) (message : List ℕ) (before : Outside)
         → IsAt (world_by V.accepts validation.old) most message (U.table upstream.old) before (record { held = C.held caches.old; asked = U.asked upstream.old; faults = U.faults upstream.old; heard = U.heard upstream.old }) validation.old.course (step_view step)
-        → ComesTo (world_by V.accepts validation.old) most message (U.table upstream.old) before (record { held = C.held caches.new; asked = U.asked upstream.new; faults = U.faults upstream.new; heard = U.heard upstream.new }) validation.new.course result }
+        → IfOk result (λ next. IsAt (world_by V.accepts validation.old) most message (U.table upstream.old) before (record { held = C.held caches.new; asked = U.asked upstream.new; faults = U.faults upstream.new; heard = U.heard upstream.new }) validation.new.course (step_view next)) }
     ensures nearer { (most : ℕ) (message : List ℕ) (before : Outside)
         → IsAt (world_by V.accepts validation.old) most message (U.table upstream.old) before (record { held = C.held caches.old; asked = U.asked upstream.old; faults = U.faults upstream.old; heard = U.heard upstream.old }) validation.old.course (step_view step)
         → IfOk result (λ _. steps_left (world_by V.accepts validation.old) validation.new.course < steps_left (world_by V.accepts validation.old) validation.old.course) }

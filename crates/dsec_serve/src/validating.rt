@@ -110,8 +110,8 @@ fn counted<V: Verifier, C: Caches<V>, M: Memo<V>, U: Upstream, L: Ledger>(
 
 /// `judge_in` on the caller's ledger: each check of a signature is one of its steps. Of each set `max_bad_signatures + 1` signatures are checked
 /// at most. A question takes as many sets as its reply can have checked: to the one for a DS set a DS set, a CNAME set and each set of the
-/// authority section; to the one for a DNSKEY set that set. Each group of the message is one set more. So whatever caches and upstream do,
-/// the number of checks has a bound that the message and the replies give, of which none has more than 65,535 octets.
+/// authority section, which has no more than 65,535 records (RFC 1035 4.1.1); to the one for a DNSKEY set that set. Each group of the message is
+/// one set more. So whatever caches and upstream do, and however the call ends, the message and the replies bound the number of checks.
 pub fn judge_counted_in<V: Verifier, C: Caches<V>, M: Memo<V>, U: Upstream, L: Ledger>(
     alloc: Global,
     anchors: &TrustAnchors,

@@ -6,7 +6,7 @@ use Rattle.dsec_course.specs.Ending.{steps_left}
 use Rattle.dsec_core.specs.Validating.{Validating, with_course, world_by}
 use Rattle.dsec_core.specs.Views.{step_view}
 use Rattle.dsec_serve.specs.Outside.{Outside}
-use Rattle.dsec_serve.specs.Judgements.{judgement_at, IsJudging}
+use Rattle.dsec_serve.specs.Judgements.{judgement_at}
 use Rattle.dsec_serve.specs.Checked.{IsJudgingWithin}
 use Rattle.dsec_serve.specs.Turns.{asks, AreFew, IsAt}
 use Rattle.dsec_serve.proofs.AskedLaws.{room_left}
@@ -74,17 +74,6 @@ overflow_add-questions g c =
     (record { held = g.C.Caches.held c.loop-alloc.caches; asked = g.U.Upstream.asked c.loop-alloc.upstream; faults = g.U.Upstream.faults c.loop-alloc.upstream; heard = g.U.Upstream.heard c.loop-alloc.upstream })
     c.loop-alloc.validation.course (step_view c.loop-alloc.last) (inv.2 begun.0 begun.1 begun.2 begun.3) in
     omega (arith, room, begun.4, inv.3, c.questions_in.ensures)
-
-pub returns-in-Err-clause-ends : goal.returns-in-Err-clause-ends
-returns-in-Err-clause-ends g c = λ most message before at.
-    let inv = c.loop-alloc.invariant in
-    let now : Outside = record { held = g.C.Caches.held c.loop-alloc.caches; asked = g.U.Upstream.asked c.loop-alloc.upstream; faults = g.U.Upstream.faults c.loop-alloc.upstream; heard = g.U.Upstream.heard c.loop-alloc.upstream } in
-    let next : Outside = record { held = g.C.Caches.held c.turn.new.caches; asked = g.U.Upstream.asked c.turn.new.upstream; faults = g.U.Upstream.faults c.turn.new.upstream; heard = g.U.Upstream.heard c.turn.new.upstream } in
-    carried (λ (w : World) (t : Option Table). IsAt w most message t before now c.loop-alloc.validation.course (step_view c.loop-alloc.last))
-    (λ (w : World) (t : Option Table). IsJudging w most message t before next (judgement_at w c.turn.new.validation.course (Err c.in-Err.error)))
-    (world_by g.V.Verifier.accepts c.loop-alloc.validation) (world_by g.V.Verifier.accepts c.args.validation.now)
-    (g.U.Upstream.table c.loop-alloc.upstream) (g.U.Upstream.table c.args.upstream.now)
-    (ap (world_by g.V.Verifier.accepts) inv.0) inv.1 (c.in-Err.ensures.comes most message before) (inv.2 most message before at)
 
 pub returns-in-Err-clause-checks : goal.returns-in-Err-clause-checks
 returns-in-Err-clause-checks g c = λ most message before from at few.

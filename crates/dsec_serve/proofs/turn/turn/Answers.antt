@@ -1,7 +1,7 @@
 use Rattle.dsec_core.specs.Validating.{world_by}
 use Rattle.dsec_core.specs.Views.{step_view}
 use Rattle.dsec_walk.specs.Views.{input_view}
-use Rattle.dsec_serve.proofs.TurnLaws.{turned, turned_nearer, unanswered}
+use Rattle.dsec_serve.proofs.TurnLaws.{turned, turned_nearer}
 use Rattle.dsec_serve.proofs.AskedLaws.{turned_asked}
 use Rattle.dsec_serve.proofs.WithinLaws.{turned_within, unanswered_within}
 use Rattle.dsec_serve.proofs.turn.turn.Goals as goal
@@ -26,13 +26,6 @@ returns-in-Ok-clause-asked g c = λ most message before at.
     (record { held = g.C.Caches.held c.args.caches.now; asked = g.U.Upstream.asked c.args.upstream.now; faults = g.U.Upstream.faults c.args.upstream.now; heard = g.U.Upstream.heard c.args.upstream.now })
     (record { held = g.C.Caches.held c.answer_to.new.caches; asked = g.U.Upstream.asked c.answer_to.new.upstream; faults = g.U.Upstream.faults c.answer_to.new.upstream; heard = g.U.Upstream.heard c.answer_to.new.upstream })
     c.args.validation.now.course c.advance.new.self.course (step_view c.args.step) (input_view c.in-Ok.input) c.advance.result at c.in-Ok.ensures.served c.advance.ensures.exact
-
-pub returns-in-Err-clause-comes : goal.returns-in-Err-clause-comes
-returns-in-Err-clause-comes g c = λ most message before at.
-    unanswered (world_by g.V.Verifier.accepts c.args.validation.now) most message (g.U.Upstream.table c.args.upstream.now) before
-    (record { held = g.C.Caches.held c.args.caches.now; asked = g.U.Upstream.asked c.args.upstream.now; faults = g.U.Upstream.faults c.args.upstream.now; heard = g.U.Upstream.heard c.args.upstream.now })
-    (record { held = g.C.Caches.held c.answer_to.new.caches; asked = g.U.Upstream.asked c.answer_to.new.upstream; faults = g.U.Upstream.faults c.answer_to.new.upstream; heard = g.U.Upstream.heard c.answer_to.new.upstream })
-    c.args.validation.now.course (step_view c.args.step) at c.in-Err.ensures.asked c.in-Err.ensures.lost.0 c.in-Err.ensures.lost.1 c.in-Err.ensures.lost.2 c.in-Err.ensures.lost.3
 
 pub returns-in-Ok-clause-checks : goal.returns-in-Ok-clause-checks
 returns-in-Ok-clause-checks g c = λ most message before from at few.
