@@ -2,6 +2,7 @@
 #![tactic(auto)]
 
 mod laws;
+mod lines;
 mod record_line;
 mod sending;
 

@@ -1,6 +1,7 @@
 //! The line of a record in zone text.
 
-ghost use Rattle.std.specs.Prelude.{◌≡◌, ◌++◌, OnOk};
+ghost use Rattle.std.specs.Prelude.{◌≡◌, ◌++◌, ℕ, List, OnOk};
+ghost use Rattle.dsec_name.specs.NameDisplay.{name_text};
 ghost use Rattle.dsec_record_text.specs.RecordText.{line_data, line_head, record_line};
 
 use dsec_name::NoMemory;
@@ -11,18 +12,34 @@ use dsec_word::{push_hex, push_name, push_number};
 pub fn push_record_line(out: &mut Vec<u8>, it: &Record) -> Result<(), NoMemory>
     ensures { OnOk result (out.new.items ≡ out.old.items ++ record_line it.now) }
 {
+    push_name(out, it.owner())?;
+    push_rest(out, it)
+}
+
+/// The same, where the owner's text is at hand.
+pub(crate) fn push_line_of(out: &mut Vec<u8>, owner: &[u8], it: &Record) -> Result<(), NoMemory>
+    requires { owner.now ≡ name_text it.now.owner }
+    ensures { OnOk result (out.new.items ≡ out.old.items ++ record_line it.now) }
+{
+    out.extend_from_slice(owner)?;
+    push_rest(out, it)
+}
+
+/// Adds what stands behind the owner in the line of a record.
+fn push_rest(out: &mut Vec<u8>, it: &Record) -> Result<(), NoMemory>
+    ensures { (front : List ℕ) → out.old.items ≡ front ++ name_text it.now.owner → OnOk result (out.new.items ≡ front ++ record_line it.now) }
+{
     push_head(out, it)?;
     push_data(out, it)?;
     out.push(b'\n')?;
     Ok(())
 }
 
-/// Adds owner, TTL, class and type.
+/// Adds TTL, class and type behind the owner.
 #[tactic(auto, unfolding(crate::specs::RecordText::line_head))]
 fn push_head(out: &mut Vec<u8>, it: &Record) -> Result<(), NoMemory>
-    ensures { OnOk result (out.new.items ≡ out.old.items ++ line_head it.now) }
+    ensures { (front : List ℕ) → out.old.items ≡ front ++ name_text it.now.owner → OnOk result (out.new.items ≡ front ++ line_head it.now) }
 {
-    push_name(out, it.owner())?;
     out.extend_from_slice(b" ")?;
     push_number(out, u64::from(it.ttl().as_secs()))?;
     out.extend_from_slice(b" CLASS")?;

@@ -9,7 +9,7 @@ ghost use Rattle.dsec_record_text.specs.RecordText.{records_text};
 ghost use Rattle.dsec_record_text.specs.TextBack.{ReadsAs};
 
 use crate::laws::law_of_records_text;
-use crate::record_line::push_record_line;
+use crate::lines::Lines;
 use dsec_outside::{Halt, Sink, send, send_block};
 use dsec_wire::Record;
 use std::alloc::Global;
@@ -26,8 +26,9 @@ pub fn send_records<K: Sink>(alloc: Global, records: &[Record], sink: &mut K) ->
 {
     law_of_records_text(records);
     let mut gathered = Vec::new(alloc);
+    let mut lines = Lines::new(alloc);
     for it in records {
-        push_record_line(&mut gathered, it)?;
+        lines = lines.push(&mut gathered, it)?;
         send_block(sink, &mut gathered)?;
     }
     send(sink, &gathered)?;
