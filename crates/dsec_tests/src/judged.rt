@@ -32,7 +32,7 @@ pub(crate) fn replies(alloc: Global) -> Option<Replies> {
     Some(replies)
 }
 
-fn message(alloc: Global, text: &str) -> Option<Message> {
+pub(crate) fn message(alloc: Global, text: &str) -> Option<Message> {
     let Ok(octets) = hex::decode(alloc, text) else {
         return None;
     };
