@@ -21,14 +21,14 @@ sets_in q = if q.rtype == DS then most_checked (read_reply q.reply) else 1
 abbrev pub sets_at_most : List Asked → ℕ → ℕ
 sets_at_most asked groups = sum_by sets_in asked + groups
 
--- What judging promises, and from one count of checked signatures to the other no more were checked than are tried of a set, for each set of the
--- replies to its questions that is checked at most, and for each group of the message (RFC 4035 5.2, 5.3)
+-- What judging promises; and of these two counts of checked signatures the later is greater by no more than what is tried of one set, for each set
+-- that the replies to its questions can have checked, and for each group of the message (RFC 4035 5.2, 5.3)
 pub record IsJudgingWithin (w : World) (most : ℕ) (message : List ℕ) (table : Option Table) (before after : Outside) (j : Judgement) (from to : ℕ) : Type 0 where
   pub judging : IsJudging w most message table before after j
   pub few : to ≤ from + sets_at_most judging.call.asked (count_of (begun w.anchors most message)) * w.bounds.room
 
--- where it is told what was heard, so many signatures of a set were checked at most for what was heard since, and for so many groups
--- (RFC 4035 5.2, 5.3)
+-- where it is told what was heard, the later of two counts is greater by no more than so much, for each set that the replies that were heard since can
+-- have checked, and for each of so many groups (RFC 4035 5.2, 5.3)
 abbrev pub HeardWithin : Option (List Entry) → Option (List Entry) → ℕ → ℕ → ℕ → ℕ → Type 0
 HeardWithin before after groups room from to =
     IfSome before (λ told. (more : List Entry) × (after ≡ Some (told ++ more)) × (to ≤ from + sets_at_most (map asked_by more) groups * room))

@@ -34,7 +34,7 @@ IsAt w most message table before now course step =
 abbrev pub sets_so_far : Course → ℕ
 sets_so_far c = sets_at_most (asked_in c) (length c.judged)
 
--- from one count of checked signatures to the other no more were checked than are tried of so many sets
+-- of two counts of checked signatures the later is greater by no more than what is tried of so many sets
 abbrev pub AreFew : World → Course → ℕ → ℕ → Type 0
 AreFew w course from to = to ≤ from + sets_so_far course * w.bounds.room
 
