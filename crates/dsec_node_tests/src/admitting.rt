@@ -3,10 +3,11 @@
 ghost use Rattle.std.specs.Prelude.{◌≡◌, ◌<◌, IfSome};
 ghost use Rattle.dsec_spec.specs.Numbers.{DNSKEY};
 
+use dsec_asked::Asked;
 use dsec_cause::Cause;
 use dsec_child::{Admission, admit_by_anchor, admit_by_ds, find_key_for_ds};
 use dsec_crypto::StandIn;
-use dsec_group::{Group, GroupSet, Memo, Seed, Steps, groups};
+use dsec_group::{Group, GroupSet, Seed, Steps, groups};
 use dsec_lines::records;
 use dsec_name::NoMemory;
 use dsec_node::Config;
@@ -15,59 +16,6 @@ use dsec_wire::{Ds, Record, Records};
 use std::alloc::Global;
 use std::marker::Brand;
 use std::sync::ledger::{Blank, Ledger};
-
-/// A memo that keeps nothing, and counts how often it is asked for a verifier's answer.
-#[derive(Drop)]
-struct Asked {
-    times: u32,
-}
-
-impl Memo<StandIn> for Asked {
-    fn get_check(
-        &mut self,
-        _flags: u16,
-        _protocol: u8,
-        _algorithm: u8,
-        _key: &[u8],
-        _message: &[u8],
-        _signature: &[u8],
-    ) -> Result<Option<bool>, NoMemory> {
-        self.times = self.times.saturating_add(1);
-        Ok(None)
-    }
-
-    fn put_check(
-        &mut self,
-        _flags: u16,
-        _protocol: u8,
-        _algorithm: u8,
-        _key: &[u8],
-        _message: &[u8],
-        _signature: &[u8],
-        _yes: bool,
-    ) -> Result<(), NoMemory> {
-        Ok(())
-    }
-
-    fn get_hash(
-        &mut self,
-        _octets: &[u8],
-        _salt: &[u8],
-        _iterations: u16,
-    ) -> Result<Option<[u8; 20]>, NoMemory> {
-        Ok(None)
-    }
-
-    fn put_hash(
-        &mut self,
-        _octets: &[u8],
-        _salt: &[u8],
-        _iterations: u16,
-        _hash: [u8; 20],
-    ) -> Result<(), NoMemory> {
-        Ok(())
-    }
-}
 
 /// What a call comes to: the indexes of the anchor or DS record, of the key and of the signature, or why there is none.
 #[derive(Clone, Copy)]

@@ -5,11 +5,11 @@ ghost use Rattle.std.specs.Prelude.{◌≡◌, ◌<◌};
 use crate::judged::{message, replies};
 use crate::vectors::GOOD;
 use dsec_anchors::TrustAnchors;
+use dsec_asked::Asked;
 use dsec_crypto::StandIn;
 use dsec_found::Error;
-use dsec_group::{Memo, Steps, ValidationState};
+use dsec_group::{Steps, ValidationState};
 use dsec_lines::KEY;
-use dsec_name::NoMemory;
 use dsec_node::{Config, OwnedCaches};
 use dsec_outside::TableUpstream;
 use dsec_serve::{Verdict, judge_counted_in};
@@ -18,59 +18,6 @@ use std::alloc::Global;
 use std::marker::Brand;
 use std::process::Abort;
 use std::sync::ledger::{Blank, Ledger};
-
-/// A memo that keeps nothing, and counts how often it is asked for a verifier's answer.
-#[derive(Drop)]
-struct Asked {
-    times: u32,
-}
-
-impl Memo<StandIn> for Asked {
-    fn get_check(
-        &mut self,
-        _flags: u16,
-        _protocol: u8,
-        _algorithm: u8,
-        _key: &[u8],
-        _message: &[u8],
-        _signature: &[u8],
-    ) -> Result<Option<bool>, NoMemory> {
-        self.times = self.times.saturating_add(1);
-        Ok(None)
-    }
-
-    fn put_check(
-        &mut self,
-        _flags: u16,
-        _protocol: u8,
-        _algorithm: u8,
-        _key: &[u8],
-        _message: &[u8],
-        _signature: &[u8],
-        _yes: bool,
-    ) -> Result<(), NoMemory> {
-        Ok(())
-    }
-
-    fn get_hash(
-        &mut self,
-        _octets: &[u8],
-        _salt: &[u8],
-        _iterations: u16,
-    ) -> Result<Option<[u8; 20]>, NoMemory> {
-        Ok(None)
-    }
-
-    fn put_hash(
-        &mut self,
-        _octets: &[u8],
-        _salt: &[u8],
-        _iterations: u16,
-        _hash: [u8; 20],
-    ) -> Result<(), NoMemory> {
-        Ok(())
-    }
-}
 
 /// The verdict on a message at the moment 500, over nothing that is held.
 fn verdict_on<L: Ledger>(
