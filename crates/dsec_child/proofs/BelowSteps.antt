@@ -1,5 +1,5 @@
 -- What a name below a zone comes to, by what the code finds of sets.
-use Rattle.std.proofs.Common.{◌≡◌, ℕ, ◌+◌, ◌≤◌, ◌==◌, ◌||◌, Bool, true, false, cond, get_or, zero, suc, List, [], ◌∷◌, length, map, Option, Some, None, refl, sym, ap, ◌∙◌, subst, arith}
+use Rattle.std.proofs.Common.{◌≡◌, ℕ, ◌+◌, ◌≤◌, ◌==◌, ◌||◌, Bool, true, false, cond, get_or, suc, List, [], ◌∷◌, length, map, Option, Some, None, refl, sym, ap, ◌∙◌, subst, arith}
 use Rattle.std.specs.Prelude.{All, filter, find, slice_get, unwrap_or}
 use Rattle.std.specs.List.{list_any, AllByRecursion}
 use Rattle.std.proofs.lemmas.Bool.{true≢false, cond-true, cond-false, eq-eqb}
@@ -11,7 +11,7 @@ use Rattle.dsec_spec.specs.Groups.{Group, set_in}
 use Rattle.dsec_spec.specs.Names.{Place, IsStrictlyBelow}
 use Rattle.dsec_spec.specs.Numbers.{CNAME, DS}
 use Rattle.dsec_spec.specs.Records.{Record, Key, ds_of}
-use Rattle.dsec_spec.specs.Trying.{Tried, good, nothing, all_bad, too_many_bad, checked}
+use Rattle.dsec_spec.specs.Trying.{Tried, good, nothing, all_bad, too_many_bad}
 use Rattle.dsec_group.specs.Checks.{cause_of}
 use Rattle.dsec_nodes.specs.ByDs.{Below, Pending, made, asks, by_alias, by_ds_set, by_ds_reply, by_signed_ds, if_one, is_supported, is_usable, pending_by, usable, without_ds}
 use Rattle.dsec_nodes.specs.Causes.{Cause, NoProofForMissingDs, NoSupportedDs}
@@ -19,8 +19,8 @@ use Rattle.dsec_nodes.specs.Held.{BelowKept, IsPending}
 use Rattle.dsec_nodes.specs.MissingDs.{decided, passed, bogus_at, by_looked, insecure_by, looked_for, missing_ds, within_by}
 use Rattle.dsec_nodes.specs.Nodes.{Node, Kept, apex, ds_not_supported}
 use Rattle.dsec_nodes.specs.Replies.{Reply, sections}
-use Rattle.dsec_nodes.specs.Signing.{is_expanded, is_set_at, kept_for, keys_of, link_under, under_keys}
-use Rattle.dsec_nodes.specs.World.{World, moment}
+use Rattle.dsec_nodes.specs.Signing.{is_expanded, is_set_at, kept_for, link_under, under_keys}
+use Rattle.dsec_nodes.specs.World.{World}
 use Rattle.dsec_nodes.proofs.ChildLaws.{alias_within, ds_reply_kept}
 use Rattle.dsec_nodes.proofs.KeptLaws.{held}
 use Rattle.dsec_nodes.proofs.Lasting.{set_at}
@@ -33,29 +33,15 @@ use Rattle.dsec_child.specs.Belows.{IsZoneAbove, is_usable_ds}
 use Rattle.dsec_child.specs.SignedSets.{IsPairAt}
 use Rattle.dsec_child.specs.declared.signed_set.SignedBy.{SignedBy}
 
--- what was read at an index is what a function makes of it there
-read_by : {A B : Type 0} (f : A → B) (xs : List A) (i : ℕ) (x : A) (z : B) → slice_get (map f xs) i ≡ Some z → x ≡ get_or xs i x → z ≡ f x
-read_by f [] zero x z e is = absurd cc
-read_by f [] (suc i) x z e is = absurd cc
-read_by f (y ∷ ys) zero x z e is = sym (same_Some (f y) z e) ∙ ap f (sym is)
-read_by f (y ∷ ys) (suc i) x z e is = read_by f ys i x z e is
-
--- the pair at these indexes, by the signature and the key that were read there
-pub pair_read : {A : Type 0} (f : A → Key) (xs : List A) (group : Group) (by : SignedBy) (p : Record × Key) (one : Record) (x : A) → IsPairAt group (map f xs) by p
-    → slice_get group.signatures by.signature ≡ Some one → x ≡ get_or xs by.key x → p ≡ (one, f (get_or xs by.key x))
-pair_read f xs group by p one x pair there is =
-    let first : p.0 ≡ one = same_Some p.0 one (sym pair.signature_there ∙ there) in
-    let second : p.1 ≡ f (get_or xs by.key x) = read_by f xs by.key x p.1 pair.key_there is ∙ ap f is in
-    ap (λ (r : Record). (r, p.1)) first ∙ ap (λ (k : Key). (one, k)) second
+-- the pair at these indexes, by the signature and the key that stand there
+pub pair_is : (keys : List Key) (group : Group) (by : SignedBy) (p : Record × Key) (one : Record) (key : Key) → IsPairAt group keys by p
+    → slice_get group.signatures by.signature ≡ Some one → slice_get keys by.key ≡ Some key → p ≡ (one, key)
+pair_is keys group by p one key pair there is =
+    ap (λ (r : Record). (r, p.1)) (same_Some p.0 one (sym pair.signature_there ∙ there)) ∙ ap (λ (k : Key). (one, k)) (same_Some p.1 key (sym pair.key_there ∙ is))
 
 -- a finding's indexes, by the group that was read there
 pub stands_read : (groups : List Group) (said : List Key) (at : SignedAt) (group read : Group) (p : Record × Key) → StandsAt groups said at group p → read ≡ get_or groups at.group read → StandsAt groups said at read p
 stands_read groups said at group read p s is = subst (λ (g : Group). StandsAt groups said at g p) (sym (read_there groups at.group read group s.group_there is)) s
-
--- what trying the keys comes to that the data say
-pub under_is : (w : World) (zone : Place) (keys : List (List ℕ)) (said : List Key) (group : Group) → keys_of keys ≡ said
-    → under_keys w zone keys group ≡ checked w.accepts group zone said w.bounds.room (moment w)
-under_is w zone keys said group e = ap (λ (ks : List Key). checked w.accepts group zone ks w.bounds.room (moment w)) e
 
 -- where no pair is good the node is bogus
 refused : (w : World) (name : Place) (cause : Cause) (t u : Tried (Record × Key)) (by : Record × Key → Below) → u ≡ t → cause_of t ≡ Some cause
@@ -89,9 +75,9 @@ module _ (w : World) (zone : Node) (keys : List (List ℕ)) (name : Place) (auth
     pub alias_signed : (p : Record × Key) → t ≡ good p → is_expanded group p.0 ≡ false → made (within_by w zone keys name group p) ≡ by_alias w zone keys name authorities (Some group)
     alias_signed p g x = sym (cond-false (is_expanded group p.0) no_alias (made (within_by w zone keys name group p)) x) ∙ by_good p g
 
-    pub alias_stays : (said : List Key) → IsZoneAbove w zone keys said name → is_set_at name CNAME group ≡ true → (p : Record × Key) → t ≡ good p → is_expanded group p.0 ≡ false
+    pub alias_stays : IsZoneAbove w zone keys name → is_set_at name CNAME group ≡ true → (p : Record × Key) → t ≡ good p → is_expanded group p.0 ≡ false
         → Kept w.accepts (within_by w zone keys name group p)
-    alias_stays said above at p g x = (alias_within w zone keys name group p above.is_held above.below at one (from_under w zone.signer keys group p (under ∙ g)) x).0
+    alias_stays above at p g x = (alias_within w zone keys name group p above.is_held above.below at one (from_under w zone.signer keys group p (under ∙ g)) x).0
 
     pub alias_expanded : (p : Record × Key) → t ≡ good p → is_expanded group p.0 ≡ true → no_alias ≡ by_alias w zone keys name authorities (Some group)
     alias_expanded p g x = sym (cond-true (is_expanded group p.0) no_alias (made (within_by w zone keys name group p)) x) ∙ by_good p g
@@ -171,9 +157,9 @@ module _ (w : World) (zone : Node) (keys : List (List ℕ)) (name : Place) (grou
   by_unusable e = sym (cond-true (length (usable (set_in group).datas) == 0) (made unsupported) waits (none_pass is_usable (set_in group).datas e))
 
   -- the node by a set without a usable record is kept
-  pub unsupported_kept : (said : List Key) → IsZoneAbove w zone keys said name → is_set_at name DS group ≡ true → under_keys w zone.signer keys group ≡ good p → is_expanded group p.0 ≡ false
+  pub unsupported_kept : IsZoneAbove w zone keys name → is_set_at name DS group ≡ true → under_keys w zone.signer keys group ≡ good p → is_expanded group p.0 ≡ false
       → list_any is_usable (set_in group).datas ≡ false → Kept w.accepts unsupported
-  unsupported_kept said above at under whole none =
+  unsupported_kept above at under whole none =
       let found : find (is_set_at name DS) (group ∷ []) ≡ Some group = ap (λ (b : Bool). cond b (Some group) None) at in
       let is : by_ds_reply w zone keys name (sections (group ∷ []) []) ≡ made unsupported = ap (by_ds_set w zone keys name (group ∷ []) []) found
       ∙ (sym (ds_signed w zone keys name (group ∷ []) [] group (good p) under p refl whole) ∙ sym (by_unusable none)) in
@@ -188,8 +174,8 @@ module _ (w : World) (zone : Node) (keys : List (List ℕ)) (name : Place) (grou
   missing_passed None e = ap (by_looked w name) (sym e)
   missing_passed (Some cause) e = ap (by_looked w name) (sym e)
 
-  pub decided_kept : (said : List Key) → IsZoneAbove w zone keys said name → (n : Node) → looked_for w zone keys name groups ≡ decided n → Kept w.accepts n
-  decided_kept said above n e = subst (Kept w.accepts) (sym (missing_decided n e)) (missing_kept w zone keys name groups above.is_held above.below).0
+  pub decided_kept : IsZoneAbove w zone keys name → (n : Node) → looked_for w zone keys name groups ≡ decided n → Kept w.accepts n
+  decided_kept above n e = subst (Kept w.accepts) (sym (missing_decided n e)) (missing_kept w zone keys name groups above.is_held above.below).0
 
 -- a signed DS set, by its parts
 pub pending_is : (w : World) (zone : Node) (keys : List (List ℕ)) (name : Place) (group : Group) (p : Record × Key) (its : Place) (link : chain.Link) (valid_for : ℕ)

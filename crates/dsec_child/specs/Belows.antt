@@ -1,8 +1,7 @@
 -- What the code finds of a name below a zone, in the words of nodes (RFC 4035 5.2).
 use Rattle.std.specs.Prelude.{◌≡◌, ℕ, ◌+◌, ◌≤◌, List, length, Bool, Option, Some, None}
-use Rattle.dsec_spec.specs.Groups.{Group}
 use Rattle.dsec_spec.specs.Names.{Place, IsStrictlyBelow}
-use Rattle.dsec_spec.specs.Records.{Record, Key}
+use Rattle.dsec_spec.specs.Records.{Record}
 use Rattle.dsec_wire.specs.DataViews.{ds_in}
 use Rattle.dsec_wire.specs.TypedData.{data_of}
 use Rattle.dsec_nodes.specs.ByDs as nodes
@@ -10,18 +9,16 @@ use Rattle.dsec_nodes.specs.ByDs.{is_supported}
 use Rattle.dsec_nodes.specs.Held.{HeldZone}
 use Rattle.dsec_nodes.specs.Nodes.{Node, apex}
 use Rattle.dsec_nodes.specs.Replies.{Reply, failed, unreadable, sections}
-use Rattle.dsec_nodes.specs.Signing.{keys_of}
 use Rattle.dsec_nodes.specs.World.{World}
 use Rattle.dsec_child.specs.declared.ds_set.Below.{Below}
 use Rattle.dsec_child.specs.declared.ds_set.Below.TheVariants.{Made, Asks}
 
 -- a zone with these keys, which counts at the moment of judging, and a name strictly below it (RFC 4035 5.2)
-pub record IsZoneAbove (w : World) (zone : Node) (keys : List (List ℕ)) (said : List Key) (name : Place) : Type 0 where
+pub record IsZoneAbove (w : World) (zone : Node) (keys : List (List ℕ)) (name : Place) : Type 0 where
   pub begins : zone.standing ≡ apex keys
   pub made : zone.made ≤ w.now
   pub counts : w.now ≤ zone.made + zone.valid_for
   pub is_held : HeldZone w zone keys
-  pub are_said : keys_of keys ≡ said
   pub below : IsStrictlyBelow name zone.signer
 
 -- a node, or the question for the name's DNSKEY set

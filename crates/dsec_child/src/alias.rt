@@ -4,7 +4,6 @@ ghost use Rattle.std.specs.Prelude.{◌≡◌, ◌≤◌, ◌+◌, [], List, IfO
 ghost use Rattle.dsec_spec.specs.Groups as groups;
 ghost use Rattle.dsec_spec.specs.Names.{place};
 ghost use Rattle.dsec_spec.specs.Numbers.{CNAME};
-ghost use Rattle.dsec_link.specs.TaggedKeys.{tagged_view};
 ghost use Rattle.dsec_nodes.specs.ByDs.{by_alias as alias_below};
 ghost use Rattle.dsec_nodes.specs.MissingDs.{missing_ds};
 ghost use Rattle.dsec_nodes.specs.Signing.{is_set_at};
@@ -16,7 +15,6 @@ use crate::missing::within;
 use crate::signed_set::{SignedSet, under_keys};
 use dsec_crypto::Verifier;
 use dsec_group::{Group, Memo, Steps};
-use dsec_link::TaggedKey;
 use dsec_name::{Name, NoMemory};
 use dsec_node::{Config, Keys, Node};
 use std::alloc::Global;
@@ -29,13 +27,12 @@ pub(crate) fn by_alias<V: Verifier, L: Ledger>(
     now: u64,
     zone: &Node<V>,
     keys: &Keys,
-    said: &[TaggedKey<'_>],
     name: &Name,
     group: &Group,
     memo: &mut impl Memo<V>,
     steps: &mut Steps<L>,
 ) -> Result<Option<Node<V>>, NoMemory>
-    requires above { IsZoneAbove (world_of V.accepts [] (bounds_of config.now) now) zone.now keys.now (map tagged_view said.now) (place name.now) }
+    requires above { IsZoneAbove (world_of V.accepts [] (bounds_of config.now) now) zone.now keys.now (place name.now) }
     requires at { is_set_at (place name.now) CNAME group.now ≡ true }
     ensures node { IfOk result (λ found. (authorities : List groups.Group) → or_node found (missing_ds (world_of V.accepts [] (bounds_of config.now) now) zone.now keys.now (place name.now) authorities)
         ≡ alias_below (world_of V.accepts [] (bounds_of config.now) now) zone.now keys.now (place name.now) authorities (Some group.now)) }
@@ -50,13 +47,13 @@ pub(crate) fn by_alias<V: Verifier, L: Ledger>(
         config,
         now,
         zone.signer_name(),
-        said,
+        keys,
         group,
         memo,
         steps,
     )? {
         SignedSet::Signed(by) => {
-            let node = within(alloc, config, now, zone, keys, said, name, group, by)?;
+            let node = within(alloc, config, now, zone, keys, name, group, by)?;
             Ok(Some(node))
         }
         SignedSet::Expanded => Ok(None),

@@ -4,7 +4,6 @@ ghost use Rattle.std.specs.Prelude.{◌≡◌, ◌≤◌, ◌+◌, ◌*◌, [], 
 ghost use Rattle.std.specs.Option.{option_map};
 ghost use Rattle.dsec_spec.specs.Names.{IsStrictlyBelow, place};
 ghost use Rattle.dsec_spec.specs.Numbers.{DS};
-ghost use Rattle.dsec_link.specs.TaggedKeys.{tagged_view};
 ghost use Rattle.dsec_nodes.specs.ByDs as nodes;
 ghost use Rattle.dsec_nodes.specs.ByDs.{by_ds_reply as ds_reply_below, by_ds_set as ds_below, without_ds as no_ds_below};
 ghost use Rattle.dsec_nodes.specs.Held.{IsPending};
@@ -22,7 +21,6 @@ use crate::reply::{Reply, read_reply, set_at};
 use dsec_cause::Cause;
 use dsec_crypto::Verifier;
 use dsec_group::{Group, Memo, Steps};
-use dsec_link::TaggedKey;
 use dsec_name::{Name, NoMemory};
 use dsec_node::{Config, Keys, Node, Standing};
 use dsec_number::Rtype;
@@ -55,7 +53,6 @@ pub fn by_ds_reply<V: Verifier, L: Ledger>(
     let Standing::Apex(keys) = zone.standing() else {
         unreachable!();
     };
-    let said = keys.tagged(alloc)?;
     match read_reply(alloc, reply)? {
         Reply::Sections(answers, authorities) => by_sections::<V, L>(
             alloc,
@@ -63,7 +60,6 @@ pub fn by_ds_reply<V: Verifier, L: Ledger>(
             now,
             zone,
             keys,
-            &said,
             name,
             answers.as_slice(),
             authorities.as_slice(),
@@ -84,23 +80,20 @@ fn by_sections<V: Verifier, L: Ledger>(
     now: u64,
     zone: &Node<V>,
     keys: &Keys,
-    said: &[TaggedKey<'_>],
     name: &Name,
     answers: &[Group],
     authorities: &[Group],
     memo: &mut impl Memo<V>,
     steps: &mut Steps<L>,
 ) -> Result<Below<V>, NoMemory>
-    requires { IsZoneAbove (world_of V.accepts [] (bounds_of config.now) now) zone.now keys.now (map tagged_view said.now) (place name.now) }
+    requires { IsZoneAbove (world_of V.accepts [] (bounds_of config.now) now) zone.now keys.now (place name.now) }
     ensures below { IfOk result (λ it. below_view it ≡ ds_below (world_of V.accepts [] (bounds_of config.now) now) zone.now keys.now (place name.now) answers.now authorities.now
         (find (is_set_at (place name.now) DS) answers.now)) }
     ensures later { steps.old ≤ steps.new }
     ensures bound { steps.new ≤ steps.old + (2 + length authorities.now) * (config.now.max_bad_signatures + 1) }
 {
     if let Some(group) = set_at(answers, name, Rtype::DS) {
-        let found = by_ds_set::<V, L>(
-            alloc, config, now, zone, keys, said, name, group, memo, steps,
-        )?;
+        let found = by_ds_set::<V, L>(alloc, config, now, zone, keys, name, group, memo, steps)?;
         if let Some(it) = found {
             return Ok(it);
         }
@@ -111,7 +104,6 @@ fn by_sections<V: Verifier, L: Ledger>(
         now,
         zone,
         keys,
-        said,
         name,
         answers,
         authorities,
@@ -128,22 +120,19 @@ fn without_ds<V: Verifier, L: Ledger>(
     now: u64,
     zone: &Node<V>,
     keys: &Keys,
-    said: &[TaggedKey<'_>],
     name: &Name,
     answers: &[Group],
     authorities: &[Group],
     memo: &mut impl Memo<V>,
     steps: &mut Steps<L>,
 ) -> Result<Node<V>, NoMemory>
-    requires { IsZoneAbove (world_of V.accepts [] (bounds_of config.now) now) zone.now keys.now (map tagged_view said.now) (place name.now) }
+    requires { IsZoneAbove (world_of V.accepts [] (bounds_of config.now) now) zone.now keys.now (place name.now) }
     ensures node { IfOk result (λ n. nodes.made n ≡ no_ds_below (world_of V.accepts [] (bounds_of config.now) now) zone.now keys.now (place name.now) answers.now authorities.now) }
     ensures later { steps.old ≤ steps.new }
     ensures bound { steps.new ≤ steps.old + (1 + length authorities.now) * (config.now.max_bad_signatures + 1) }
 {
     if let Some(group) = set_at(answers, name, Rtype::CNAME) {
-        let found = by_alias::<V, L>(
-            alloc, config, now, zone, keys, said, name, group, memo, steps,
-        )?;
+        let found = by_alias::<V, L>(alloc, config, now, zone, keys, name, group, memo, steps)?;
         if let Some(node) = found {
             return Ok(node);
         }
@@ -154,7 +143,6 @@ fn without_ds<V: Verifier, L: Ledger>(
         now,
         zone,
         keys,
-        said,
         name,
         authorities,
         memo,

@@ -7,9 +7,8 @@ ghost use Rattle.dsec_spec.specs.Names.{place};
 ghost use Rattle.dsec_spec.specs.Numbers.{DS};
 ghost use Rattle.dsec_spec.specs.Records as records;
 ghost use Rattle.dsec_spec.specs.Trying.{good};
-ghost use Rattle.dsec_link.specs.TaggedKeys.{tagged_view};
 ghost use Rattle.dsec_nodes.specs.ByDs.{by_ds_set as ds_below, by_signed_ds as signed_below, pending_by, without_ds};
-ghost use Rattle.dsec_nodes.specs.Signing.{is_expanded, is_set_at, under_keys as tried_by};
+ghost use Rattle.dsec_nodes.specs.Signing.{is_expanded, is_set_at, keys_of, under_keys as tried_by};
 ghost use Rattle.dsec_node.specs.Views.{bounds_of, world_of};
 ghost use Rattle.dsec_child.specs.Belows.{IsZoneAbove, below_view, is_usable_ds, or_below};
 ghost use Rattle.dsec_child.specs.SignedSets.{IsPairAt};
@@ -21,7 +20,8 @@ use crate::way::is_supported;
 use dsec_cause::Cause;
 use dsec_crypto::Verifier;
 use dsec_group::{Group, Memo, Steps};
-use dsec_link::{LinkKind, TaggedKey};
+use dsec_keys::KeyList;
+use dsec_link::LinkKind;
 use dsec_name::{Name, NoMemory};
 use dsec_node::{Config, Ground, Keys, Node, Pending, kept_for, link_by_keys};
 use dsec_wire::Record;
@@ -44,13 +44,12 @@ pub(crate) fn by_ds_set<V: Verifier, L: Ledger>(
     now: u64,
     zone: &Node<V>,
     keys: &Keys,
-    said: &[TaggedKey<'_>],
     name: &Name,
     group: &Group,
     memo: &mut impl Memo<V>,
     steps: &mut Steps<L>,
 ) -> Result<Option<Below<V>>, NoMemory>
-    requires above { IsZoneAbove (world_of V.accepts [] (bounds_of config.now) now) zone.now keys.now (map tagged_view said.now) (place name.now) }
+    requires above { IsZoneAbove (world_of V.accepts [] (bounds_of config.now) now) zone.now keys.now (place name.now) }
     requires at { is_set_at (place name.now) DS group.now ≡ true }
     ensures below { IfOk result (λ found. (answers authorities : List groups.Group) →
         or_below found (without_ds (world_of V.accepts [] (bounds_of config.now) now) zone.now keys.now (place name.now) answers authorities)
@@ -63,13 +62,13 @@ pub(crate) fn by_ds_set<V: Verifier, L: Ledger>(
         config,
         now,
         zone.signer_name(),
-        said,
+        keys,
         group,
         memo,
         steps,
     )? {
         SignedSet::Signed(by) => {
-            let it = by_signed_ds(alloc, config, now, zone, keys, said, name, group, by)?;
+            let it = by_signed_ds(alloc, config, now, zone, keys, name, group, by)?;
             Ok(Some(it))
         }
         SignedSet::Expanded => Ok(None),
@@ -87,26 +86,25 @@ fn by_signed_ds<V: Verifier>(
     now: u64,
     zone: &Node<V>,
     keys: &Keys,
-    said: &[TaggedKey<'_>],
     name: &Name,
     group: &Group,
     by: SignedBy,
 ) -> Result<Below<V>, NoMemory>
-    requires above { IsZoneAbove (world_of V.accepts [] (bounds_of config.now) now) zone.now keys.now (map tagged_view said.now) (place name.now) }
+    requires above { IsZoneAbove (world_of V.accepts [] (bounds_of config.now) now) zone.now keys.now (place name.now) }
     requires at { is_set_at (place name.now) DS group.now ≡ true }
     requires signed { (p : records.Record × records.Key) × (tried_by (world_of V.accepts [] (bounds_of config.now) now) zone.now.signer keys.now group.now ≡ good p)
-        × IsPairAt group.now (map tagged_view said.now) by p × (is_expanded group.now p.0 ≡ false) }
-    ensures { IfOk result (λ it. (p : records.Record × records.Key) → IsPairAt group.now (map tagged_view said.now) by p
+        × IsPairAt group.now (keys_of keys.now) by p × (is_expanded group.now p.0 ≡ false) }
+    ensures { IfOk result (λ it. (p : records.Record × records.Key) → IsPairAt group.now (keys_of keys.now) by p
         → below_view it ≡ signed_below (world_of V.accepts [] (bounds_of config.now) now) zone.now keys.now (place name.now) group.now p) }
 {
     if has_usable(group.rr_set()) {
-        let it = pending(alloc, config, now, zone, keys, said, name, group, by)?;
+        let it = pending(alloc, config, now, zone, keys, name, group, by)?;
         return Ok(Below::Asks(it));
     }
     let cause = Some(Cause::NoSupportedDs);
     let basis = Ground::DsNotSupported;
     let node = insecure(
-        alloc, config, now, zone, keys, said, name, cause, basis, group, by,
+        alloc, config, now, zone, keys, name, cause, basis, group, by,
     )?;
     Ok(Below::Made(node))
 }
@@ -118,19 +116,18 @@ fn pending<V: Verifier>(
     now: u64,
     zone: &Node<V>,
     keys: &Keys,
-    said: &[TaggedKey<'_>],
     name: &Name,
     group: &Group,
     by: SignedBy,
 ) -> Result<Pending, NoMemory>
-    requires above { IsZoneAbove (world_of V.accepts [] (bounds_of config.now) now) zone.now keys.now (map tagged_view said.now) (place name.now) }
-    requires pair { (p : records.Record × records.Key) × IsPairAt group.now (map tagged_view said.now) by p }
-    ensures { IfOk result (λ it. (p : records.Record × records.Key) → IsPairAt group.now (map tagged_view said.now) by p
+    requires above { IsZoneAbove (world_of V.accepts [] (bounds_of config.now) now) zone.now keys.now (place name.now) }
+    requires pair { (p : records.Record × records.Key) × IsPairAt group.now (keys_of keys.now) by p }
+    ensures { IfOk result (λ it. (p : records.Record × records.Key) → IsPairAt group.now (keys_of keys.now) by p
         → it ≡ pending_by (world_of V.accepts [] (bounds_of config.now) now) zone.now keys.now (place name.now) group.now p) }
 {
     let bounds = config.bounds();
-    let key = &said[by.key].key;
-    let link = link_by_keys(alloc, LinkKind::Ds, group, by.signature, keys, key)?;
+    let one = keys.key_at(by.key);
+    let link = link_by_keys(alloc, LinkKind::Ds, group, by.signature, keys, &one.key)?;
     let valid_for = kept_for(zone, group, by.signature, &bounds, now);
     let name = copy_of(name)?;
     Ok(Pending::new(name, link, valid_for))

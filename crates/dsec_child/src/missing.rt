@@ -3,10 +3,10 @@
 ghost use Rattle.std.specs.Prelude.{◌≡◌, ◌≤◌, ◌+◌, ◌*◌, [], IfOk, length, map, unwrap_or};
 ghost use Rattle.dsec_spec.specs.Names.{place};
 ghost use Rattle.dsec_spec.specs.Records as records;
-ghost use Rattle.dsec_link.specs.TaggedKeys.{tagged_view};
 ghost use Rattle.dsec_nodes.specs.Causes.{NoProofForMissingDs};
 ghost use Rattle.dsec_nodes.specs.MissingDs.{insecure_by, looked_for, missing_ds, within_by};
 ghost use Rattle.dsec_nodes.specs.Nodes.{Kept};
+ghost use Rattle.dsec_nodes.specs.Signing.{keys_of};
 ghost use Rattle.dsec_node.specs.Views.{bounds_of, ground_view, world_of};
 ghost use Rattle.dsec_denial.specs.Findings.{AreThere, Finds};
 ghost use Rattle.dsec_child.specs.Belows.{IsZoneAbove};
@@ -18,7 +18,7 @@ use dsec_cause::Cause;
 use dsec_crypto::Verifier;
 use dsec_denial::{DsFinding, denials_for_missing_ds};
 use dsec_group::{Group, Memo, Steps};
-use dsec_link::TaggedKey;
+use dsec_keys::KeyList;
 use dsec_name::{Name, NoMemory};
 use dsec_node::{Config, Ground, Keys, Node, insecure_node, within_node};
 use dsec_number::Timestamp;
@@ -32,13 +32,12 @@ pub(crate) fn missing<V: Verifier, L: Ledger>(
     now: u64,
     zone: &Node<V>,
     keys: &Keys,
-    said: &[TaggedKey<'_>],
     name: &Name,
     groups: &[Group],
     memo: &mut impl Memo<V>,
     steps: &mut Steps<L>,
 ) -> Result<Node<V>, NoMemory>
-    requires { IsZoneAbove (world_of V.accepts [] (bounds_of config.now) now) zone.now keys.now (map tagged_view said.now) (place name.now) }
+    requires { IsZoneAbove (world_of V.accepts [] (bounds_of config.now) now) zone.now keys.now (place name.now) }
     ensures node { IfOk result (λ n. n ≡ missing_ds (world_of V.accepts [] (bounds_of config.now) now) zone.now keys.now (place name.now) groups.now) }
     ensures later { steps.old ≤ steps.new }
     ensures bound { steps.new ≤ steps.old + length groups.now * (config.now.max_bad_signatures + 1) }
@@ -47,9 +46,9 @@ pub(crate) fn missing<V: Verifier, L: Ledger>(
     let limits = config.limits();
     let apex = zone.signer_name();
     let found = denials_for_missing_ds::<V, L>(
-        alloc, groups, name, apex, said, &limits, t, memo, steps,
+        alloc, groups, name, apex, keys, &limits, t, memo, steps,
     )?;
-    by_finding(alloc, config, now, zone, keys, said, name, groups, found)
+    by_finding(alloc, config, now, zone, keys, name, groups, found)
 }
 
 /// The same, by what the records show.
@@ -59,14 +58,13 @@ fn by_finding<V: Verifier>(
     now: u64,
     zone: &Node<V>,
     keys: &Keys,
-    said: &[TaggedKey<'_>],
     name: &Name,
     groups: &[Group],
     found: DsFinding,
 ) -> Result<Node<V>, NoMemory>
-    requires above { IsZoneAbove (world_of V.accepts [] (bounds_of config.now) now) zone.now keys.now (map tagged_view said.now) (place name.now) }
-    requires there { AreThere groups.now (map tagged_view said.now) found }
-    requires finds { Finds (world_of V.accepts [] (bounds_of config.now) now) zone.now keys.now (place name.now) groups.now (map tagged_view said.now) found
+    requires above { IsZoneAbove (world_of V.accepts [] (bounds_of config.now) now) zone.now keys.now (place name.now) }
+    requires there { AreThere groups.now (keys_of keys.now) found }
+    requires finds { Finds (world_of V.accepts [] (bounds_of config.now) now) zone.now keys.now (place name.now) groups.now (keys_of keys.now) found
         (looked_for (world_of V.accepts [] (bounds_of config.now) now) zone.now keys.now (place name.now) groups.now) }
     ensures { IfOk result (λ n. n ≡ missing_ds (world_of V.accepts [] (bounds_of config.now) now) zone.now keys.now (place name.now) groups.now) }
 {
@@ -77,7 +75,7 @@ fn by_finding<V: Verifier>(
                 key: at.key,
             };
             let group = &groups[at.group];
-            within(alloc, config, now, zone, keys, said, name, group, by)
+            within(alloc, config, now, zone, keys, name, group, by)
         }
         DsFinding::Insecure(at, basis, cause) => {
             let by = SignedBy {
@@ -86,7 +84,7 @@ fn by_finding<V: Verifier>(
             };
             let group = &groups[at.group];
             insecure(
-                alloc, config, now, zone, keys, said, name, cause, basis, group, by,
+                alloc, config, now, zone, keys, name, cause, basis, group, by,
             )
         }
         DsFinding::Bogus(cause) => bogus(alloc, config, now, name, cause),
@@ -114,19 +112,18 @@ pub(crate) fn within<V: Verifier>(
     now: u64,
     zone: &Node<V>,
     keys: &Keys,
-    said: &[TaggedKey<'_>],
     name: &Name,
     group: &Group,
     by: SignedBy,
 ) -> Result<Node<V>, NoMemory>
-    requires above { IsZoneAbove (world_of V.accepts [] (bounds_of config.now) now) zone.now keys.now (map tagged_view said.now) (place name.now) }
-    requires kept { (p : records.Record × records.Key) × IsPairAt group.now (map tagged_view said.now) by p
+    requires above { IsZoneAbove (world_of V.accepts [] (bounds_of config.now) now) zone.now keys.now (place name.now) }
+    requires kept { (p : records.Record × records.Key) × IsPairAt group.now (keys_of keys.now) by p
         × Kept V.accepts (within_by (world_of V.accepts [] (bounds_of config.now) now) zone.now keys.now (place name.now) group.now p) }
-    ensures { IfOk result (λ n. (p : records.Record × records.Key) → IsPairAt group.now (map tagged_view said.now) by p
+    ensures { IfOk result (λ n. (p : records.Record × records.Key) → IsPairAt group.now (keys_of keys.now) by p
         → n ≡ within_by (world_of V.accepts [] (bounds_of config.now) now) zone.now keys.now (place name.now) group.now p) }
 {
     let bounds = config.bounds();
-    let key = &said[by.key].key;
+    let one = keys.key_at(by.key);
     within_node(
         alloc,
         &bounds,
@@ -136,7 +133,7 @@ pub(crate) fn within<V: Verifier>(
         name,
         group,
         by.signature,
-        key,
+        &one.key,
     )
 }
 
@@ -147,21 +144,20 @@ pub(crate) fn insecure<V: Verifier>(
     now: u64,
     zone: &Node<V>,
     keys: &Keys,
-    said: &[TaggedKey<'_>],
     name: &Name,
     cause: Option<Cause>,
     basis: Ground,
     group: &Group,
     by: SignedBy,
 ) -> Result<Node<V>, NoMemory>
-    requires above { IsZoneAbove (world_of V.accepts [] (bounds_of config.now) now) zone.now keys.now (map tagged_view said.now) (place name.now) }
-    requires kept { (p : records.Record × records.Key) × IsPairAt group.now (map tagged_view said.now) by p
+    requires above { IsZoneAbove (world_of V.accepts [] (bounds_of config.now) now) zone.now keys.now (place name.now) }
+    requires kept { (p : records.Record × records.Key) × IsPairAt group.now (keys_of keys.now) by p
         × Kept V.accepts (insecure_by (world_of V.accepts [] (bounds_of config.now) now) zone.now keys.now (place name.now) cause (ground_view basis) group.now p) }
-    ensures { IfOk result (λ n. (p : records.Record × records.Key) → IsPairAt group.now (map tagged_view said.now) by p
+    ensures { IfOk result (λ n. (p : records.Record × records.Key) → IsPairAt group.now (keys_of keys.now) by p
         → n ≡ insecure_by (world_of V.accepts [] (bounds_of config.now) now) zone.now keys.now (place name.now) cause (ground_view basis) group.now p) }
 {
     let bounds = config.bounds();
-    let key = &said[by.key].key;
+    let one = keys.key_at(by.key);
     insecure_node(
         alloc,
         &bounds,
@@ -173,6 +169,6 @@ pub(crate) fn insecure<V: Verifier>(
         basis,
         group,
         by.signature,
-        key,
+        &one.key,
     )
 }

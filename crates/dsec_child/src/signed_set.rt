@@ -4,7 +4,7 @@ ghost use Rattle.std.specs.Prelude.{◌≡◌, ◌≤◌, ◌<◌, ◌+◌, IfOk
 ghost use Rattle.dsec_spec.specs.Names.{place};
 ghost use Rattle.dsec_spec.specs.Records as records;
 ghost use Rattle.dsec_spec.specs.Trying.{checked, good};
-ghost use Rattle.dsec_link.specs.TaggedKeys.{tagged_view};
+ghost use Rattle.dsec_nodes.specs.Signing.{keys_of};
 ghost use Rattle.dsec_nodes.specs.World.{on_circle};
 ghost use Rattle.dsec_child.specs.SignedSets.{ComesTo, IsPairAt};
 
@@ -12,9 +12,8 @@ use dsec_cause::Cause;
 use dsec_crypto::Verifier;
 use dsec_denial::is_expanded;
 use dsec_group::{Group, Memo, Steps, check_with_tagged_keys};
-use dsec_link::TaggedKey;
 use dsec_name::{Name, NoMemory};
-use dsec_node::Config;
+use dsec_node::{Config, Keys};
 use dsec_number::Timestamp;
 use std::alloc::Global;
 use std::sync::ledger::Ledger;
@@ -45,19 +44,21 @@ pub(crate) fn under_keys<V: Verifier, L: Ledger>(
     config: &Config,
     now: u64,
     zone: &Name,
-    keys: &[TaggedKey<'_>],
+    keys: &Keys,
     group: &Group,
     memo: &mut impl Memo<V>,
     steps: &mut Steps<L>,
 ) -> Result<SignedSet, NoMemory>
-    ensures set { IfOk result (λ set. ComesTo group.now (map tagged_view keys.now) set
-        (checked V.accepts group.now (place zone.now) (map tagged_view keys.now) (config.now.max_bad_signatures + 1) (on_circle now))) }
+    ensures set { IfOk result (λ set. ComesTo group.now (keys_of keys.now) set
+        (checked V.accepts group.now (place zone.now) (keys_of keys.now) (config.now.max_bad_signatures + 1) (on_circle now))) }
     ensures later { steps.old ≤ steps.new }
     ensures bound { steps.new ≤ steps.old + (config.now.max_bad_signatures + 1) }
 {
     let t = Timestamp::from_seconds(now);
     let limits = config.limits();
-    let check = check_with_tagged_keys::<V, L>(alloc, group, zone, keys, &limits, t, memo, steps)?;
+    let check = check_with_tagged_keys::<V, L, Keys>(
+        alloc, group, zone, keys, &limits, t, memo, steps,
+    )?;
     match (check.cause, check.signature, check.key) {
         (None, Some(signature), Some(key)) => Ok(signed_by(group, SignedBy { signature, key })),
         (Some(cause), _, _) => Ok(SignedSet::Refused(cause)),

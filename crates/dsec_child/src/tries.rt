@@ -104,8 +104,8 @@ fn try_way<V: Verifier, L: Ledger, W: Way>(
         return Ok(WayTry::Left(room, None));
     };
     let tag = tag_at(tags, index, &key);
-    let keys = [TaggedKey { key, tag }];
-    match try_all::<V, L>(alloc, group, group.owner(), &keys, room, t, memo, steps)? {
+    let one = TaggedKey { key, tag };
+    match try_all::<V, L, TaggedKey<'_>>(alloc, group, group.owner(), &one, room, t, memo, steps)? {
         Tries::Good(signature, _) => Ok(WayTry::Good(signature, index)),
         Tries::Left(more) => Ok(WayTry::Left(more, cause_after(room, more, bad))),
     }

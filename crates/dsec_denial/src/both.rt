@@ -1,8 +1,8 @@
 //! Why DS is missing, by a reply's NSEC records or else by its NSEC3 records (RFC 4035 5.2, RFC 5155 8.9).
 
-ghost use Rattle.std.specs.Prelude.{◌≡◌, ◌≤◌, ◌+◌, ◌*◌, List, ℕ, IfOk, length, map};
+ghost use Rattle.std.specs.Prelude.{◌≡◌, ◌≤◌, ◌+◌, ◌*◌, List, ℕ, IfOk, length};
 ghost use Rattle.dsec_denial.specs.Findings.{AreThere, Finds, Follows, GoesBy, then_found};
-ghost use Rattle.dsec_link.specs.TaggedKeys.{tagged_view};
+ghost use Rattle.dsec_nodes.specs.Signing.{keys_of};
 ghost use Rattle.dsec_nodes.specs.MissingDs.{looked_for};
 ghost use Rattle.dsec_nodes.specs.Nodes.{Node};
 ghost use Rattle.dsec_nodes.specs.World.{World};
@@ -14,8 +14,8 @@ use crate::search::nsec_for_missing_ds;
 use dsec_cause::Cause;
 use dsec_crypto::Verifier;
 use dsec_group::{Group, Limits, Memo, Steps};
-use dsec_link::TaggedKey;
 use dsec_name::{Name, NoMemory};
+use dsec_node::Keys;
 use dsec_number::Timestamp;
 use std::alloc::Global;
 use std::sync::ledger::Ledger;
@@ -27,17 +27,17 @@ pub fn denials_for_missing_ds<V: Verifier, L: Ledger>(
     groups: &[Group],
     name: &Name,
     apex: &Name,
-    keys: &[TaggedKey<'_>],
+    keys: &Keys,
     limits: &Limits,
     t: Timestamp,
     memo: &mut impl Memo<V>,
     steps: &mut Steps<L>,
 ) -> Result<DsFinding, NoMemory>
-    ensures there { IfOk result (AreThere groups.now (map tagged_view keys.now)) }
+    ensures there { IfOk result (AreThere groups.now (keys_of keys.now)) }
     ensures found { IfOk result (λ found. (w : World) (zone : Node) (datas : List (List ℕ))
-        → GoesBy V.accepts (place apex.now) (map tagged_view keys.now) (limits.now.max_bad_signatures + 1) t w zone datas
+        → GoesBy V.accepts (place apex.now) (keys_of keys.now) (limits.now.max_bad_signatures + 1) t w zone datas
         → Follows limits.now.nsec3_iter_insecure limits.now.nsec3_iter_bogus w
-        → Finds w zone datas (place name.now) groups.now (map tagged_view keys.now) found (looked_for w zone datas (place name.now) groups.now)) }
+        → Finds w zone datas (place name.now) groups.now (keys_of keys.now) found (looked_for w zone datas (place name.now) groups.now)) }
     ensures later { steps.old ≤ steps.new }
     ensures bound { steps.new ≤ steps.old + length groups.now * (limits.now.max_bad_signatures + 1) }
 {

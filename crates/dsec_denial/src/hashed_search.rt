@@ -1,8 +1,8 @@
 //! The search of a reply's NSEC3 records for why DS is missing (RFC 5155 8.9).
 
-ghost use Rattle.std.specs.Prelude.{◌≡◌, ◌≤◌, ◌<◌, ◌+◌, ◌*◌, [], ◌∷◌, List, ℕ, Some, IfOk, length, map, slice_get};
+ghost use Rattle.std.specs.Prelude.{◌≡◌, ◌≤◌, ◌<◌, ◌+◌, ◌*◌, [], ◌∷◌, List, ℕ, Some, IfOk, length, slice_get};
 ghost use Rattle.dsec_denial.specs.Findings.{AreThere, Finds, Follows, GoesBy, how_many};
-ghost use Rattle.dsec_link.specs.TaggedKeys.{tagged_view};
+ghost use Rattle.dsec_nodes.specs.Signing.{keys_of};
 ghost use Rattle.dsec_nodes.specs.MissingByHash.{by_hashed_group as shown_by, nsec3_search};
 ghost use Rattle.dsec_nodes.specs.Nodes.{Node};
 ghost use Rattle.dsec_nodes.specs.World.{World};
@@ -16,8 +16,8 @@ use crate::hashed_decision::decide;
 use crate::pair::good_pair;
 use dsec_crypto::Verifier;
 use dsec_group::{Group, Limits, Memo, Steps};
-use dsec_link::TaggedKey;
 use dsec_name::{Name, NoMemory};
+use dsec_node::Keys;
 use dsec_number::Timestamp;
 use std::alloc::Global;
 use std::sync::ledger::Ledger;
@@ -31,17 +31,17 @@ pub fn nsec3_for_missing_ds<V: Verifier, L: Ledger>(
     groups: &[Group],
     name: &Name,
     apex: &Name,
-    keys: &[TaggedKey<'_>],
+    keys: &Keys,
     limits: &Limits,
     t: Timestamp,
     memo: &mut impl Memo<V>,
     steps: &mut Steps<L>,
 ) -> Result<DsFinding, NoMemory>
-    ensures there { IfOk result (AreThere groups.now (map tagged_view keys.now)) }
+    ensures there { IfOk result (AreThere groups.now (keys_of keys.now)) }
     ensures found { IfOk result (λ found. (w : World) (zone : Node) (datas : List (List ℕ))
-        → GoesBy V.accepts (place apex.now) (map tagged_view keys.now) (limits.now.max_bad_signatures + 1) t w zone datas
+        → GoesBy V.accepts (place apex.now) (keys_of keys.now) (limits.now.max_bad_signatures + 1) t w zone datas
         → Follows limits.now.nsec3_iter_insecure limits.now.nsec3_iter_bogus w
-        → Finds w zone datas (place name.now) groups.now (map tagged_view keys.now) found (nsec3_search w zone datas (place name.now) groups.now)) }
+        → Finds w zone datas (place name.now) groups.now (keys_of keys.now) found (nsec3_search w zone datas (place name.now) groups.now)) }
     ensures later { steps.old ≤ steps.new }
     ensures bound { steps.new ≤ steps.old + how_many NSEC3 groups.now * (limits.now.max_bad_signatures + 1) }
 {
@@ -65,18 +65,18 @@ fn by_hashed_group<V: Verifier, L: Ledger>(
     index: usize,
     name: &Name,
     apex: &Name,
-    keys: &[TaggedKey<'_>],
+    keys: &Keys,
     limits: &Limits,
     t: Timestamp,
     memo: &mut impl Memo<V>,
     steps: &mut Steps<L>,
 ) -> Result<DsFinding, NoMemory>
     requires { index < length groups.now }
-    ensures there { IfOk result (AreThere groups.now (map tagged_view keys.now)) }
+    ensures there { IfOk result (AreThere groups.now (keys_of keys.now)) }
     ensures found { IfOk result (λ found. (w : World) (zone : Node) (datas : List (List ℕ)) (group : grouping.Group)
-        → GoesBy V.accepts (place apex.now) (map tagged_view keys.now) (limits.now.max_bad_signatures + 1) t w zone datas
+        → GoesBy V.accepts (place apex.now) (keys_of keys.now) (limits.now.max_bad_signatures + 1) t w zone datas
         → Follows limits.now.nsec3_iter_insecure limits.now.nsec3_iter_bogus w → slice_get groups.now index ≡ Some group
-        → Finds w zone datas (place name.now) groups.now (map tagged_view keys.now) found (shown_by w zone datas (place name.now) group)) }
+        → Finds w zone datas (place name.now) groups.now (keys_of keys.now) found (shown_by w zone datas (place name.now) group)) }
     ensures later { steps.old ≤ steps.new }
     ensures bound { (group : grouping.Group) → slice_get groups.now index ≡ Some group
         → steps.new ≤ steps.old + how_many NSEC3 (group ∷ []) * (limits.now.max_bad_signatures + 1) }

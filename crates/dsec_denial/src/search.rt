@@ -1,8 +1,8 @@
 //! The search of a reply's NSEC records for why DS is missing (RFC 4035 5.2).
 
-ghost use Rattle.std.specs.Prelude.{◌≡◌, ◌≤◌, ◌<◌, ◌+◌, ◌*◌, [], ◌∷◌, List, ℕ, Some, IfOk, length, map, slice_get};
+ghost use Rattle.std.specs.Prelude.{◌≡◌, ◌≤◌, ◌<◌, ◌+◌, ◌*◌, [], ◌∷◌, List, ℕ, Some, IfOk, length, slice_get};
 ghost use Rattle.dsec_denial.specs.Findings.{AreThere, Finds, GoesBy, how_many};
-ghost use Rattle.dsec_link.specs.TaggedKeys.{tagged_view};
+ghost use Rattle.dsec_nodes.specs.Signing.{keys_of};
 ghost use Rattle.dsec_nodes.specs.MissingDs.{by_group as shown_by, nsec_search};
 ghost use Rattle.dsec_nodes.specs.Nodes.{Node};
 ghost use Rattle.dsec_nodes.specs.World.{World};
@@ -16,8 +16,8 @@ use crate::pair::good_pair;
 use crate::reading::{Reading, read};
 use dsec_crypto::Verifier;
 use dsec_group::{Group, Limits, Memo, Steps};
-use dsec_link::TaggedKey;
 use dsec_name::{Name, NoMemory};
+use dsec_node::Keys;
 use dsec_number::Timestamp;
 use std::alloc::Global;
 use std::sync::ledger::Ledger;
@@ -31,16 +31,16 @@ pub fn nsec_for_missing_ds<V: Verifier, L: Ledger>(
     groups: &[Group],
     name: &Name,
     apex: &Name,
-    keys: &[TaggedKey<'_>],
+    keys: &Keys,
     limits: &Limits,
     t: Timestamp,
     memo: &mut impl Memo<V>,
     steps: &mut Steps<L>,
 ) -> Result<DsFinding, NoMemory>
-    ensures there { IfOk result (AreThere groups.now (map tagged_view keys.now)) }
+    ensures there { IfOk result (AreThere groups.now (keys_of keys.now)) }
     ensures found { IfOk result (λ found. (w : World) (zone : Node) (datas : List (List ℕ))
-        → GoesBy V.accepts (place apex.now) (map tagged_view keys.now) (limits.now.max_bad_signatures + 1) t w zone datas
-        → Finds w zone datas (place name.now) groups.now (map tagged_view keys.now) found (nsec_search w zone datas (place name.now) groups.now)) }
+        → GoesBy V.accepts (place apex.now) (keys_of keys.now) (limits.now.max_bad_signatures + 1) t w zone datas
+        → Finds w zone datas (place name.now) groups.now (keys_of keys.now) found (nsec_search w zone datas (place name.now) groups.now)) }
     ensures later { steps.old ≤ steps.new }
     ensures bound { steps.new ≤ steps.old + how_many NSEC groups.now * (limits.now.max_bad_signatures + 1) }
 {
@@ -64,17 +64,17 @@ fn by_group<V: Verifier, L: Ledger>(
     index: usize,
     name: &Name,
     apex: &Name,
-    keys: &[TaggedKey<'_>],
+    keys: &Keys,
     limits: &Limits,
     t: Timestamp,
     memo: &mut impl Memo<V>,
     steps: &mut Steps<L>,
 ) -> Result<DsFinding, NoMemory>
     requires { index < length groups.now }
-    ensures there { IfOk result (AreThere groups.now (map tagged_view keys.now)) }
+    ensures there { IfOk result (AreThere groups.now (keys_of keys.now)) }
     ensures found { IfOk result (λ found. (w : World) (zone : Node) (datas : List (List ℕ)) (group : grouping.Group)
-        → GoesBy V.accepts (place apex.now) (map tagged_view keys.now) (limits.now.max_bad_signatures + 1) t w zone datas → slice_get groups.now index ≡ Some group
-        → Finds w zone datas (place name.now) groups.now (map tagged_view keys.now) found (shown_by w zone datas (place name.now) group)) }
+        → GoesBy V.accepts (place apex.now) (keys_of keys.now) (limits.now.max_bad_signatures + 1) t w zone datas → slice_get groups.now index ≡ Some group
+        → Finds w zone datas (place name.now) groups.now (keys_of keys.now) found (shown_by w zone datas (place name.now) group)) }
     ensures later { steps.old ≤ steps.new }
     ensures bound { (group : grouping.Group) → slice_get groups.now index ≡ Some group
         → steps.new ≤ steps.old + how_many NSEC (group ∷ []) * (limits.now.max_bad_signatures + 1) }

@@ -1,7 +1,6 @@
 //! What is found of a group by the node of its zone (RFC 4033 5, RFC 4035 5.3).
 
-ghost use Rattle.std.specs.Prelude.{◌≡◌, ◌≤◌, ◌+◌, [], IfOk, map};
-ghost use Rattle.dsec_link.specs.TaggedKeys.{tagged_view};
+ghost use Rattle.std.specs.Prelude.{◌≡◌, ◌≤◌, ◌+◌, [], IfOk};
 ghost use Rattle.dsec_nodes.specs.Judging.{found_at};
 ghost use Rattle.dsec_nodes.specs.Signing.{keys_of};
 ghost use Rattle.dsec_nodes.specs.World.{on_circle};
@@ -13,7 +12,6 @@ ghost use Rattle.dsec_found.specs.Founds.{ComesTo, StandsBy, finding_by};
 use dsec_cause::Cause;
 use dsec_crypto::Verifier;
 use dsec_group::{Group, Memo, Steps, check_with_tagged_keys};
-use dsec_link::TaggedKey;
 use dsec_name::{Name, NoMemory};
 use dsec_node::{Config, Keys, Node, Standing};
 use dsec_number::Timestamp;
@@ -79,29 +77,11 @@ fn by_keys<V: Verifier, L: Ledger>(
     ensures later { steps.old ≤ steps.new }
     ensures bound { steps.new ≤ steps.old + (config.now.max_bad_signatures + 1) }
 {
-    let said = keys.tagged(alloc)?;
-    by_tagged_keys::<V, L>(alloc, config, now, group, zone, &said, memo, steps)
-}
-
-/// The same, by the keys with their tags.
-fn by_tagged_keys<V: Verifier, L: Ledger>(
-    alloc: Global,
-    config: &Config,
-    now: u64,
-    group: &Group,
-    zone: &Name,
-    keys: &[TaggedKey<'_>],
-    memo: &mut impl Memo<V>,
-    steps: &mut Steps<L>,
-) -> Result<Found, NoMemory>
-    ensures comes { IfOk result (λ found. ComesTo group.now (map tagged_view keys.now) found
-        (checked V.accepts group.now (place zone.now) (map tagged_view keys.now) (config.now.max_bad_signatures + 1) (on_circle now))) }
-    ensures later { steps.old ≤ steps.new }
-    ensures bound { steps.new ≤ steps.old + (config.now.max_bad_signatures + 1) }
-{
     let t = Timestamp::from_seconds(now);
     let limits = config.limits();
-    let check = check_with_tagged_keys::<V, L>(alloc, group, zone, keys, &limits, t, memo, steps)?;
+    let check = check_with_tagged_keys::<V, L, Keys>(
+        alloc, group, zone, keys, &limits, t, memo, steps,
+    )?;
     match (check.cause, check.signature, check.key) {
         (None, Some(signature), Some(key)) => Ok(Found::Shown(signature, key)),
         (Some(cause), _, _) => Ok(Found::Bogus(cause)),

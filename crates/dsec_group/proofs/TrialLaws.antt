@@ -102,6 +102,34 @@ module _ (is_good matches : Record × Key → Bool) (goal : Trial (Record × Key
   pub no_key : length ks ≤ i → goal ≡ trial is_good n (others i) → goal ≡ left n
   no_key past so_far = so_far ∙ ap (λ xs. trial is_good n (filter matches (map (λ k. (r, k)) xs))) (drop_all i ks past) ∙ trial_none is_good n
 
+-- keys that a signature doesn't match are passed over at once
+module _ (matches : Record × Key → Bool) (r : Record) (ks : List Key) where
+  abbrev pub rest : ℕ → List (Record × Key)
+  rest j = filter matches (map (λ k. (r, k)) (drop j ks))
+
+  past : {A : Type 0} (xs : List A) (i : ℕ) → slice_get xs i ≡ None → length xs ≤ i
+  past [] i e = omega arith
+  past (x ∷ xs) zero e = absurd (false≢true (sym (ap is_some e)))
+  past (x ∷ xs) (suc i) e = let p = past xs i e in omega (arith, p)
+
+  one_passed : (i : ℕ) → ((key : Key) → slice_get ks i ≡ Some key → matches (r, key) ≡ false) → rest i ≡ rest (i + 1)
+  one_passed i other = by (slice_get ks i) refl
+    where
+      by : (o : Option Key) → slice_get ks i ≡ o → rest i ≡ rest (i + 1)
+      by None e = let p = past ks i e in ap (λ xs. filter matches (map (λ k. (r, k)) xs)) (drop_all i ks p ∙ sym (drop_all (i + 1) ks (omega (arith, p))))
+      by (Some key) e = ap (λ xs. filter matches (map (λ k. (r, k)) xs)) (drop_at ks i key e) ∙ ap (λ b. cond b ((r, key) ∷ rest (i + 1)) (rest (i + 1))) (other key e)
+
+  so_many : (i d : ℕ) → ((j : ℕ) (key : Key) → i ≤ j → j < i + d → slice_get ks j ≡ Some key → matches (r, key) ≡ false) → rest i ≡ rest (i + d)
+  so_many i zero others = ap rest (omega arith)
+  so_many i (suc d) others =
+      let next : i + d + 1 ≡ i + suc d = omega arith in
+      so_many i d (λ j key on below there. others j key on (omega (arith, below)) there) ∙ (one_passed (i + d) (λ key there. others (i + d) key (omega arith) (omega arith) there) ∙ ap rest next)
+
+  pub passed_to : (i j : ℕ) → i ≤ j → ((k : ℕ) (key : Key) → i ≤ k → k < j → slice_get ks k ≡ Some key → matches (r, key) ≡ false) → rest i ≡ rest j
+  passed_to i j le others =
+      let there : i + (j - i) ≡ j = omega (arith, le) in
+      so_many i (j - i) (λ k key on below at. others k key on (omega (arith, below, there)) at) ∙ ap rest there
+
 -- the same, at a signature
 module _ (is_good matches : Record × Key → Bool) (goal : Trial (Record × Key)) (rs : List Record) (ks : List Key) (i n : ℕ) where
   abbrev rows : ℕ → List (Record × Key)

@@ -7,7 +7,6 @@ ghost use Rattle.dsec_spec.specs.Records as records;
 ghost use Rattle.dsec_spec.specs.Records.{rrsig_of};
 ghost use Rattle.dsec_spec.specs.Trying.{checked};
 ghost use Rattle.dsec_wire.specs.Views.{key_view};
-ghost use Rattle.dsec_link.specs.TaggedKeys.{tagged_view};
 ghost use Rattle.dsec_group.specs.Checks.{IsCheck, cause_of, encloser_by};
 ghost use Rattle.dsec_group.specs.Trials.{TriedSpends, comes_to, left};
 ghost use Rattle.dsec_group.specs.declared.state.ValidationState.TheVariants.{Bogus, Secure};
@@ -20,7 +19,8 @@ use crate::steps::Steps;
 use crate::tries::{Tries, try_all};
 use dsec_cause::Cause;
 use dsec_crypto::Verifier;
-use dsec_link::{RrsigExt, TaggedKey};
+use dsec_keys::{KeyList, TaggedKeys};
+use dsec_link::RrsigExt;
 use dsec_name::{Name, NoMemory};
 use dsec_number::Timestamp;
 use dsec_wire::{Dnskey, Record};
@@ -64,41 +64,32 @@ pub fn check_with_keys<V: Verifier, L: Ledger>(
     ensures spent { IfOk result (λ check. TriedSpends steps.old steps.new (limits.now.max_bad_signatures + 1)
         (checked V.accepts group.now (place zone.now) (map key_view keys.now) (limits.now.max_bad_signatures + 1) t)) }
 {
-    let tagged = all_tagged(alloc, keys)?;
-    check_with_tagged_keys::<V, L>(alloc, group, zone, &tagged, limits, t, memo, steps)
-}
-
-/// The keys with their tags.
-fn all_tagged<'a>(alloc: Global, keys: &[Dnskey<'a>]) -> Result<Vec<TaggedKey<'a>>, NoMemory>
-    ensures { IfOk result (λ tagged. map tagged_view tagged.items ≡ map key_view keys.now) }
-{
-    let mut tagged = Vec::with_capacity(alloc, keys.len())?;
-    for key in keys {
-        tagged.extend_from_slice(&[TaggedKey::new(key)])?;
-    }
-    Ok(tagged)
+    let keys = TaggedKeys::of(alloc, keys)?;
+    check_with_tagged_keys::<V, L, TaggedKeys<'_>>(
+        alloc, group, zone, &keys, limits, t, memo, steps,
+    )
 }
 
 /// The same, where the keys' tags were summed before: a set of keys can be tried with many groups.
-pub fn check_with_tagged_keys<V: Verifier, L: Ledger>(
+pub fn check_with_tagged_keys<V: Verifier, L: Ledger, K: KeyList>(
     alloc: Global,
     group: &Group,
     zone: &Name,
-    keys: &[TaggedKey<'_>],
+    keys: &K,
     limits: &Limits,
     t: Timestamp,
     memo: &mut impl Memo<V>,
     steps: &mut Steps<L>,
 ) -> Result<KeyCheck, NoMemory>
-    ensures checked { IfOk result (λ check. IsCheck group.now (map tagged_view keys.now) check
-        (checked V.accepts group.now (place zone.now) (map tagged_view keys.now) (limits.now.max_bad_signatures + 1) t)) }
+    ensures checked { IfOk result (λ check. IsCheck group.now (K.keys keys.now) check
+        (checked V.accepts group.now (place zone.now) (K.keys keys.now) (limits.now.max_bad_signatures + 1) t)) }
     ensures later { steps.old ≤ steps.new }
     ensures bound { steps.new ≤ steps.old + (limits.now.max_bad_signatures + 1) }
     ensures spent { IfOk result (λ check. TriedSpends steps.old steps.new (limits.now.max_bad_signatures + 1)
-        (checked V.accepts group.now (place zone.now) (map tagged_view keys.now) (limits.now.max_bad_signatures + 1) t)) }
+        (checked V.accepts group.now (place zone.now) (K.keys keys.now) (limits.now.max_bad_signatures + 1) t)) }
 {
     let room = u16::from(limits.max_bad_signatures) + 1;
-    match try_all::<V, L>(alloc, group, zone, keys, room, t, memo, steps)? {
+    match try_all::<V, L, K>(alloc, group, zone, keys, room, t, memo, steps)? {
         Tries::Good(signature, key) => secured(alloc, group, signature, key),
         Tries::Left(left) => Ok(refused(left, room)),
     }

@@ -1,17 +1,16 @@
 //! Signatures and keys, tried in order (RFC 4035 5.3.1, 5.3.3).
 
-ghost use Rattle.std.specs.Prelude.{◌≡◌, ◌≤◌, ◌+◌, IfOk, map};
+ghost use Rattle.std.specs.Prelude.{◌≡◌, ◌≤◌, ◌+◌, IfOk};
 ghost use Rattle.dsec_spec.specs.Names.{place};
 ghost use Rattle.dsec_spec.specs.Numbers.{RRSIG};
-ghost use Rattle.dsec_link.specs.TaggedKeys.{tagged_view};
 ghost use Rattle.dsec_group.specs.Trials.{AreKeyTries, AreTries, KeysSpend, TriesSpend, key_trial, pair_trial};
 
-use crate::cached::{check_signature, is_by, names_key};
+use crate::cached::{check_signature, is_by};
 use crate::group::Group;
 use crate::memo::Memo;
 use crate::steps::Steps;
 use dsec_crypto::Verifier;
-use dsec_link::TaggedKey;
+use dsec_keys::KeyList;
 use dsec_name::{Name, NoMemory};
 use dsec_number::Timestamp;
 use dsec_wire::Record;
@@ -37,19 +36,20 @@ pub(crate) enum KeyTries {
 }
 
 /// Tries each signature of the group with each key that it names, in order, and at most `room` pairs, each in one
-/// step; a signature names a key by the zone as its signer, and by algorithm and tag (RFC 4035 5.3.1).
-pub fn try_all<V: Verifier, L: Ledger>(
+/// step; a signature names a key by the zone as its signer, and by algorithm and tag (RFC 4035 5.3.1). No key is looked at that a
+/// signature doesn't name.
+pub fn try_all<V: Verifier, L: Ledger, K: KeyList>(
     alloc: Global,
     group: &Group,
     zone: &Name,
-    keys: &[TaggedKey<'_>],
+    keys: &K,
     room: u16,
     t: Timestamp,
     memo: &mut impl Memo<V>,
     steps: &mut Steps<L>,
 ) -> Result<Tries, NoMemory>
-    ensures tries { IfOk result (λ tries. AreTries group.now.signatures (map tagged_view keys.now) tries
-        (pair_trial V.accepts group.now (place zone.now) t room group.now.signatures (map tagged_view keys.now))) }
+    ensures tries { IfOk result (λ tries. AreTries group.now.signatures (K.keys keys.now) tries
+        (pair_trial V.accepts group.now (place zone.now) t room group.now.signatures (K.keys keys.now))) }
     ensures later { steps.old ≤ steps.new }
     ensures bound { steps.new ≤ steps.old + room }
     ensures spent { IfOk result (λ tries. TriesSpend steps.old steps.new room tries) }
@@ -58,7 +58,7 @@ pub fn try_all<V: Verifier, L: Ledger>(
     let mut left = room;
     for index in 0..signatures.len() {
         let sig = &signatures[index];
-        match try_signature::<V, L>(alloc, group, sig, zone, keys, left, t, memo, steps)? {
+        match try_signature::<V, L, K>(alloc, group, sig, zone, keys, left, t, memo, steps)? {
             KeyTries::Good(key) => return Ok(Tries::Good(index, key)),
             KeyTries::Left(more) => left = more,
         }
@@ -67,20 +67,20 @@ pub fn try_all<V: Verifier, L: Ledger>(
 }
 
 /// Tries a signature with each key that it names, in order, and at most so many of them.
-fn try_signature<V: Verifier, L: Ledger>(
+fn try_signature<V: Verifier, L: Ledger, K: KeyList>(
     alloc: Global,
     group: &Group,
     sig: &Record,
     zone: &Name,
-    keys: &[TaggedKey<'_>],
+    keys: &K,
     room: u16,
     t: Timestamp,
     memo: &mut impl Memo<V>,
     steps: &mut Steps<L>,
 ) -> Result<KeyTries, NoMemory>
     requires { sig.now.rtype ≡ RRSIG }
-    ensures tries { IfOk result (λ tries. AreKeyTries sig.now (map tagged_view keys.now) tries
-        (key_trial V.accepts group.now (place zone.now) t room sig.now (map tagged_view keys.now))) }
+    ensures tries { IfOk result (λ tries. AreKeyTries sig.now (K.keys keys.now) tries
+        (key_trial V.accepts group.now (place zone.now) t room sig.now (K.keys keys.now))) }
     ensures later { steps.old ≤ steps.new }
     ensures bound { steps.new ≤ steps.old + room }
     ensures spent { IfOk result (λ tries. KeysSpend steps.old steps.new room tries) }
@@ -92,19 +92,20 @@ fn try_signature<V: Verifier, L: Ledger>(
     if !is_by(&rrsig, zone) {
         return Ok(KeyTries::Left(room));
     }
+    let (algorithm, tag) = (rrsig.algorithm, rrsig.key_tag);
     let mut left = room;
-    for index in 0..keys.len() {
-        let key = &keys[index];
-        if names_key(&rrsig, key, zone) {
-            if left == 0 {
-                return Ok(KeyTries::Left(0));
-            }
-            let step = steps.tick();
-            if check_signature::<V>(alloc, group, &rrsig, key, zone, memo, t, step)? {
-                return Ok(KeyTries::Good(index));
-            }
-            left -= 1;
+    let mut from = 0;
+    while let Some(index) = keys.next_named(algorithm, tag, from) {
+        if left == 0 {
+            return Ok(KeyTries::Left(0));
         }
+        let key = keys.key_at(index);
+        let step = steps.tick();
+        if check_signature::<V>(alloc, group, &rrsig, &key, zone, memo, t, step)? {
+            return Ok(KeyTries::Good(index));
+        }
+        left -= 1;
+        from = index + 1;
     }
     Ok(KeyTries::Left(left))
 }

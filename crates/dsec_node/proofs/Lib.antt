@@ -4,3 +4,4 @@ pub mod CacheLaws
 pub mod NodeSteps
 pub mod CountingLaws
 pub mod CountedLaws
+pub mod KeyPlaces

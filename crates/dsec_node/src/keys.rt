@@ -1,6 +1,6 @@
 //! The keys of a zone, as the data of its DNSKEY set, with their tags, which are summed once (RFC 4034 2.1, B).
 
-ghost use Rattle.std.specs.Prelude.{◌≡◌, IfOk, Some, find, map, slice_get};
+ghost use Rattle.std.specs.Prelude.{◌≡◌, ◌<◌, IfOk, Some, find, length, map, slice_get};
 ghost use Rattle.std.specs.Option.{option_map};
 ghost use Rattle.dsec_spec.specs.Groups.{set_in};
 ghost use Rattle.dsec_spec.specs.KeyTag.{key_tag};
@@ -8,34 +8,41 @@ ghost use Rattle.dsec_spec.specs.Numbers.{DNSKEY};
 ghost use Rattle.dsec_wire.specs.Views.{dnskey_in, key_view};
 ghost use Rattle.dsec_link.specs.Sets.{AreOf, AreRecordsOf, octets_of};
 ghost use Rattle.dsec_link.specs.TaggedKeys.{tagged_view};
+ghost use Rattle.dsec_keys.specs.Indexes.{HaveTags, IsIndexOf, code_of};
 ghost use Rattle.dsec_nodes.specs.Signing.{data_of, keys_of, says_key};
 ghost use Rattle.dsec_node.specs.KeyTags.{AreTags, tag_in};
 
 use dsec_group::{Group, set_of};
+use dsec_keys::{KeyIndex, KeyList, entry};
 use dsec_link::TaggedKey;
 use dsec_name::{NoMemory, Octets};
+use dsec_number::SecurityAlgorithm;
 use dsec_wire::{Data, Dnskey, Record};
 use std::alloc::{AllocError, Global};
 use std::marker::Model;
 
-/// The data of a DNSKEY set, in order, with the tags of the keys that they say.
+/// The data of a DNSKEY set, in order, with the tags of the keys that they say, and where those of an algorithm and a tag stand.
 #[derive(Drop)]
 pub struct Keys {
     datas: Vec<Data>,
     tags: Vec<u16>,
+    index: KeyIndex,
 }
 
 impl Model for Keys {
-    ghost use Rattle.std.specs.Prelude.{List, ℕ};
+    ghost use Rattle.std.specs.Prelude.{List, map, ℕ};
     ghost use Rattle.dsec_spec.specs.Numbers.{DNSKEY};
     ghost use Rattle.dsec_link.specs.Sets.{AreOf, octets_of};
+    ghost use Rattle.dsec_keys.specs.Indexes.{HaveTags, IsIndexOf, code_of};
+    ghost use Rattle.dsec_nodes.specs.Signing.{keys_of};
     ghost use Rattle.dsec_node.specs.KeyTags.{AreTags};
 
     ghost Value = { List (List ℕ) };
 
     ghost view = { λ it. octets_of it.datas.items };
 
-    ghost invariant = { λ it. AreOf DNSKEY it.datas.items × AreTags it.tags.items (octets_of it.datas.items) };
+    ghost invariant = { λ it. AreOf DNSKEY it.datas.items × AreTags it.tags.items (octets_of it.datas.items)
+        × IsIndexOf (map code_of (keys_of (octets_of it.datas.items))) it.index × HaveTags (keys_of (octets_of it.datas.items)) };
 }
 
 impl Clone for Keys {
@@ -46,7 +53,8 @@ impl Clone for Keys {
     fn clone(&self) -> Result<Keys, AllocError> {
         let datas = self.datas.clone()?;
         let tags = self.tags.clone()?;
-        Ok(Keys { datas, tags })
+        let index = self.index.clone()?;
+        Ok(Keys { datas, tags, index })
     }
 }
 
@@ -68,7 +76,8 @@ impl Keys {
     {
         let set = set_of(alloc, group)?;
         let datas = copied(alloc, set.datas())?;
-        Ok(Keys { datas, tags })
+        let index = index_of(alloc, &datas, &tags)?;
+        Ok(Keys { datas, tags, index })
     }
 
     /// The data.
@@ -77,13 +86,6 @@ impl Keys {
         ensures typed { AreOf DNSKEY result.now }
     {
         &self.datas
-    }
-
-    /// The keys that the data say with their tags, in order.
-    pub fn tagged(&self, alloc: Global) -> Result<Vec<TaggedKey<'_>>, NoMemory>
-        ensures { IfOk result (λ keys. map tagged_view keys.items ≡ keys_of self.now) }
-    {
-        tagged(alloc, &self.datas, &self.tags)
     }
 
     /// A copy of the first of the data that say a key; no octets where none does.
@@ -183,24 +185,47 @@ fn sum_of(one: &Record) -> u16
     }
 }
 
-/// The keys that DNSKEY data say, in order, each with its tag of these.
-fn tagged<'a>(
-    alloc: Global,
-    datas: &'a [Data],
-    tags: &[u16],
-) -> Result<Vec<TaggedKey<'a>>, NoMemory>
+/// Where the keys that DNSKEY data say stand by algorithm and tag, where these are their tags.
+fn index_of(alloc: Global, datas: &[Data], tags: &[u16]) -> Result<KeyIndex, NoMemory>
     requires typed { AreOf DNSKEY datas.now }
     requires tags { AreTags tags.now (octets_of datas.now) }
-    ensures { IfOk result (λ keys. map tagged_view keys.items ≡ keys_of (octets_of datas.now)) }
+    ensures index { IfOk result (λ index. IsIndexOf (map code_of (keys_of (octets_of datas.now))) index) }
+    ensures tags { IfOk result (λ _. HaveTags (keys_of (octets_of datas.now))) }
 {
-    let mut keys = Vec::with_capacity(alloc, datas.len())?;
+    let mut entries = Vec::with_capacity(alloc, datas.len())?;
     for index in 0..datas.len() {
-        if let Some(key) = datas[index].dnskey() {
-            let tag = tag_at(tags, index, &key);
-            keys.extend_from_slice(&[TaggedKey { key, tag }])?;
-        }
+        let one = tagged_at(datas, tags, index);
+        entries.push(entry(one.key.algorithm, one.tag, index))?;
     }
-    Ok(keys)
+    Ok(KeyIndex::of(entries))
+}
+
+/// The key that DNSKEY data at an index say, with its tag of these.
+fn tagged_at<'a>(datas: &'a [Data], tags: &[u16], index: usize) -> TaggedKey<'a>
+    requires typed { AreOf DNSKEY datas.now }
+    requires tags { AreTags tags.now (octets_of datas.now) }
+    requires within { index < length datas.now }
+    ensures { slice_get (keys_of (octets_of datas.now)) index ≡ Some (tagged_view result) }
+{
+    match datas[index].dnskey() {
+        Some(key) => {
+            let tag = tag_at(tags, index, &key);
+            TaggedKey { key, tag }
+        }
+        None => unreachable!(),
+    }
+}
+
+impl KeyList for Keys {
+    ghost keys = { λ it. keys_of it };
+
+    fn next_named(&self, algorithm: SecurityAlgorithm, tag: u16, from: usize) -> Option<usize> {
+        self.index.next(algorithm, tag, from)
+    }
+
+    fn key_at(&self, index: usize) -> TaggedKey<'_> {
+        tagged_at(&self.datas, &self.tags, index)
+    }
 }
 
 /// The tag of a key, which stands at an index among these.

@@ -6,12 +6,13 @@ ghost use Rattle.dsec_spec.specs.Numbers.{DNSKEY};
 use dsec_cause::Cause;
 use dsec_crypto::StandIn;
 use dsec_group::{Group, Seed, ValidationState, groups};
+use dsec_keys::KeyList;
 use dsec_lines::{KEY, KEY_SIGNATURE, name, record, records};
 use dsec_link::LinkKind;
 use dsec_name::{Name, NoMemory};
 use dsec_node::{Caches, Config, Keys, Node, OwnedCaches, bogus_node, kept_for, link_by_keys};
-use dsec_number::Rtype;
-use dsec_wire::Records;
+use dsec_number::{Rtype, SecurityAlgorithm};
+use dsec_wire::{Dnskey, Records};
 use std::alloc::Global;
 use std::process::Abort;
 use std::sync::Arc;
@@ -228,21 +229,35 @@ fn is_keyed(alloc: Global, group: &Group) -> Result<bool, NoMemory> {
     if group.rtype() != Rtype::DNSKEY || group.sig_set_len() != 1 {
         return Ok(false);
     }
-    let keys = Keys::of(alloc, group)?;
-    let tagged = keys.tagged(alloc)?;
-    let Some(one) = tagged.first() else {
+    let Some(key) = first_key(group) else {
         return Ok(false);
     };
-    let saying = keys.data_saying(alloc, &one.key)?;
-    let link = link_by_keys(alloc, LinkKind::Set, group, 0, &keys, &one.key)?;
+    let keys = Keys::of(alloc, group)?;
+    let saying = keys.data_saying(alloc, &key)?;
+    let link = link_by_keys(alloc, LinkKind::Set, group, 0, &keys, &key)?;
     Ok(
-        one.tag == 1296
+        is_named_once(&keys, key.algorithm)
             && keys.datas().len() == 1
-            && tagged.len() == 1
             && saying.as_slice() == b"\x01\x01\x03\x0d\x01\x02".as_slice()
             && link.signing_key().as_slice() == saying.as_slice()
             && link.rrsig().key_tag == 1296,
     )
+}
+
+/// The first key of a set.
+fn first_key(group: &Group) -> Option<Dnskey<'_>> {
+    group.rr_set().first()?.rdata().dnskey()
+}
+
+/// Whether one key of the algorithm has the tag 1296 and no other tag, and none of another algorithm has it.
+fn is_named_once(keys: &Keys, algorithm: SecurityAlgorithm) -> bool {
+    keys.next_named(algorithm, 1296, 0) == Some(0)
+        && keys.next_named(algorithm, 1296, 1).is_none()
+        && keys.next_named(algorithm, 1295, 0).is_none()
+        && keys.next_named(algorithm, 1297, 0).is_none()
+        && keys
+            .next_named(SecurityAlgorithm::ED25519, 1296, 0)
+            .is_none()
 }
 
 #[test]

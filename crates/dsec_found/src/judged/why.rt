@@ -19,6 +19,7 @@ use crate::island::copy_of;
 use dsec_cause::Cause;
 use dsec_crypto::Verifier;
 use dsec_group::Group;
+use dsec_keys::KeyList;
 use dsec_link::{Link, LinkKind, Links};
 use dsec_name::{Name, NoMemory};
 use dsec_node::{Node, SignedCause, link_by_keys};
@@ -146,8 +147,8 @@ fn own_link_in<V: Verifier>(
 {
     match node.apex_keys() {
         Some(keys) => {
-            let said = keys.tagged(alloc)?;
-            let link = link_by_keys(alloc, LinkKind::Set, group, signature, keys, &said[key].key)?;
+            let one = keys.key_at(key);
+            let link = link_by_keys(alloc, LinkKind::Set, group, signature, keys, &one.key)?;
             Ok(Some(link))
         }
         None => Ok(None),

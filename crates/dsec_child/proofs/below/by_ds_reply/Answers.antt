@@ -21,14 +21,14 @@ returns-in-Sections-clause-pending g c =
     (follows_pending w a.zone.now its (place a.name.now) (sections c.as_slice.result.now c.as_slice-in-Sections.result.now) c.standing.ensures.kept begins c.requires.made c.requires.counts c.requires.under (below_view it) h pending asked))
     c.by_sections.ensures.below
 
-pub returns-in-Failed-clause-below : goal.returns-in-Failed-clause-below
-returns-in-Failed-clause-below g c = λ keys says.
+pub returns-in_ok-bogus-in-Failed-clause-below : goal.returns-in_ok-bogus-in-Failed-clause-below
+returns-in_ok-bogus-in-Failed-clause-below g c = λ keys says.
     let a = c.args in
     let w = world_of g.V.Verifier.accepts [] (bounds_of a.config.now) a.now in
     ap (λ n. made n) (c.in_ok-bogus-in-Failed.ensures []) ∙ ap (by_ds_reply w a.zone.now keys (place a.name.now)) (sym (ap reply_view c.in-Failed.is) ∙ c.in_ok-answers.ensures)
 
-pub returns-clause-below : goal.returns-clause-below
-returns-clause-below g c = λ keys says.
+pub returns-in_ok-bogus-in-Unreadable-clause-below : goal.returns-in_ok-bogus-in-Unreadable-clause-below
+returns-in_ok-bogus-in-Unreadable-clause-below g c = λ keys says.
     let a = c.args in
     let w = world_of g.V.Verifier.accepts [] (bounds_of a.config.now) a.now in
     ap (λ n. made n) (c.in_ok-bogus-in-Unreadable.ensures []) ∙ ap (by_ds_reply w a.zone.now keys (place a.name.now)) (sym (ap reply_view c.in-Unreadable.is) ∙ c.in_ok-answers.ensures)

@@ -1,6 +1,5 @@
-use Rattle.std.proofs.Common.{[], map, sym, ap, ◌∙◌}
+use Rattle.std.proofs.Common.{[], sym, ap, ◌∙◌}
 use Rattle.dsec_spec.specs.Names.{place}
-use Rattle.dsec_link.specs.TaggedKeys.{tagged_view}
 use Rattle.dsec_nodes.specs.ByDs.{made, asks}
 use Rattle.dsec_node.specs.Views.{bounds_of, world_of}
 use Rattle.dsec_child.proofs.BelowSteps.{by_unusable, by_usable, unsupported_kept, usable_in}
@@ -21,7 +20,7 @@ insecure-requires-clause-kept g c =
     let it = c.requires.signed in (
       it.0,
       it.2,
-      unsupported_kept w a.zone.now a.keys.now (place a.name.now) a.group.now it.0 (map tagged_view a.said.now) c.requires.above c.requires.at it.1 it.3 none,
+      unsupported_kept w a.zone.now a.keys.now (place a.name.now) a.group.now it.0 c.requires.above c.requires.at it.1 it.3 none,
     )
 
 pub returns : goal.returns

@@ -1,5 +1,5 @@
-use Rattle.std.proofs.Common.{◌+◌, arith, map}
-use Rattle.dsec_link.specs.TaggedKeys.{tagged_view}
+use Rattle.std.proofs.Common.{◌+◌, arith}
+use Rattle.dsec_nodes.specs.Signing.{keys_of}
 use Rattle.dsec_spec.specs.Names.{place}
 use Rattle.dsec_nodes.specs.MissingDs.{nsec_search, nsec3_search}
 use Rattle.dsec_denial.proofs.SearchSteps.{found_first, room_for_both}
@@ -16,7 +16,7 @@ returns-in_default g c =
     record {
       there = c.in_ok-first.ensures.there;
       found = λ w zone datas goes follows.
-          found_first w zone datas name groups (map tagged_view c.args.keys.now) (nsec_search w zone datas name groups) (nsec3_search w zone datas name groups) c.in_ok-first.first c.in_default.not-Passed (c.in_ok-first.ensures.found w zone datas goes);
+          found_first w zone datas name groups (keys_of c.args.keys.now) (nsec_search w zone datas name groups) (nsec3_search w zone datas name groups) c.in_ok-first.first c.in_default.not-Passed (c.in_ok-first.ensures.found w zone datas goes);
       later = c.in_ok-first.ensures.later;
       bound = omega (arith, c.in_ok-first.ensures.bound, room_for_both groups (c.args.limits.now.max_bad_signatures + 1));
     }

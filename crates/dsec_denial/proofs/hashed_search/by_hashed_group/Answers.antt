@@ -1,14 +1,13 @@
-use Rattle.std.proofs.Common.{◌≡◌, [], ◌∷◌, map, Some, sym, ap, ◌∙◌, subst}
+use Rattle.std.proofs.Common.{◌≡◌, [], ◌∷◌, Some, sym, ap, ◌∙◌, subst}
 use Rattle.std.specs.Prelude.{slice_get}
 use Rattle.std.proofs.lemmas.Option.{same_Some}
-use Rattle.dsec_link.specs.TaggedKeys.{tagged_view}
 use Rattle.dsec_spec.specs.Groups as grouping
 use Rattle.dsec_spec.specs.Names.{place}
 use Rattle.dsec_spec.specs.Numbers.{NSEC3}
 use Rattle.dsec_group.proofs.IndexLaws.{there_is}
 use Rattle.dsec_wire.specs.DataViews.{nsec3_view}
 use Rattle.dsec_nodes.specs.MissingByHash.{by_hashed_group, by_nsec3}
-use Rattle.dsec_nodes.specs.Signing.{under_keys}
+use Rattle.dsec_nodes.specs.Signing.{keys_of, under_keys}
 use Rattle.dsec_denial.specs.Bearings.{by_bearing}
 use Rattle.dsec_denial.specs.Findings.{Finds, IsTried, how_many}
 use Rattle.dsec_denial.specs.declared.finding.DsFinding.{DsFinding}
@@ -20,7 +19,7 @@ use Rattle.dsec_denial.proofs.hashed_search.by_hashed_group.Goals as goal
 pub returns-in-Ok-2-clause-found : goal.returns-in-Ok-2-clause-found
 returns-in-Ok-2-clause-found g c = λ w zone datas other goes follows there.
     let groups = c.args.groups.now in
-    let keys = map tagged_view c.args.keys.now in
+    let keys = keys_of c.args.keys.now in
     let name = place c.args.name.now in
     let group = c.index-groups-index.result in
     let here = there_is groups c.args.index group group c.requires c.index-groups-index.is in
@@ -49,7 +48,7 @@ returns-in-Ok-2-clause-bound g c = λ other there.
 pub returns-in-Err-2-clause-found : goal.returns-in-Err-2-clause-found
 returns-in-Err-2-clause-found g c = λ w zone datas other goes follows there.
     let groups = c.args.groups.now in
-    let keys = map tagged_view c.args.keys.now in
+    let keys = keys_of c.args.keys.now in
     let name = place c.args.name.now in
     let group = c.index-groups-index.result in
     let here = there_is groups c.args.index group group c.requires c.index-groups-index.is in

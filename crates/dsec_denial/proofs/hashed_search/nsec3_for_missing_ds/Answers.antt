@@ -1,6 +1,6 @@
-use Rattle.std.proofs.Common.{arith, length, ap, ◌∙◌, map, subst, Option, drop, ◌+◌}
+use Rattle.std.proofs.Common.{arith, ap, ◌∙◌, subst, Option, drop, ◌+◌}
 use Rattle.dsec_cause.specs.declared.cause.Cause.{Cause}
-use Rattle.dsec_link.specs.TaggedKeys.{tagged_view}
+use Rattle.dsec_nodes.specs.Signing.{keys_of}
 use Rattle.dsec_spec.specs.Names.{place}
 use Rattle.dsec_spec.specs.Numbers.{NSEC3}
 use Rattle.dsec_nodes.specs.MissingByHash.{by_hashed_group}
@@ -18,7 +18,7 @@ returns-in_default g c =
     record {
       there = c.in_ok-found.ensures.there;
       found = λ w zone datas goes follows.
-          ends_with w zone datas name (by_hashed_group w zone datas name) groups c.loop-index.index here.0 here.2 c.loop-index.last (c.loop-index.invariant.0 w zone datas goes follows) (map tagged_view c.args.keys.now) c.in_ok-found.found c.in_default.not-Passed
+          ends_with w zone datas name (by_hashed_group w zone datas name) groups c.loop-index.index here.0 here.2 c.loop-index.last (c.loop-index.invariant.0 w zone datas goes follows) (keys_of c.args.keys.now) c.in_ok-found.found c.in_default.not-Passed
           (c.in_ok-found.ensures.found w zone datas here.0 goes follows here.1);
       later = omega (arith, c.loop-index.invariant.1, c.in_ok-found.ensures.later);
       bound = omega (arith, one_further NSEC3 here.0 groups c.loop-index.index here.2 _ _ c.loop-index.steps _ (c.in_ok-found.ensures.bound here.0 here.1) c.loop-index.invariant.2);
@@ -30,7 +30,7 @@ loop-index-preserved g c =
     let name = place c.args.name.now in
     let here = from_index groups c.loop-index.index c.loop-index-test.true in (
       λ w zone datas goes follows.
-          let shows = subst (λ (found : DsFinding). Finds w zone datas name groups (map tagged_view c.args.keys.now) found (by_hashed_group w zone datas name here.0)) c.in-Passed.is (c.in_ok-found.ensures.found w zone datas here.0 goes follows here.1) in
+          let shows = subst (λ (found : DsFinding). Finds w zone datas name groups (keys_of c.args.keys.now) found (by_hashed_group w zone datas name here.0)) c.in-Passed.is (c.in_ok-found.ensures.found w zone datas here.0 goes follows here.1) in
           ap (λ (last : Option Cause). then_looked (passed last) (looked_among (by_hashed_group w zone datas name) (drop (c.loop-index.index + 1) groups))) c.or-last.ensures
           ∙ past w zone datas name (by_hashed_group w zone datas name) groups c.loop-index.index here.0 here.2 c.loop-index.last (c.loop-index.invariant.0 w zone datas goes follows) c.in-Passed.cause shows,
       omega (arith, c.loop-index.invariant.1, c.in_ok-found.ensures.later),

@@ -1,5 +1,5 @@
-use Rattle.std.proofs.Common.{◌≡◌, ℕ, ◌+◌, ◌*◌, ◌≤◌, List, map, drop}
-use Rattle.dsec_link.specs.TaggedKeys.{tagged_view}
+use Rattle.std.proofs.Common.{◌≡◌, ℕ, ◌+◌, ◌*◌, ◌≤◌, List, drop}
+use Rattle.dsec_nodes.specs.Signing.{keys_of}
 use Rattle.dsec_spec.specs.Names.{place}
 use Rattle.dsec_spec.specs.Numbers.{NSEC3}
 use Rattle.dsec_nodes.specs.MissingDs.{passed, then_looked, looked_among}
@@ -11,7 +11,7 @@ use Rattle.dsec_denial.proofs.hashed_search.nsec3_for_missing_ds.Given as goal
 
 abbrev pub invariant-loop-index : goal.invariant-loop-index
 invariant-loop-index g l =
-    ((w : World) (zone : Node) (datas : List (List ℕ)) → GoesBy g.V.Verifier.accepts (place l.apex) (map tagged_view l.keys) (l.limits.max_bad_signatures + 1) l.t w zone datas
+    ((w : World) (zone : Node) (datas : List (List ℕ)) → GoesBy g.V.Verifier.accepts (place l.apex) (keys_of l.keys) (l.limits.max_bad_signatures + 1) l.t w zone datas
     → Follows l.limits.nsec3_iter_insecure l.limits.nsec3_iter_bogus w
     → then_looked (passed l.last) (looked_among (by_hashed_group w zone datas (place l.name)) (drop l.index l.groups)) ≡ looked_among (by_hashed_group w zone datas (place l.name)) l.groups)
     × (l.fn.steps ≤ l.steps)

@@ -1,7 +1,7 @@
-use Rattle.std.proofs.Common.{◌≡◌, [], ◌∷◌, map, sym, ap, ◌∙◌, subst}
+use Rattle.std.proofs.Common.{◌≡◌, [], ◌∷◌, sym, ap, ◌∙◌, subst}
 use Rattle.std.specs.Prelude.{slice_get}
 use Rattle.std.proofs.lemmas.Option.{same_Some}
-use Rattle.dsec_link.specs.TaggedKeys.{tagged_view}
+use Rattle.dsec_nodes.specs.Signing.{keys_of}
 use Rattle.dsec_spec.specs.Groups as grouping
 use Rattle.dsec_spec.specs.Names.{place}
 use Rattle.dsec_spec.specs.Numbers.{NSEC}
@@ -17,7 +17,7 @@ use Rattle.dsec_denial.proofs.search.by_group.Goals as goal
 pub returns-in-Ok-clause-found : goal.returns-in-Ok-clause-found
 returns-in-Ok-clause-found g c = λ w zone datas other goes there.
     let groups = c.args.groups.now in
-    let keys = map tagged_view c.args.keys.now in
+    let keys = keys_of c.args.keys.now in
     let name = place c.args.name.now in
     let group = c.index-groups-index.result in
     let here = there_is groups c.args.index group group c.requires c.index-groups-index.is in
@@ -45,7 +45,7 @@ returns-in-Ok-clause-bound g c = λ other there.
 pub returns-in-Err-clause-found : goal.returns-in-Err-clause-found
 returns-in-Err-clause-found g c = λ w zone datas other goes there.
     let groups = c.args.groups.now in
-    let keys = map tagged_view c.args.keys.now in
+    let keys = keys_of c.args.keys.now in
     let name = place c.args.name.now in
     let group = c.index-groups-index.result in
     let here = there_is groups c.args.index group group c.requires c.index-groups-index.is in

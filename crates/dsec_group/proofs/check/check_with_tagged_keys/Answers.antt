@@ -1,5 +1,4 @@
-use Rattle.std.proofs.Common.{map, ◌+◌, subst, arith}
-use Rattle.dsec_link.specs.TaggedKeys.{tagged_view}
+use Rattle.std.proofs.Common.{◌+◌, subst, arith}
 use Rattle.std.specs.Prelude.{IfOk}
 use Rattle.dsec_spec.specs.Names.{place}
 use Rattle.dsec_spec.specs.Trying.{checked}
@@ -10,7 +9,7 @@ use Rattle.dsec_group.proofs.check.check_with_tagged_keys.Goals as goal
 
 pub returns-in-Left-clause-checked : goal.returns-in-Left-clause-checked
 returns-in-Left-clause-checked g c =
-    let keys = (map tagged_view c.args.keys.now) in
+    let keys = (g.K.KeyList.keys c.args.keys.now) in
     let room = c.from-room.result + 1 in
     let is = subst (λ x. AreTries c.args.group.now.signatures keys x (pair_trial g.V.Verifier.accepts c.args.group.now (place c.args.zone.now) c.args.t room c.args.group.now.signatures keys)) c.in-Left.is c.in_ok-signature.ensures.tries in
     subst (λ n. IsCheck c.args.group.now keys c.refused.result (checked g.V.Verifier.accepts c.args.group.now (place c.args.zone.now) keys (n + 1) c.args.t)) c.from-room.ensures
@@ -19,7 +18,7 @@ returns-in-Left-clause-checked g c =
 
 pub returns-in-Good-clause-checked : goal.returns-in-Good-clause-checked
 returns-in-Good-clause-checked g c =
-    let keys = (map tagged_view c.args.keys.now) in
+    let keys = (g.K.KeyList.keys c.args.keys.now) in
     let room = c.from-room.result + 1 in
     let is = subst (λ x. AreTries c.args.group.now.signatures keys x (pair_trial g.V.Verifier.accepts c.args.group.now (place c.args.zone.now) c.args.t room c.args.group.now.signatures keys)) c.in-Good.is c.in_ok-signature.ensures.tries in
     subst (λ n. IfOk c.secured.result (λ check. IsCheck c.args.group.now keys check (checked g.V.Verifier.accepts c.args.group.now (place c.args.zone.now) keys (n + 1) c.args.t))) c.from-room.ensures

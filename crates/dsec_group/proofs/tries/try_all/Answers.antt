@@ -1,5 +1,4 @@
-use Rattle.std.proofs.Common.{map, subst, arith}
-use Rattle.dsec_link.specs.TaggedKeys.{tagged_view}
+use Rattle.std.proofs.Common.{subst, arith}
 use Rattle.dsec_spec.specs.Groups.{set_in}
 use Rattle.dsec_spec.specs.Names.{place}
 use Rattle.dsec_spec.specs.Trying.{pair_matches, pair_signs}
@@ -13,7 +12,7 @@ pub loop-index-preserved : goal.loop-index-preserved
 loop-index-preserved g c =
     let zone = place c.args.zone.now in
     let rs = c.sig_set-signatures.result.now in
-    let keys = (map tagged_view c.args.keys.now) in
+    let keys = (g.K.KeyList.keys c.args.keys.now) in
     let r = c.index-signatures-index.result in
     let good = pair_signs g.V.Verifier.accepts (set_in c.args.group.now) zone c.args.t in
     let whole = pair_trial g.V.Verifier.accepts c.args.group.now zone c.args.t c.args.room rs keys in
@@ -30,7 +29,7 @@ pub returns-in-Good-clause-tries : goal.returns-in-Good-clause-tries
 returns-in-Good-clause-tries g c =
     let zone = place c.args.zone.now in
     let rs = c.sig_set-signatures.result.now in
-    let keys = (map tagged_view c.args.keys.now) in
+    let keys = (g.K.KeyList.keys c.args.keys.now) in
     let r = c.index-signatures-index.result in
     let good = pair_signs g.V.Verifier.accepts (set_in c.args.group.now) zone c.args.t in
     let whole = pair_trial g.V.Verifier.accepts c.args.group.now zone c.args.t c.args.room rs keys in
