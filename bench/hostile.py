@@ -427,9 +427,10 @@ JUDGED = (
     Kind("a name of 124 labels denied by NSEC3, 500 iterations", "0 Insecure", lambda share: denied_by_hashes(500, share)),
     Kind("an answer from a wildcard by NSEC3, 100 iterations", "0 Bogus", wildcard_by_hashes),
     Kind("a walk of 120 names by NSEC3, 100 iterations", "0 Bogus", walk_by_hashes),
-    # The replies are the same for the half: names are as deep. For each name a walk is given the node of each name above.
+    # The replies are the same for the half: names are as deep. For each name a walk is given the node of each name above, in a list that can take
+    # twice what it holds.
     Kind("names in an insecure zone, 120 names below the anchor", "0 Insecure", deep_insecure, lambda share: n_log_n(share * MOST),
-         lambda share: 120 * 8 * int.from_bytes(deep_insecure(share).message[6:8], "big")),
+         lambda share: 120 * 16 * int.from_bytes(deep_insecure(share).message[6:8], "big")),
     Kind("a walk of 119 names under many keys", "0 Bogus 6", walk_under_keys),
     Kind("a name that NSEC records don't deny", "0 Bogus", denied_by_nsecs),
     Kind("a name that NSEC records of 123 labels don't deny", "0 Bogus", denied_by_long_nsecs),
