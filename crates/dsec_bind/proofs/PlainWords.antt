@@ -8,9 +8,11 @@ use Rattle.std.proofs.lemmas.Bool.{lt-ltb, ltb-true, ne_eqb}
 use Rattle.std.proofs.lemmas.List.Folds.{list_all-append}
 use Rattle.dsec_spec.specs.Reading.{◌>>=◌}
 use Rattle.dsec_bind.specs.KeyText.{bind_record, record_in}
-use Rattle.dsec_bind.specs.Lines.{cut_of, ends_part, is_mark, lines_of, onto, only, parts, uncommented, words_of, worded_lines}
+use Rattle.dsec_bind.specs.Lines.{ends_part, is_mark, lines_of, onto, only, parts, uncommented, words_of, worded_lines}
+use Rattle.dsec_spec.specs.Cuts.{cut_of}
 use Rattle.dsec_bind.specs.declared.line.Mark.TheVariants as marks
-use Rattle.dsec_bind.proofs.LineLemmas.{behind, cut_here, cut_later, cut_nil, first_part_cut, line_found, no_line, parts_from}
+use Rattle.dsec_bind.proofs.LineLemmas.{first_part_cut, line_found, no_line, parts_from}
+use Rattle.dsec_spec.proofs.CutLaws.{behind, cut_here, cut_later, cut_nil}
 
 -- whether an octet is printable ASCII, and neither a space nor `;`
 abbrev pub is_plain : ℕ → Bool

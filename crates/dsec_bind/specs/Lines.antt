@@ -1,6 +1,7 @@
 -- A text's lines, and their words.
 use Rattle.std.specs.Prelude.{ℕ, ◌==◌, ◌||◌, List, [], ◌∷◌, filter, map, Bool, true, false, Option, Some, None, if◌then◌else◌}
 use Rattle.std.proofs.Math.Bool.{not}
+use Rattle.dsec_spec.specs.Cuts.{cut_of}
 use Rattle.dsec_bind.specs.declared.line.Mark.{Mark}
 use Rattle.dsec_bind.specs.declared.line.Mark.TheVariants as marks
 use Rattle.dsec_bind.specs.declared.line.Until.{Until}
@@ -29,11 +30,6 @@ parts is_end (octet ∷ text) =
     if is_end octet then parts is_end text
     else if ends_part is_end text then (octet ∷ []) ∷ parts is_end text
     else onto octet (parts is_end text)
-
--- the octets before the first that ends them, and those from it on
-unfoldable pub cut_of : (ℕ → Bool) → List ℕ → List ℕ × List ℕ
-cut_of is_end [] = ([], [])
-cut_of is_end (octet ∷ text) = if is_end octet then ([], octet ∷ text) else (octet ∷ (cut_of is_end text).0, (cut_of is_end text).1)
 
 -- what ends a stretch: a mark, or any octet that is none
 abbrev pub is_end : Until → ℕ → Bool

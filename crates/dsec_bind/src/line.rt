@@ -2,7 +2,8 @@
 
 ghost use Rattle.std.specs.Prelude.{◌≡◌, ◌∷◌, [], MatchOption};
 ghost use Rattle.std.specs.Option.{option_map};
-ghost use Rattle.dsec_bind.specs.Lines.{cut_of, is_end as is_end_of, is_mark as is_mark_of, only, parts, uncommented as uncommented_of, words_of, worded_lines};
+ghost use Rattle.dsec_bind.specs.Lines.{is_end as is_end_of, is_mark as is_mark_of, only, parts, uncommented as uncommented_of, words_of, worded_lines};
+ghost use Rattle.dsec_spec.specs.Cuts.{cut_of};
 
 /// What separates parts of a text.
 #[derive(Clone, Copy)]

@@ -1,6 +1,7 @@
 -- A text's lines, and their words.
 use Rattle.std.specs.Prelude.{ℕ, ◌==◌, ◌&&◌, ◌||◌, List, [], ◌∷◌, Bool, true, false, Option, Some, None, if◌then◌else◌}
 use Rattle.std.proofs.Math.Bool.{not}
+use Rattle.dsec_spec.specs.Cuts.{cut_of}
 
 -- LF, which ends a line
 abbrev pub is_line_end : ℕ → Bool
@@ -48,11 +49,6 @@ words_of (octet ∷ line) =
 -- what words consist of
 abbrev pub is_no_blank : ℕ → Bool
 is_no_blank octet = not (is_blank octet)
-
--- the octets before the first that passes a test, and those from it on
-unfoldable pub cut_of : (ℕ → Bool) → List ℕ → List ℕ × List ℕ
-cut_of test [] = ([], [])
-cut_of test (octet ∷ text) = if test octet then ([], octet ∷ text) else (octet ∷ (cut_of test text).0, (cut_of test text).1)
 
 -- what stands from the first word on
 abbrev pub after_blanks : List ℕ → List ℕ

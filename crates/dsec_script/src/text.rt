@@ -2,7 +2,8 @@
 
 ghost use Rattle.std.specs.Prelude.{◌≡◌, ◌<◌, [], ◌∷◌, length, MatchOption};
 ghost use Rattle.std.specs.Option.{option_map};
-ghost use Rattle.dsec_script.specs.Text.{after_blanks, cut_of, first_word_of, is_blank as is_blank_octet, is_line_end, lines_of, without_return as without_return_of, words_of};
+ghost use Rattle.dsec_script.specs.Text.{after_blanks, first_word_of, is_blank as is_blank_octet, is_line_end, lines_of, without_return as without_return_of, words_of};
+ghost use Rattle.dsec_spec.specs.Cuts.{cut_of};
 
 use memchr::{memchr, memchr2};
 

@@ -45,3 +45,4 @@ pub mod HashOctets
 pub mod HashedNameLaws
 pub mod HashCircle
 pub mod Nsec3ChainLaws
+pub mod CutLaws

@@ -42,3 +42,4 @@ pub mod HashedNames
 pub mod Nsec3Chains
 pub mod Signatures
 pub mod SignedZones
+pub mod Cuts

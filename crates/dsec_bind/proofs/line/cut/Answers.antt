@@ -1,6 +1,6 @@
 use Rattle.std.proofs.Common.{sym, ◌∙◌}
 use Rattle.dsec_bind.specs.Lines.{is_end}
-use Rattle.dsec_bind.proofs.LineLemmas.{cut_found, cut_none, cut_on}
+use Rattle.dsec_spec.proofs.CutLaws.{cut_found, cut_none, cut_on}
 use Rattle.dsec_bind.proofs.line.cut.Goals as goal
 
 pub returns-then-is_end : goal.returns-then-is_end

@@ -1,6 +1,7 @@
 use Rattle.std.proofs.Common.{length, ◌-◌, ◌≡◌, take, drop}
-use Rattle.dsec_bind.specs.Lines.{cut_of, is_end}
-use Rattle.dsec_bind.proofs.LineLemmas.{behind}
+use Rattle.dsec_bind.specs.Lines.{is_end}
+use Rattle.dsec_spec.specs.Cuts.{cut_of}
+use Rattle.dsec_spec.proofs.CutLaws.{behind}
 use Rattle.dsec_bind.proofs.line.cut.Given as goal
 
 abbrev pub invariant-loop-at : goal.invariant-loop-at

@@ -1,6 +1,6 @@
 use Rattle.std.proofs.Common.{arith}
 use Rattle.dsec_script.specs.Text.{is_line_end}
-use Rattle.dsec_script.proofs.TextLemmas.{cut_first, cut_nowhere}
+use Rattle.dsec_spec.proofs.CutLaws.{cut_first, cut_nowhere}
 use Rattle.dsec_script.proofs.text.cut_line.Goals as goal
 
 pub returns-in-Some : goal.returns-in-Some

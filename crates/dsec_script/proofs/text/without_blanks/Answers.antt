@@ -1,7 +1,7 @@
-use Rattle.std.proofs.Common.{ap, sym, ◌∙◌, List, ℕ}
+use Rattle.std.proofs.Common.{ap, sym, ◌∙◌}
 use Rattle.std.proofs.Math.Bool.{not}
 use Rattle.dsec_script.specs.Text.{is_no_blank}
-use Rattle.dsec_script.proofs.TextLemmas.{Cut, cut_found, cut_none, cut_on}
+use Rattle.dsec_spec.proofs.CutLaws.{Cut, cut_found, cut_none, cut_on}
 use Rattle.dsec_script.proofs.text.without_blanks.Goals as goal
 
 pub returns-then-not-is_blank : goal.returns-then-not-is_blank

@@ -1,6 +1,7 @@
 use Rattle.std.proofs.Common.{length, ◌-◌, ◌≡◌, take, drop}
-use Rattle.dsec_script.specs.Text.{cut_of, is_no_blank}
-use Rattle.dsec_script.proofs.TextLemmas.{behind}
+use Rattle.dsec_script.specs.Text.{is_no_blank}
+use Rattle.dsec_spec.specs.Cuts.{cut_of}
+use Rattle.dsec_spec.proofs.CutLaws.{behind}
 use Rattle.dsec_script.proofs.text.without_blanks.Given as goal
 
 abbrev pub invariant-loop-at : goal.invariant-loop-at
