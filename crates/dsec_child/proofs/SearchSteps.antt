@@ -15,33 +15,7 @@ use Rattle.dsec_spec.specs.KeySearch.{is_named, is_spoken_of}
 use Rattle.dsec_spec.proofs.ListLemmas.{drop_here}
 use Rattle.dsec_node.specs.KeyTags.{AreTags}
 use Rattle.dsec_node.proofs.KeyTagLaws.{tag_there}
-use Rattle.dsec_child.specs.Searches.{tested, digests_of, digests_for, trial_of}
-use Rattle.dsec_child.specs.declared.search.Trial.TheVariants.{Match, Mismatch, Other, Excess}
-
--- what each outcome of a trial says
-pub from_match : (named spoken may : Bool) → trial_of named spoken may ≡ Match → (named ≡ true) × (spoken ≡ true) × (may ≡ true)
-from_match false spoken may e = absurd cc
-from_match true spoken false e = absurd cc
-from_match true true true e = (refl, refl, refl)
-from_match true false true e = absurd cc
-
-pub from_mismatch : (named spoken may : Bool) → trial_of named spoken may ≡ Mismatch → (named ≡ true) × (spoken ≡ false) × (may ≡ true)
-from_mismatch false spoken may e = absurd cc
-from_mismatch true spoken false e = absurd cc
-from_mismatch true true true e = absurd cc
-from_mismatch true false true e = (refl, refl, refl)
-
-pub from_other : (named spoken may : Bool) → trial_of named spoken may ≡ Other → named ≡ false
-from_other false spoken may e = refl
-from_other true spoken false e = absurd cc
-from_other true true true e = absurd cc
-from_other true false true e = absurd cc
-
-pub from_excess : (named spoken may : Bool) → trial_of named spoken may ≡ Excess → (named ≡ true) × (may ≡ false)
-from_excess false spoken may e = absurd cc
-from_excess true spoken false e = (refl, refl)
-from_excess true true true e = absurd cc
-from_excess true false true e = absurd cc
+use Rattle.dsec_child.specs.Searches.{tested, digests_of, digests_for}
 
 -- where there are tags, the tag of a key stands where its record does
 pub tags_there : (tags : Option (Bor (List ℕ))) (keys : List Record) (i : ℕ) (one : Record) (key : Key) → IfSome tags (λ all. AreTags all.now (map (λ r. r.rdata) keys))

@@ -1,5 +1,5 @@
 -- The search for the key of a DS record: what it answers, and how many digests it takes (RFC 4035 5.2).
-use Rattle.std.specs.Prelude.{ℕ, ◌+◌, Bool, true, false, List, length, take, filter, Option, Some, None, if◌then◌else◌}
+use Rattle.std.specs.Prelude.{ℕ, ◌+◌, Bool, List, length, take, filter, Option, Some, None, if◌then◌else◌}
 use Rattle.std.specs.List.{list_any, position_or_len}
 use Rattle.dsec_spec.specs.Digests.{is_supported_digest}
 use Rattle.dsec_spec.specs.KeySearch.{KeySearch, found_at, not_found, too_many, is_named, is_spoken_of}
@@ -7,8 +7,8 @@ use Rattle.dsec_spec.specs.Names.{Labels}
 use Rattle.dsec_spec.specs.Records.{Ds}
 use Rattle.dsec_cause.specs.declared.cause.Cause.{Cause}
 use Rattle.dsec_cause.specs.declared.cause.Cause.TheVariants.{TooManyDnskeysForDs}
-use Rattle.dsec_child.specs.declared.search.Trial.{Trial}
-use Rattle.dsec_child.specs.declared.search.Trial.TheVariants.{Match, Mismatch, Other, Excess}
+use Rattle.dsec_link.specs.declared.key_search.KeyTrial.{KeyTrial}
+use Rattle.dsec_link.specs.declared.key_search.KeyTrial.TheVariants.{Match, Mismatch, Other, Excess}
 
 -- the key's index, or the cause that there are too many keys
 abbrev pub answer_of : KeySearch → Option ℕ × Option Cause
@@ -29,15 +29,8 @@ digests_of ds tests = if is_supported_digest ds.digest_type then tests else 0
 abbrev pub digests_for : Ds → Labels → ℕ → List (List ℕ) → ℕ
 digests_for ds owner most datas = digests_of ds (tested (is_spoken_of ds owner) (take most (filter (is_named ds) datas)))
 
--- what comes of one key: whether the DS record names it, whether it speaks of it, and whether it may be tried
-abbrev pub trial_of : Bool → Bool → Bool → Trial
-trial_of false spoken may = Other
-trial_of true spoken false = Excess
-trial_of true true true = Match
-trial_of true false true = Mismatch
-
--- how many digests it takes
-abbrev pub digests_by : Ds → Trial → ℕ
+-- how many digests the trial of a key takes, by what comes of it
+abbrev pub digests_by : Ds → KeyTrial → ℕ
 digests_by ds Match = digests_of ds 1
 digests_by ds Mismatch = digests_of ds 1
 digests_by ds Other = 0

@@ -8,32 +8,19 @@ ghost use Rattle.dsec_spec.specs.Numbers.{DNSKEY};
 ghost use Rattle.dsec_spec.specs.Records.{key_of};
 ghost use Rattle.dsec_wire.specs.DataViews.{ds_view};
 ghost use Rattle.dsec_wire.specs.Views.{key_view};
-ghost use Rattle.dsec_link.specs.KeySearches.{search_view};
+ghost use Rattle.dsec_link.specs.KeySearches.{search_view, trial_of};
 ghost use Rattle.dsec_link.specs.Sets.{AreRecordsOf};
 ghost use Rattle.dsec_link.specs.TaggedKeys.{tagged_view};
 ghost use Rattle.dsec_node.specs.KeyTags.{AreTags};
-ghost use Rattle.dsec_child.specs.Searches.{answer_of, digests_by, digests_for, digests_of, trial_of};
+ghost use Rattle.dsec_child.specs.Searches.{answer_of, digests_by, digests_for, digests_of};
 
 use dsec_cause::Cause;
 use dsec_group::Steps;
-use dsec_link::{DnskeyExt, KeySearch, TaggedKey, supported_digest};
+use dsec_link::{DnskeyExt, KeySearch, KeyTrial, TaggedKey, supported_digest};
 use dsec_name::Name;
 use dsec_node::{Config, tag_at};
 use dsec_wire::{Dnskey, Ds, Record};
 use std::sync::ledger::Ledger;
-
-/// What comes of one key.
-#[derive(Clone, Copy)]
-enum Trial {
-    /// It is the key that the record speaks of.
-    Match,
-    /// It has the record's algorithm and tag, and another digest.
-    Mismatch,
-    /// Its algorithm or its tag is another.
-    Other,
-    /// It has the record's algorithm and tag, and may not be tried any more.
-    Excess,
-}
 
 /// The index of the first key of the owner that the DS record speaks of, among DNSKEY records in order, or why there is
 /// none, where that has a cause of its own. Of the keys with the record's algorithm and tag `max_dnskeys_per_ds` are tried at
@@ -85,10 +72,10 @@ pub(crate) fn search_key<L: Ledger>(
         let tag = tag_of(tags, index, &key);
         let key = TaggedKey { key, tag };
         match try_key(ds, owner, &key, left > 0, steps) {
-            Trial::Match => return KeySearch::FoundAt(index),
-            Trial::Mismatch => left -= 1,
-            Trial::Other => {}
-            Trial::Excess => return KeySearch::TooMany,
+            KeyTrial::Match => return KeySearch::FoundAt(index),
+            KeyTrial::Mismatch => left -= 1,
+            KeyTrial::Other => {}
+            KeyTrial::Excess => return KeySearch::TooMany,
         }
     }
     KeySearch::NotFound
@@ -123,18 +110,18 @@ fn try_key<L: Ledger>(
     key: &TaggedKey<'_>,
     may: bool,
     steps: &mut Steps<L>,
-) -> Trial
+) -> KeyTrial
     ensures found { result ≡ trial_of (names (ds_view ds.now) (tagged_view key.now)) (speaks_of (ds_view ds.now) owner.now (tagged_view key.now)) may }
     ensures counted { steps.new ≡ steps.old + digests_by (ds_view ds.now) result }
 {
     if !names_key(ds, key) {
-        Trial::Other
+        KeyTrial::Other
     } else if !may {
-        Trial::Excess
+        KeyTrial::Excess
     } else if has_digest_counted(ds, owner, &key.key, steps) {
-        Trial::Match
+        KeyTrial::Match
     } else {
-        Trial::Mismatch
+        KeyTrial::Mismatch
     }
 }
 

@@ -9,7 +9,7 @@ use Rattle.dsec_spec.specs.KeySearch.{KeySearch, found_at, not_found, too_many, 
 use Rattle.dsec_spec.proofs.KeySearchLemmas.{behind, search_end, search_past, search_tried, search_found, search_over}
 use Rattle.dsec_link.specs.KeySearches.{trial_of}
 use Rattle.dsec_spec.proofs.ListLemmas.{drop_here}
-use Rattle.dsec_link.specs.declared.key_search.Trial.TheVariants.{Match, Mismatch, Other, Excess}
+use Rattle.dsec_link.specs.declared.key_search.KeyTrial.TheVariants.{Match, Mismatch, Other, Excess}
 
 -- a key that isn't named isn't spoken of
 unspoken : (ds : Ds) (owner : Labels) (key : Option Key) → of_key (names ds) key ≡ false → of_key (λ k. names ds k && has_digest ds owner k) key ≡ false

@@ -22,9 +22,9 @@ pub enum KeySearch {
     TooMany,
 }
 
-/// What comes of one key.
+/// What comes of one key in such a search.
 #[derive(Clone, Copy)]
-enum Trial {
+pub enum KeyTrial {
     /// It is the key that the record speaks of.
     Match,
     /// It has the record's algorithm and tag, and another digest.
@@ -44,32 +44,32 @@ pub fn first_key_for(ds: &Ds<'_>, owner: &Name, keys: &[Record], most: usize) ->
     let mut left = most;
     for index in 0..keys.len() {
         match try_key(ds, owner, keys[index].rdata(), left > 0) {
-            Trial::Match => return KeySearch::FoundAt(index),
-            Trial::Mismatch => left -= 1,
-            Trial::Other => {}
-            Trial::Excess => return KeySearch::TooMany,
+            KeyTrial::Match => return KeySearch::FoundAt(index),
+            KeyTrial::Mismatch => left -= 1,
+            KeyTrial::Other => {}
+            KeyTrial::Excess => return KeySearch::TooMany,
         }
     }
     KeySearch::NotFound
 }
 
 /// What comes of the key that data say, where it may be tried or not.
-fn try_key(ds: &Ds<'_>, owner: &Name, key: &Data, may: bool) -> Trial
+fn try_key(ds: &Ds<'_>, owner: &Name, key: &Data, may: bool) -> KeyTrial
     requires { key.now.rtype ≡ DNSKEY }
     ensures { result ≡ trial_of (is_named (ds_view ds.now) key.now.octets) (is_spoken_of (ds_view ds.now) owner.now key.now.octets) may }
 {
     match key.dnskey() {
         Some(key) => {
             if !names_key(ds, &key) {
-                Trial::Other
+                KeyTrial::Other
             } else if !may {
-                Trial::Excess
+                KeyTrial::Excess
             } else if has_digest_of(ds, owner, &key) {
-                Trial::Match
+                KeyTrial::Match
             } else {
-                Trial::Mismatch
+                KeyTrial::Mismatch
             }
         }
-        None => Trial::Other,
+        None => KeyTrial::Other,
     }
 }

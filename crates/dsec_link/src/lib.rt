@@ -24,7 +24,7 @@ pub use bytes::{push_fixed, push_head, signed_bytes};
 pub use check::{matches, may_sign};
 pub use dnskey_ext::DnskeyExt;
 pub use ds_ext::DsExt;
-pub use key_search::{KeySearch, first_key_for};
+pub use key_search::{KeySearch, KeyTrial, first_key_for};
 pub use lasting::ttl_for_sig;
 pub use link::{Link, LinkKind, Links};
 pub use link_text::push_link;

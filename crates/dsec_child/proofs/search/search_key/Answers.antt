@@ -7,7 +7,8 @@ use Rattle.dsec_wire.specs.DataViews.{ds_view}
 use Rattle.dsec_wire.specs.Views.{key_view}
 use Rattle.dsec_link.proofs.KeySearchSteps.{from_index, key_past, key_tried, key_found, key_over}
 use Rattle.dsec_child.specs.Searches.{digests_by, digests_for}
-use Rattle.dsec_child.proofs.SearchSteps.{from_match, from_mismatch, from_other, from_excess, at_most_one, digests_past, digests_good, digests_bad, digests_over, digests_from, tags_there}
+use Rattle.dsec_link.proofs.KeySearchSteps.{from_match, from_mismatch, from_other, from_excess}
+use Rattle.dsec_child.proofs.SearchSteps.{at_most_one, digests_past, digests_good, digests_bad, digests_over, digests_from, tags_there}
 use Rattle.dsec_child.proofs.search.search_key.Goals as goal
 use Rattle.dsec_child.proofs.search.search_key.Goals.{in-Mismatch, in-Other}
 
