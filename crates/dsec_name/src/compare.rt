@@ -97,6 +97,13 @@ pub(crate) fn is_at_or_below(octets: &[u8], base: &[u8]) -> bool
         };
         rest = after;
     }
-    // A length is at most 63, and so no letter.
-    rest.eq_ignore_ascii_case(base)
+    same_ignoring_case(rest, base)
+}
+
+/// Whether octets are the same, ASCII case aside. Most that are have the same letters, which one comparison of all of them finds. A
+/// label's length is at most 63, and so no letter.
+pub(crate) fn same_ignoring_case(one: &[u8], other: &[u8]) -> bool
+    ensures { IsTrue result ↔ (map to_ascii_lowercase one.now ≡ map to_ascii_lowercase other.now) }
+{
+    *one == *other || one.eq_ignore_ascii_case(other)
 }

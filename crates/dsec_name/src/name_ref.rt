@@ -7,6 +7,7 @@ ghost use Rattle.dsec_spec.specs.RecordData.{name_in};
 ghost use Rattle.dsec_name.specs.Keys.{IsWhole, labels_of};
 ghost use Rattle.dsec_name.specs.NamePrefix.{labels_size_in};
 
+use crate::compare::same_ignoring_case;
 use crate::error::NoMemory;
 use crate::label::count_labels;
 use crate::name::{MAX_LABEL, MAX_NAME, Name};
@@ -47,8 +48,7 @@ impl<'a> NameRef<'a> {
     pub fn is(&self, name: &Name) -> bool
         ensures { IsTrue result ↔ (place (name_view self.now) ≡ place name.now) }
     {
-        // A length is at most 63, and so no letter.
-        self.octets.eq_ignore_ascii_case(name.octets())
+        same_ignoring_case(self.octets, name.octets())
     }
 
     /// The name with memory of its own.

@@ -2,6 +2,7 @@
 
 ghost use Rattle.dsec_spec.specs.Names.{name_cmp};
 
+use crate::compare::same_ignoring_case;
 use crate::name::Name;
 use std::cmp::Ordering;
 use std::hash::{Hash, Hasher};
@@ -15,8 +16,7 @@ impl PartialEq for Name {
     ghost laws = { name_eq_partial };
 
     fn eq(&self, other: &Self) -> bool {
-        // A length is at most 63, and so no letter.
-        self.octets().eq_ignore_ascii_case(other.octets())
+        same_ignoring_case(self.octets(), other.octets())
     }
 }
 

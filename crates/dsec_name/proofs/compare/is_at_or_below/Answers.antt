@@ -27,6 +27,6 @@ returns c =
     let short : wire_length (labels_of rest) ≤ wire_length (labels_of base) = let m = length-whole rest whole in let n = length-whole base c.requires.base in omega arith in
     let end = below_end (labels_of rest) (labels_of base) short in
     let same = same_octets (labels_of rest) (labels_of base) rest base whole.whole c.requires.base.whole whole.name c.requires.base.name in (
-      λ yes. c.loop-rest.invariant.1.0 (end.1 (same.0 (c.eq_ignore_ascii_case.ensures.test.0 yes))),
-      λ h. c.eq_ignore_ascii_case.ensures.test.1 (same.1 (end.0 (c.loop-rest.invariant.1.1 h))),
+      λ yes. c.loop-rest.invariant.1.0 (end.1 (same.0 (c.same_ignoring_case.ensures.0 yes))),
+      λ h. c.same_ignoring_case.ensures.1 (same.1 (end.0 (c.loop-rest.invariant.1.1 h))),
     )

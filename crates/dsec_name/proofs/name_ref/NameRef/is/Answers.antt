@@ -5,4 +5,4 @@ use Rattle.dsec_name.specs.NameRefs.{name_view}
 pub returns : goal.returns
 returns c =
     let same = same_octets (name_view c.args.self.now) c.args.name.now c.args.self.now.octets.now c.octets.result.now c.args.self.now.whole.whole c.octets.ensures.octets c.args.self.now.whole.name c.octets.ensures.name in
-    (λ e. same.0 (c.eq_ignore_ascii_case.ensures.test.0 e), λ e. c.eq_ignore_ascii_case.ensures.test.1 (same.1 e))
+    (λ e. same.0 (c.same_ignoring_case.ensures.0 e), λ e. c.same_ignoring_case.ensures.1 (same.1 e))
