@@ -17,10 +17,10 @@ use crate::outcome::{Outcome, Unjudged};
 use crate::sending::send_outcome;
 use dsec_context::ValidationContext;
 use dsec_crypto::Verifier;
+use dsec_message::Message;
 use dsec_name::NoMemory;
 use dsec_outside::{Halt, Sink, TableUpstream, send};
 use dsec_script::Item;
-use dsec_wire::Message;
 use std::alloc::Global;
 
 /// What comes of a message at its moment, over nodes of the table at this moment.

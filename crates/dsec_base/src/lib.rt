@@ -6,6 +6,7 @@ pub use dsec_builder::{
     law_of_built_messages,
 };
 pub use dsec_cause::{Cause, law_of_causes};
+pub use dsec_message::{Header, Message, Sections, ShortMessage, law_of_flags};
 pub use dsec_name::{Name, NameError, NameRef, NoMemory, Octets};
 pub use dsec_number::{
     Class, DefMinMax, DigestAlgorithm, Nsec3HashAlgorithm, Rcode, Rtype, SecurityAlgorithm, Serial,
@@ -18,8 +19,7 @@ pub use dsec_outside::{
     Writing, read_all, write_all,
 };
 pub use dsec_wire::{
-    Cname, Data, Dname, Dnskey, Ds, EdnsOption, Header, Message, MessageError, Nsec, Nsec3,
-    Nsec3param, Opt, Question, Questions, Record, Records, Rrsig, Sections, ShortMessage, Soa,
-    law_of_flags, read_name,
+    Cname, Data, Dname, Dnskey, Ds, EdnsOption, MessageError, Nsec, Nsec3, Nsec3param, Opt,
+    Question, Questions, Record, Records, Rrsig, Soa, read_name,
 };
 pub use dsec_zonefile::{Entry, InplaceError, Zonefile, ZonefileError};

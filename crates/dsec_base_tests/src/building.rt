@@ -1,9 +1,10 @@
 //! A built message against octets that were written out by hand.
 
 use dsec_builder::MessageBuilder;
+use dsec_message::Message;
 use dsec_name::{Name, Octets};
 use dsec_number::{Class, Rtype, Ttl};
-use dsec_wire::{Data, Message, Question, Record};
+use dsec_wire::{Data, Question, Record};
 use std::alloc::Global;
 use std::test::Fail;
 

@@ -3,10 +3,11 @@
 use dsec_anchors::AnchorError;
 use dsec_builder::PushError;
 use dsec_crypto::{AlgorithmError, FromDnskeyError};
+use dsec_message::ShortMessage;
 use dsec_name::{NameError, NoMemory};
 use dsec_number::UnknownWord;
 use dsec_outside::{AskError, Failed, Stop};
-use dsec_wire::{MessageError, ShortMessage};
+use dsec_wire::MessageError;
 use dsec_zonefile::InplaceError;
 use std::alloc::AllocError;
 use std::fmt::{Display, InlineText};

@@ -1,9 +1,10 @@
 //! Messages item for item, their OPT records, and key tags, against other software's reading and the standards' examples.
 
 use crate::zones::{is_hex, push_record};
+use dsec_message::Message;
 use dsec_name::Octets;
 use dsec_number::{Rcode, Rtype};
-use dsec_wire::{Data, Message, Records};
+use dsec_wire::{Data, Records};
 use std::alloc::Global;
 use std::test::Fail;
 

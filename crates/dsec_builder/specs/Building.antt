@@ -5,7 +5,7 @@ use Rattle.dsec_spec.specs.Messages.{header_of, Question, questions_of, answers_
 use Rattle.dsec_spec.specs.Reading.{u16_at}
 use Rattle.dsec_spec.specs.Records.{Record}
 use Rattle.dsec_spec.specs.WrittenMessages.{Written, IsWritable, header_for, message_octets}
-use Rattle.dsec_wire.specs.MessageSections.{items_of}
+use Rattle.dsec_message.specs.MessageSections.{items_of}
 
 -- a number that was read; 0 where there is none
 abbrev pub number_or_0 : Option ℕ → ℕ

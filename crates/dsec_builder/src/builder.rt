@@ -7,8 +7,9 @@ ghost use Rattle.dsec_builder.specs.Building.{IsMessageOf, nothing_written, with
 use crate::building::{empty_message, finished, push_question, set_flags, set_id};
 use crate::error::PushError;
 use crate::sections::{AdditionalBuilder, AnswerBuilder, AuthorityBuilder};
+use dsec_message::Message;
 use dsec_name::NoMemory;
-use dsec_wire::{Message, Question};
+use dsec_wire::Question;
 use std::alloc::Global;
 use std::marker::Model;
 

@@ -6,8 +6,9 @@ ghost use Rattle.dsec_builder.specs.Building.{EndsInAnswers, EndsInAuthorities, 
 
 use crate::error::PushError;
 use crate::octets::{count_question, count_record, set_number};
+use dsec_message::Message;
 use dsec_name::NoMemory;
-use dsec_wire::{Message, Question, Record};
+use dsec_wire::{Question, Record};
 use std::alloc::Global;
 
 /// Where the header has its numbers (RFC 1035 4.1.1).

@@ -6,7 +6,8 @@ ghost use Rattle.dsec_builder.specs.Building.{IsMessageOf, with_additional, with
 
 use crate::building::{finished, push_additional, push_answer, push_authority, set_flags, set_id};
 use crate::error::PushError;
-use dsec_wire::{Message, Record};
+use dsec_message::Message;
+use dsec_wire::Record;
 use std::marker::Model;
 
 /// A message to whose answer section records are added.

@@ -7,9 +7,9 @@ use Rattle.dsec_spec.specs.Messages.{Header, header_of, answers_of, authorities_
 use Rattle.dsec_spec.specs.Reading.{◌>>=◌, u16_in, u16_at}
 use Rattle.dsec_spec.specs.Records.{Record}
 use Rattle.dsec_spec.proofs.ReadingLemmas.{from_bind}
-use Rattle.dsec_wire.specs.declared.sections.Sections.{Sections}
-use Rattle.dsec_wire.specs.MessageSections.{SectionsRead, sections_of, sections_and_place}
-use Rattle.dsec_wire.proofs.SectionReading.{authorities_none}
+use Rattle.dsec_message.specs.declared.sections.Sections.{Sections}
+use Rattle.dsec_message.specs.MessageSections.{SectionsRead, sections_of, sections_and_place}
+use Rattle.dsec_message.proofs.SectionReading.{authorities_none}
 use Rattle.dsec_group.specs.Reading.{GroupsRead, groups_and_place}
 use Rattle.dsec_group.specs.declared.sections.GroupedSections.{GroupedSections}
 use Rattle.dsec_group.proofs.ReadingLaws.{from_groups, no_groups}

@@ -9,9 +9,10 @@ ghost use Rattle.dsec_child.specs.Replied.{reply_view};
 
 use crate::way::is_same;
 use dsec_group::{Group, GroupSet, read_groups};
+use dsec_message::Message;
 use dsec_name::{Name, NoMemory};
 use dsec_number::{Class, Rtype};
-use dsec_wire::{Message, MessageError};
+use dsec_wire::MessageError;
 use std::alloc::Global;
 
 /// What a question brought.

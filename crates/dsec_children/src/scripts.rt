@@ -3,11 +3,12 @@
 use crate::setting::Setting;
 use crate::walk::push_way;
 use dsec_anchors::island_owner;
+use dsec_message::Message;
 use dsec_name::{Name, NoMemory};
 use dsec_node::Config;
 use dsec_number::Rtype;
 use dsec_script::{Item, Script, read_script};
-use dsec_wire::{Message, Questions};
+use dsec_wire::Questions;
 use std::alloc::Global;
 use std::marker::Brand;
 use std::sync::ledger::Blank;

@@ -18,10 +18,10 @@ use crate::validating::validate_in;
 use dsec_anchors::TrustAnchors;
 use dsec_crypto::Verifier;
 use dsec_group::NoMemo;
+use dsec_message::Message;
 use dsec_node::{Config, OwnedCaches};
 use dsec_outside::Upstream;
 use dsec_serve::{Error, Verdict};
-use dsec_wire::Message;
 use std::alloc::Global;
 use std::marker::Model;
 

@@ -10,9 +10,9 @@ ghost use Rattle.dsec_context.specs.Leaving.{error_by, handed_on, IsHanded};
 
 use dsec_crypto::Verifier;
 use dsec_found::{Error, JudgedGroup};
+use dsec_message::Message;
 use dsec_rewrite::{RewriteError, rebuild_msg};
 use dsec_serve::{Judgement, Verdict, all_bounded};
-use dsec_wire::Message;
 use std::alloc::Global;
 
 /// What is answered of a message that was judged at a moment. The message is left as it came, or rewritten where that is due; if it can't be

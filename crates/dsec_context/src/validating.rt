@@ -17,10 +17,10 @@ use dsec_anchors::TrustAnchors;
 use dsec_crypto::Verifier;
 use dsec_found::Error;
 use dsec_group::Memo;
+use dsec_message::Message;
 use dsec_node::{Caches, Config};
 use dsec_outside::Upstream;
 use dsec_serve::{Verdict, judge_in};
-use dsec_wire::Message;
 use std::alloc::Global;
 
 /// The verdict on a message at a moment, in seconds since 1970, from these anchors. Nodes are got from the caches and put into them, and the

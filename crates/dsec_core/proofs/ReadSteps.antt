@@ -20,11 +20,11 @@ use Rattle.dsec_course.proofs.BeginningLaws.{unreadable_refused}
 use Rattle.dsec_found.specs.Errors.{error_of, wants_memory}
 use Rattle.dsec_group.specs.Reading.{groups_and_place}
 use Rattle.dsec_group.proofs.ReadingLaws.{no_groups}
-use Rattle.dsec_wire.specs.MessageSections as wire
+use Rattle.dsec_message.specs.MessageSections as wire
 use Rattle.dsec_wire.specs.Errors.{wants_memory as read_wants_memory}
 use Rattle.dsec_wire.specs.declared.error.MessageError.{MessageError}
 use Rattle.dsec_wire.specs.declared.error.MessageError.TheVariants.{NoMemory, ParseError}
-use Rattle.dsec_wire.specs.declared.sections.Sections.{Sections}
+use Rattle.dsec_message.specs.declared.sections.Sections.{Sections}
 
 -- the three sections as they are read, by name
 abbrev pub parts : Sections → List Question × List Record × List Record

@@ -5,8 +5,9 @@ ghost use Rattle.dsec_found.specs.declared.error.Error.TheVariants as errors;
 ghost use Rattle.dsec_found.specs.Errors.{error_of, name_error_of, push_error_of};
 
 use dsec_builder::PushError;
+use dsec_message::ShortMessage;
 use dsec_name::{NoMemory, PushNameError};
-use dsec_wire::{MessageError, ShortMessage};
+use dsec_wire::MessageError;
 use dsec_zonefile::InplaceError;
 use std::alloc::{AllocError, AllocFailed};
 use thiserror::Error;

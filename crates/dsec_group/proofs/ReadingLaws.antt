@@ -9,10 +9,10 @@ use Rattle.dsec_spec.specs.Records.{Record}
 use Rattle.dsec_spec.proofs.ReadingLemmas.{from_bind}
 use Rattle.dsec_wire.specs.declared.error.MessageError.{MessageError}
 use Rattle.dsec_wire.specs.declared.error.MessageError.TheVariants.{ParseError, NoMemory}
-use Rattle.dsec_wire.specs.declared.sections.Sections.{Sections}
+use Rattle.dsec_message.specs.declared.sections.Sections.{Sections}
 use Rattle.dsec_wire.specs.Errors.{wants_memory}
-use Rattle.dsec_wire.specs.MessageSections.{SectionsRead, sections_and_place}
-use Rattle.dsec_wire.proofs.SectionReading.{answers_after, authorities_after, answers_read, sections_read}
+use Rattle.dsec_message.specs.MessageSections.{SectionsRead, sections_and_place}
+use Rattle.dsec_message.proofs.SectionReading.{answers_after, authorities_after, answers_read, sections_read}
 use Rattle.dsec_group.specs.Hashing.{message_seed}
 use Rattle.dsec_group.specs.Places.{SeededGroups}
 use Rattle.dsec_group.specs.Reading.{GroupsRead, groups_and_place, in_groups, section_in_groups, seeded}

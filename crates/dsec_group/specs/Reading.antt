@@ -4,8 +4,8 @@ use Rattle.dsec_spec.specs.Reading.{◌>>=◌}
 use Rattle.dsec_spec.specs.Records.{Record}
 use Rattle.dsec_spec.specs.Groups.{groups_of}
 use Rattle.dsec_spec.specs.Messages.{header_of}
-use Rattle.dsec_wire.specs.declared.sections.Sections.{Sections}
-use Rattle.dsec_wire.specs.MessageSections.{sections_and_place}
+use Rattle.dsec_message.specs.declared.sections.Sections.{Sections}
+use Rattle.dsec_message.specs.MessageSections.{sections_and_place}
 use Rattle.dsec_group.specs.Hashing.{message_seed}
 use Rattle.dsec_group.specs.Places.{SeededGroups}
 use Rattle.dsec_group.specs.declared.sections.GroupedSections.{GroupedSections}

@@ -9,7 +9,8 @@ ghost use Rattle.dsec_group.specs.Reading.{GroupsRead, groups_and_place, section
 
 use crate::seed::Seed;
 use crate::set::GroupSet;
-use dsec_wire::{Message, MessageError, Questions, record_at};
+use dsec_message::Message;
+use dsec_wire::{MessageError, Questions, record_at};
 use std::alloc::Global;
 
 /// The questions of a message, and the groups of its answer and authority sections.

@@ -5,7 +5,7 @@ ghost use Rattle.dsec_spec.specs.Messages.{header_of};
 ghost use Rattle.dsec_group.specs.Hashing.{fixed_seed, message_seed, mixed as mixed_of, seed_in};
 
 use dsec_crypto::{DigestBuilder, DigestType};
-use dsec_wire::Message;
+use dsec_message::Message;
 use std::hash::{BuildHasher, Hasher};
 
 /// A message of so many records is hashed by the fixed seed: that few names can fall together without harm.

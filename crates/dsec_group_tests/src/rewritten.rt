@@ -1,10 +1,11 @@
 //! Messages rewritten by their groups, against octets that were written out by hand.
 
 use dsec_group::{GroupSet, Seed, groups};
+use dsec_message::Message;
 use dsec_name::NoMemory;
 use dsec_number::{Timestamp, Ttl};
 use dsec_rewrite::{BoundedGroup, RewriteError, adjusted_ttl, is_due, rebuild_msg, rewrite};
-use dsec_wire::{Message, Records};
+use dsec_wire::Records;
 use std::alloc::Global;
 use std::test::Fail;
 

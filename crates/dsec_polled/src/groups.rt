@@ -5,12 +5,12 @@ use anyhow::{Error, Result};
 use dsec_anchors::TrustAnchors;
 use dsec_crypto::StandIn;
 use dsec_group::{Group, NoMemo, Seed, groups};
+use dsec_message::Message;
 use dsec_name::Name;
 use dsec_node::{Caches, Config, Node, OwnedCaches};
 use dsec_outside::Upstream;
 use dsec_single::{validate_with_node, validated};
 use dsec_validated::ValidatedGroup;
-use dsec_wire::Message;
 use std::alloc::Global;
 use std::sync::Arc;
 

@@ -4,9 +4,10 @@ use anyhow::{Context, Error, Result};
 use dsec_anchors::TrustAnchors;
 use dsec_cause::Cause;
 use dsec_group::ValidationState;
+use dsec_message::Message;
 use dsec_outside::TableUpstream;
 use dsec_script::{Item, Items, read_script};
-use dsec_wire::{Message, Records};
+use dsec_wire::Records;
 use std::alloc::Global;
 
 /// What a script says: anchors and messages, and an upstream that has its replies.

@@ -5,11 +5,11 @@ use Rattle.std.proofs.lemmas.Option.{same_Some}
 use Rattle.dsec_spec.specs.Messages.{Header, header_of, Question, questions_of, answers_of, authorities_of, additionals_of, record_at}
 use Rattle.dsec_spec.specs.Reading.{many_of}
 use Rattle.dsec_spec.specs.Records.{Record}
-use Rattle.dsec_wire.proofs.SectionReading.{answers_after, authorities_after, additionals_after}
+use Rattle.dsec_message.proofs.SectionReading.{answers_after, authorities_after, additionals_after}
 use Rattle.dsec_wire.specs.declared.error.MessageError.{MessageError}
 use Rattle.dsec_wire.specs.declared.error.MessageError.TheVariants.{ParseError, NoMemory}
 use Rattle.dsec_wire.specs.Errors.{wants_memory}
-use Rattle.dsec_wire.specs.MessageSections.{items_of}
+use Rattle.dsec_message.specs.MessageSections.{items_of}
 use Rattle.dsec_rewrite.specs.Keeping.{place_of}
 use Rattle.dsec_rewrite.specs.Rewriting.{kept_of}
 

@@ -6,11 +6,12 @@ ghost use Rattle.dsec_spec.specs.Messages.{record_at as record_of};
 ghost use Rattle.dsec_spec.specs.Reading.{Reads, many_of};
 ghost use Rattle.dsec_spec.specs.Records as records;
 ghost use Rattle.dsec_wire.specs.Errors.{wants_memory};
-ghost use Rattle.dsec_wire.specs.MessageSections.{items_of};
+ghost use Rattle.dsec_message.specs.MessageSections.{items_of};
 ghost use Rattle.dsec_rewrite.specs.Keeping.{place_of};
 ghost use Rattle.dsec_rewrite.specs.Rewriting.{kept_of};
 
-use dsec_wire::{Message, MessageError, Questions, Records, record_at};
+use dsec_message::Message;
+use dsec_wire::{MessageError, Questions, Records, record_at};
 use std::alloc::Global;
 
 /// The questions and the records of the additional section. The records between are read one at a time, and none of them is kept.

@@ -12,7 +12,7 @@ use crate::bounded::{BoundedGroup, differs};
 use crate::error::RewriteError;
 use crate::kept::read_kept;
 use crate::writing::written;
-use dsec_wire::Message;
+use dsec_message::Message;
 use std::alloc::Global;
 
 /// Whether a message is rewritten: a group's TTLs are cut, or it had a duplicate.

@@ -11,7 +11,8 @@ use crate::answers::push_answers;
 use crate::authorities::push_authorities;
 use crate::bounded::BoundedGroup;
 use dsec_builder::{AdditionalBuilder, MessageBuilder, PushError, QuestionBuilder};
-use dsec_wire::{Header, Message, Question, Record};
+use dsec_message::{Header, Message};
+use dsec_wire::{Question, Record};
 use std::alloc::Global;
 
 /// The message with the identifier and flags of a header, of these questions, groups and additional records.

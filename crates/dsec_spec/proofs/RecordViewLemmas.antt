@@ -5,7 +5,7 @@ use Rattle.std.specs.Int.{w32, to_be_bytes}
 use Rattle.std.proofs.lemmas.List.{append-nil, drop-drop, drop_at}
 use Rattle.std.proofs.lemmas.List.Elements.{All-drop}
 use Rattle.std.proofs.lemmas.Option.{same_Some}
-use Rattle.dsec_spec.specs.Reading.{◌>>=◌, u32_in, u32_at}
+use Rattle.dsec_spec.specs.Reading.{◌>>=◌, u16_in, u16_at, u32_in, u32_at}
 use Rattle.dsec_spec.specs.Names.{Labels, wire_octets}
 use Rattle.dsec_spec.specs.Numbers.{CNAME, DNAME, SOA, DS, NSEC, NSEC3, NSEC3PARAM}
 use Rattle.dsec_spec.specs.Layouts.{Field, lowered_name, kept_name, octets, string, bitmap, rest}
@@ -57,6 +57,15 @@ nothing_left : (x : List ℕ) (parts : List Part) → parts_in [] x ≡ Some par
 unfolding parts_in
 nothing_left [] parts e = refl
 nothing_left (first ∷ x) parts e = absurd cc
+
+-- a number is read where its octets are
+pub number_there : (m : List ℕ) (at : ℕ) → at + 2 ≤ length m → (n : ℕ) × (u16_at m at ≡ Some n)
+number_there m at fits = there (drop at m) (omega (arith, length-drop at m))
+  where
+    there : (x : List ℕ) → 2 ≤ length x → (n : ℕ) × (u16_in x ≡ Some n)
+    there [] long = absurd (omega arith)
+    there (high ∷ []) long = absurd (omega arith)
+    there (high ∷ low ∷ x) long = (_, refl)
 
 -- a number of four octets stands where there are so many
 pub long_number_there : (x : List ℕ) (at : ℕ) → at + 4 ≤ length x → (n : ℕ) × (u32_at x at ≡ Some n)

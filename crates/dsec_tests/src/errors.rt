@@ -1,8 +1,9 @@
 //! What the errors of judging are shown as, and which one each error of reading and building becomes.
 
 use dsec_found::Error;
+use dsec_message::ShortMessage;
 use dsec_name::{NoMemory, PushNameError};
-use dsec_wire::{MessageError, ShortMessage};
+use dsec_wire::MessageError;
 use dsec_zonefile::InplaceError;
 use std::fmt::InlineText;
 use std::process::Abort;

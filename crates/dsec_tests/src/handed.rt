@@ -10,8 +10,8 @@ use dsec_answer::{Error, ValidationContext};
 use dsec_crypto::StandIn;
 use dsec_group::ValidationState;
 use dsec_lines::KEY;
+use dsec_message::Message;
 use dsec_outside::TableUpstream;
-use dsec_wire::Message;
 use std::alloc::Global;
 use std::process::Abort;
 

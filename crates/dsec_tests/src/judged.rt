@@ -9,11 +9,11 @@ use dsec_found::JudgedGroup;
 use dsec_group::ValidationState;
 use dsec_lines::KEY;
 use dsec_link::LinkKind;
+use dsec_message::Message;
 use dsec_name::Name;
 use dsec_node::Config;
 use dsec_number::Rtype;
 use dsec_outside::{FailingUpstream, Replies, TableUpstream};
-use dsec_wire::Message;
 use std::alloc::Global;
 use std::process::Abort;
 

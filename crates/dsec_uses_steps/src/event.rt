@@ -1,8 +1,8 @@
 //! What comes in: messages to be judged, and replies to their questions.
 
 use anyhow::{Context, Error, Result};
+use dsec_message::Message;
 use dsec_name::Octets;
-use dsec_wire::Message;
 use dsec_word::{number, read_hex};
 use std::alloc::Global;
 

@@ -5,7 +5,6 @@ pub mod FieldLoops
 pub mod Readable
 pub mod RecordReading
 pub mod ManyLoop
-pub mod SectionReading
 pub mod KeyTags
 pub mod RrsigReading
 pub mod ViewsFound

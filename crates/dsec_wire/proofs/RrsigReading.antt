@@ -12,11 +12,10 @@ use Rattle.dsec_spec.specs.Records as records
 use Rattle.dsec_spec.specs.Records.{rrsig_of}
 use Rattle.dsec_spec.proofs.ReadingLemmas.{from_bind}
 use Rattle.dsec_spec.proofs.RecordDataLemmas.{parts_of-readable}
-use Rattle.dsec_spec.proofs.RecordViewLemmas.{long_number_there}
+use Rattle.dsec_spec.proofs.RecordViewLemmas.{long_number_there, number_there}
 use Rattle.dsec_spec.proofs.WireNameLemmas.{from_octets_in}
 use Rattle.dsec_wire.specs.declared.rrsig.RrsigHead.{RrsigHead}
 use Rattle.dsec_wire.specs.RrsigHeads.{rrsig_head}
-use Rattle.dsec_wire.proofs.SectionReading.{number_there}
 
 -- a signature of a head, and what follows it
 abbrev pub rrsig_with : RrsigHead → Labels × List ℕ → records.Rrsig

@@ -5,7 +5,6 @@ pub mod Fields
 pub mod DataReading
 pub mod TypedData
 pub mod RecordHeads
-pub mod MessageSections
 pub mod Views
 pub mod DataViews
 pub mod RrsigHeads

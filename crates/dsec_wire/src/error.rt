@@ -1,6 +1,6 @@
 //! What is refused, and the want of memory.
 
-ghost use Rattle.std.specs.Prelude.{◌≡◌, Some, codes};
+ghost use Rattle.std.specs.Prelude.{◌≡◌, Some};
 ghost use Rattle.dsec_wire.specs.declared.error.MessageError.TheVariants.{NoMemory};
 ghost use Rattle.dsec_wire.specs.Errors.{message_error_text};
 
@@ -16,10 +16,6 @@ pub enum MessageError {
     NoMemory,
 }
 
-/// Octets that are too few for a message: fewer than the 12 of the header (RFC 1035 4.1.1).
-#[derive(Clone, Copy, Debug, PartialEq, Eq)]
-pub struct ShortMessage;
-
 impl fmt::Display for MessageError {
     ghost output = { λ error. Some (message_error_text error) };
 
@@ -28,14 +24,6 @@ impl fmt::Display for MessageError {
             MessageError::ParseError => "ParseError",
             MessageError::NoMemory => "out of memory",
         })
-    }
-}
-
-impl fmt::Display for ShortMessage {
-    ghost output = { λ _. Some (codes "ShortMessage") };
-
-    fn fmt<W: fmt::Write>(&self, f: &mut fmt::Formatter<W>) -> fmt::Result {
-        f.write_str("ShortMessage")
     }
 }
 

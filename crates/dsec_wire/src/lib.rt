@@ -1,4 +1,4 @@
-//! Record data, records and messages, read exactly (RFC 1035 4.1, RFC 3597, RFC 4034, RFC 6891).
+//! Record data and records, read exactly (RFC 1035 4.1, RFC 3597, RFC 4034, RFC 6891).
 #![tactic(auto)]
 
 mod canonical;
@@ -8,20 +8,16 @@ mod dnskey;
 mod ds;
 mod edns;
 mod error;
-mod header;
 mod layout;
 mod lists;
-mod message;
 mod names;
 mod nsec;
 mod nsec3;
 mod numbers;
-mod opt;
 mod part;
 mod reading;
 mod record;
 mod rrsig;
-mod sections;
 mod signed_octets;
 mod soa;
 mod target;
@@ -30,17 +26,15 @@ pub use data::Data;
 pub use dnskey::Dnskey;
 pub use ds::Ds;
 pub use edns::{EdnsOption, Opt};
-pub use error::{MessageError, ShortMessage};
-pub use header::{Header, law_of_flags};
+pub use error::MessageError;
 pub use layout::{Form, Item, Tail, written_form};
 pub use lists::{Questions, Records};
-pub use message::Message;
 pub use names::read_name;
 pub use nsec::Nsec;
 pub use nsec3::{Nsec3, Nsec3param};
-pub use reading::record_at;
+pub use numbers::u16_at;
+pub use reading::{questions_at, record_at, records_at};
 pub use record::{Question, Record};
 pub use rrsig::Rrsig;
-pub use sections::Sections;
 pub use soa::Soa;
 pub use target::{Cname, Dname};

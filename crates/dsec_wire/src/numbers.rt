@@ -45,7 +45,7 @@ pub(crate) fn head_at(message: &[u8], at: usize) -> Option<Head>
 }
 
 /// A number of two octets, the high one first.
-pub(crate) fn u16_at(message: &[u8], at: usize) -> Option<u16>
+pub fn u16_at(message: &[u8], at: usize) -> Option<u16>
     ensures { result ≡ u16_of message.now at }
 {
     match *message.get(at..)? {

@@ -81,7 +81,7 @@ pub(crate) fn question_at(
 }
 
 /// So many records from a place on, and the place after them.
-pub(crate) fn records_at(
+pub fn records_at(
     alloc: Global,
     count: u16,
     message: &[u8],
@@ -100,7 +100,7 @@ pub(crate) fn records_at(
 }
 
 /// So many questions from a place on, and the place after them.
-pub(crate) fn questions_at(
+pub fn questions_at(
     alloc: Global,
     count: u16,
     message: &[u8],

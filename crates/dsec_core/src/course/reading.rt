@@ -7,7 +7,7 @@ ghost use Rattle.dsec_course.specs.Advancing.{beginning as beginning_of, begun a
 ghost use Rattle.dsec_found.specs.Errors.{wants_memory};
 ghost use Rattle.dsec_group.specs.Reading.{in_groups};
 ghost use Rattle.dsec_group.specs.declared.seed.Seed.{Seed};
-ghost use Rattle.dsec_wire.specs.declared.sections.Sections.{Sections};
+ghost use Rattle.dsec_message.specs.declared.sections.Sections.{Sections};
 ghost use Rattle.dsec_core.specs.Progress.{MovesOrEnds, read_as};
 ghost use Rattle.dsec_core.specs.Views.{waits_view};
 
@@ -16,10 +16,11 @@ use dsec_cause::Cause;
 use dsec_crypto::Verifier;
 use dsec_found::Error;
 use dsec_group::{Group, GroupSet, GroupedSections, read_groups};
+use dsec_message::Message;
 use dsec_name::NoMemory;
 use dsec_number::Rcode;
 use dsec_outcome::Outcome;
-use dsec_wire::{Message, Question, Record};
+use dsec_wire::{Question, Record};
 use std::alloc::Global;
 use std::collections::VecDeque;
 

@@ -2,7 +2,7 @@ use Rattle.std.proofs.Common.{ap}
 use Rattle.std.proofs.lemmas.Result.{err_from_is_err_and}
 use Rattle.dsec_spec.specs.Messages.{record_at}
 use Rattle.dsec_wire.proofs.ManyLoop.{starts, goes_on, ends, is_done}
-use Rattle.dsec_wire.specs.MessageSections.{items_of}
+use Rattle.dsec_message.specs.MessageSections.{items_of}
 use Rattle.dsec_rewrite.proofs.KeepingLaws.{on_parse}
 use Rattle.dsec_rewrite.proofs.kept.records_at.Goals as goal
 

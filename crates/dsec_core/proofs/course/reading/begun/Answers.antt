@@ -2,8 +2,8 @@ use Rattle.std.proofs.Common.{Option, Some, refl, ap, ◌∙◌}
 use Rattle.std.proofs.lemmas.Result.{err_from_is_err_and}
 use Rattle.dsec_spec.specs.Messages.{header_of, rcode_of}
 use Rattle.dsec_spec.specs.Reading.{◌>>=◌}
-use Rattle.dsec_wire.specs.declared.sections.Sections.{Sections}
-use Rattle.dsec_wire.specs.MessageSections.{SectionsRead}
+use Rattle.dsec_message.specs.declared.sections.Sections.{Sections}
+use Rattle.dsec_message.specs.MessageSections.{SectionsRead}
 use Rattle.dsec_group.specs.Hashing.{message_seed}
 use Rattle.dsec_group.proofs.ReadingLaws.{from_groups}
 use Rattle.dsec_core.proofs.ReadSteps.{begun_read, refused}

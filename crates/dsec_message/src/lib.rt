@@ -1,0 +1,13 @@
+//! Messages: the header, the sections one after the other, and the OPT record (RFC 1035 4.1, RFC 6891).
+#![tactic(auto)]
+
+mod error;
+mod header;
+mod message;
+mod opt;
+mod sections;
+
+pub use error::ShortMessage;
+pub use header::{Header, law_of_flags};
+pub use message::Message;
+pub use sections::Sections;
