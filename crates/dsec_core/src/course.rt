@@ -2,12 +2,12 @@
 
 ghost use Rattle.std.specs.Prelude.{◌≡◌, ◌↔◌, ◌≤◌, ◌+◌, ◌*◌, IfOk, IsTrue};
 ghost use Rattle.dsec_nodes.specs.SoundSteps.{InputKept};
-ghost use Rattle.dsec_course.specs.Advancing.{course_advanced};
+ghost use Rattle.dsec_course.specs.Advancing.{course_advanced, waiting};
 ghost use Rattle.dsec_course.specs.Course as courses;
 ghost use Rattle.dsec_walk.specs.Views.{input_view, world_in};
 ghost use Rattle.dsec_core.specs.Progress.{IsUnderWayAt, given_up};
 ghost use Rattle.dsec_core.specs.Validating.{most_checked_at};
-ghost use Rattle.dsec_core.specs.Views.{next_view};
+ghost use Rattle.dsec_core.specs.Views.{next_view, waits_view};
 
 mod ending;
 mod groups;
@@ -125,6 +125,13 @@ impl<V: Verifier> Course<V> {
         &self.judged
     }
 
+    /// Waits for this from now on.
+    fn wait_for(&mut self, waits: Waits<V>)
+        ensures { self.new ≡ waiting self.old self.old.left (waits_view waits) }
+    {
+        self.waits = waits;
+    }
+
     /// Lets go of all that was judged and is still to be.
     pub(crate) fn give_up(&mut self)
         ensures { self.new ≡ given_up self.old }
@@ -132,7 +139,7 @@ impl<V: Verifier> Course<V> {
         self.left.clear();
         self.judged.clear();
         self.walks.clear();
-        self.waits = Waits::ForNothing;
+        self.wait_for(Waits::ForNothing);
     }
 }
 

@@ -30,7 +30,7 @@ impl<V: Verifier> Course<V> {
         ensures { IfOk result (λ n. (self.new, next_view n) ≡ going_on (world_in V.accepts setting.now) [] self.old) }
     {
         let next = self.last(alloc, setting, memo)?;
-        self.waits = Waits::ForNothing;
+        self.wait_for(Waits::ForNothing);
         Ok(next)
     }
 
