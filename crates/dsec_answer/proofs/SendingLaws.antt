@@ -125,14 +125,14 @@ some_outcomes accepts anchors table moment kept (item ∷ items) =
     (one.0 ∷ others.0, ([], one.1, others.1))
 
 -- the first messages, and the next one
-pub one_more : (items yielded : List Item) (item : Item) → length yielded < length items → item ≡ get_or items (length yielded) item
+one_more : (items yielded : List Item) (item : Item) → length yielded < length items → item ≡ get_or items (length yielded) item
     → take (length yielded) items ++ item ∷ [] ≡ take (length (yielded ++ item ∷ [])) items
 one_more items yielded item l same =
     ap (λ x. take (length yielded) items ++ x ∷ []) same
     ∙ (sym (take_more items (length yielded) item l) ∙ ap (λ n. take n items) (sym (length_push yielded item)))
 
 -- how many they are
-pub first_many : (items yielded : List Item) (index : ℕ) → length yielded < length items → index ≡ length yielded → index ≡ length (take (length yielded) items)
+first_many : (items yielded : List Item) (index : ℕ) → length yielded < length items → index ≡ length yielded → index ≡ length (take (length yielded) items)
 first_many items yielded index l e = e ∙ sym (length-take-le (length yielded) items (omega (arith, l)))
 
 -- before the first message nothing went out
@@ -181,7 +181,7 @@ so_far_front_more accepts anchors table items more all moment held before now af
     )
 
 -- one more message's text is gathered
-pub so_far_more : (accepts : Accepts) (anchors : List Record) (table : Table) (items next : List Item) (item : Item) (moment : ℕ) (old new : Held)
+so_far_more : (accepts : Accepts) (anchors : List Record) (table : Table) (items next : List Item) (item : Item) (moment : ℕ) (old new : Held)
     (before now : Option (List ℕ)) (rest gathered : List ℕ) (index : ℕ) → items ++ item ∷ [] ≡ next → index ≡ length items
     → SoFar accepts anchors table items moment old before now rest
     → (o : Outcome) × ((kept : List Node) → HoldsAmong kept old → ComesOver accepts anchors table (kept_for moment item kept) item o new)
@@ -202,6 +202,16 @@ so_far_more accepts anchors table items next item moment old new before now rest
       sent = subst (λ t. SentBut before now t gathered) (sym text)
           (subst (SentBut before now (texts_from 0 h.outcomes ++ outcome_text index o)) (sym g) (more_gathered before now (texts_from 0 h.outcomes) rest (outcome_text index o) h.sent));
     }
+
+-- so for the next of the messages, where these were yielded
+pub so_far_next : (accepts : Accepts) (anchors : List Record) (table : Table) (items yielded : List Item) (item : Item) (moment : ℕ) (old new : Held)
+    (before now : Option (List ℕ)) (rest : List ℕ) (index : ℕ) (o : Outcome) → length yielded < length items → item ≡ get_or items (length yielded) item → index ≡ length yielded
+    → SoFar accepts anchors table (take (length yielded) items) moment old before now rest
+    → ((kept : List Node) → HoldsAmong kept old → ComesOver accepts anchors table (kept_for moment item kept) item o new)
+    → SoFar accepts anchors table (take (length (yielded ++ item ∷ [])) items) item.seconds new before now (rest ++ outcome_text index o)
+so_far_next accepts anchors table items yielded item moment old new before now rest index o l same e h over =
+    so_far_more accepts anchors table (take (length yielded) items) (take (length (yielded ++ item ∷ [])) items) item moment old new before now rest (rest ++ outcome_text index o) index
+    (one_more items yielded item l same) (first_many items yielded index l e) h (o, over, refl)
 
 -- more of what is gathered goes out
 pub so_far_sent : (accepts : Accepts) (anchors : List Record) (table : Table) (items : List Item) (moment : ℕ) (held : Held) (before now after : Option (List ℕ))

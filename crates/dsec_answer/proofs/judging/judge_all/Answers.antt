@@ -14,7 +14,7 @@ use Rattle.dsec_answer.specs.Sending.{ComesOver, SoFar}
 use Rattle.dsec_answer.specs.Texts.{outcome_text}
 use Rattle.dsec_answer.specs.Told.{Outcome}
 use Rattle.dsec_answer.proofs.OutcomeLaws.{none_held}
-use Rattle.dsec_answer.proofs.SendingLaws.{one_more, first_many, so_far_none, so_far_more, so_far_sent, so_far_front, so_far_front_more, so_far_whole}
+use Rattle.dsec_answer.proofs.SendingLaws.{so_far_none, so_far_next, so_far_sent, so_far_front, so_far_front_more, so_far_whole}
 use Rattle.dsec_answer.proofs.judging.judge_all.Goals as goal
 
 pub loop-item-init : goal.loop-item-init
@@ -42,19 +42,12 @@ returns-in_err-send_outcome-clause-front g c =
     let item = c.in-Some.item in
     let table = c.args.upstream.now.replies in
     let yielded = c.loop-item.yielded in
-    let n = length (yielded ++ item ∷ []) in
     let road = YieldsList-from_vec {s = c.into_iter-item-iterator.result} items (search rules) (search rules) in
     let turn = YieldsList-turn road yielded c.loop-item.item-iterator c.loop-item.yielded_by c.next.result c.next.new.self item c.in-Some.is c.next.ensures.steps in
-    let old = held_in c.loop-item.context.nodes in
-    let new = held_in c.judge_next.new.context.nodes in
-    let o = c.in_ok-outcome.outcome in
-    let text = c.loop-item.gathered.items ++ outcome_text c.loop-item.index o in
-    let over : (kept : List Node) → HoldsAmong kept old → ComesOver g.V.Verifier.accepts c.args.context.now.anchors table (kept_for c.loop-item.moment item kept) item o new =
-    rw (sym inv.2, sym inv.4) c.in_ok-outcome.ensures.outcome in
-    let more : SoFar g.V.Verifier.accepts c.args.context.now.anchors table (take n items) item.seconds new (g.K.Sink.written c.args.sink.now) (g.K.Sink.written c.loop-item.sink) text =
-    so_far_more g.V.Verifier.accepts c.args.context.now.anchors table (take (length yielded) items) (take n items) item c.loop-item.moment old new _ _ _ _ c.loop-item.index
-    (one_more items yielded item turn.0 turn.1) (first_many items yielded c.loop-item.index turn.0 inv.1) inv.6 (o, over, refl) in
-    so_far_front_more g.V.Verifier.accepts c.args.context.now.anchors table (take n items) (drop n items) items _ _ _ _ _ _ (take-append-drop n items) more c.in_err-send_outcome.ensures.front
+    let more = so_far_next g.V.Verifier.accepts c.args.context.now.anchors table items yielded item c.loop-item.moment (held_in c.loop-item.context.nodes) (held_in c.judge_next.new.context.nodes)
+    (g.K.Sink.written c.args.sink.now) (g.K.Sink.written c.loop-item.sink) c.loop-item.gathered.items c.loop-item.index c.in_ok-outcome.outcome
+    turn.0 turn.1 inv.1 inv.6 (rw (sym inv.2, sym inv.4) c.in_ok-outcome.ensures.outcome) in
+    so_far_front_more g.V.Verifier.accepts c.args.context.now.anchors table (take (length (yielded ++ item ∷ [])) items) (drop (length (yielded ++ item ∷ [])) items) items _ _ _ _ _ _ (take-append-drop (length (yielded ++ item ∷ [])) items) more c.in_err-send_outcome.ensures.front
 
 pub loop-item-preserved : goal.loop-item-preserved
 loop-item-preserved g c =
@@ -63,25 +56,18 @@ loop-item-preserved g c =
     let item = c.in-Some.item in
     let table = c.args.upstream.now.replies in
     let yielded = c.loop-item.yielded in
-    let n = length (yielded ++ item ∷ []) in
     let road = YieldsList-from_vec {s = c.into_iter-item-iterator.result} items (search rules) (search rules) in
     let turn = YieldsList-turn road yielded c.loop-item.item-iterator c.loop-item.yielded_by c.next.result c.next.new.self item c.in-Some.is c.next.ensures.steps in
-    let old = held_in c.loop-item.context.nodes in
-    let new = held_in c.judge_next.new.context.nodes in
-    let o = c.in_ok-outcome.outcome in
-    let text = c.loop-item.gathered.items ++ outcome_text c.loop-item.index o in
-    let over : (kept : List Node) → HoldsAmong kept old → ComesOver g.V.Verifier.accepts c.args.context.now.anchors table (kept_for c.loop-item.moment item kept) item o new =
-    rw (sym inv.2, sym inv.4) c.in_ok-outcome.ensures.outcome in
-    let more : SoFar g.V.Verifier.accepts c.args.context.now.anchors table (take n items) item.seconds new (g.K.Sink.written c.args.sink.now) (g.K.Sink.written c.loop-item.sink) text =
-    so_far_more g.V.Verifier.accepts c.args.context.now.anchors table (take (length yielded) items) (take n items) item c.loop-item.moment old new _ _ _ _ c.loop-item.index
-    (one_more items yielded item turn.0 turn.1) (first_many items yielded c.loop-item.index turn.0 inv.1) inv.6 (o, over, refl) in (
+    let more = so_far_next g.V.Verifier.accepts c.args.context.now.anchors table items yielded item c.loop-item.moment (held_in c.loop-item.context.nodes) (held_in c.judge_next.new.context.nodes)
+    (g.K.Sink.written c.args.sink.now) (g.K.Sink.written c.loop-item.sink) c.loop-item.gathered.items c.loop-item.index c.in_ok-outcome.outcome
+    turn.0 turn.1 inv.1 inv.6 (rw (sym inv.2, sym inv.4) c.in_ok-outcome.ensures.outcome) in (
       c.in_ok-send_outcome.ensures.counts ∙ inv.0,
       ap (λ n. n + 1) inv.1 ∙ sym (length_push yielded item),
       c.judge_next.ensures.same_anchors ∙ inv.2,
       c.judge_next.ensures.same_config ∙ inv.3,
       c.judge_next.ensures.same_table ∙ inv.4,
       rw (sym inv.2, sym inv.4) c.judge_next.ensures.holds,
-      so_far_sent g.V.Verifier.accepts c.args.context.now.anchors table (take n items) _ _ _ _ _ _ _ more c.in_ok-send_outcome.ensures.sent,
+      so_far_sent g.V.Verifier.accepts c.args.context.now.anchors table (take (length (yielded ++ item ∷ [])) items) _ _ _ _ _ _ _ more c.in_ok-send_outcome.ensures.sent,
     )
 
 pub returns-in_err-send-clause-front : goal.returns-in_err-send-clause-front
