@@ -15,12 +15,12 @@ use std::alloc::Global;
 use std::sync::ledger::{Blank, Ledger};
 
 /// Where the way goes on.
-#[derive(Drop)]
+#[derive(Clone, Copy)]
 enum Onward {
-    /// Below this zone.
-    Zone(Node<StandIn>),
+    /// Below the zone that begins here.
+    Below,
     /// Below the same zone.
-    Same,
+    Beside,
     /// Nowhere.
     End,
 }
@@ -39,42 +39,83 @@ pub(crate) fn push_way<L: Ledger>(
     requires some { 0 < L.parts }
 {
     let mut steps: Steps<L> = Steps::begin(blank);
-    let mut zone = island::<StandIn, L>(alloc, setting, top, &mut steps)?;
-    push_node(out, &zone)?;
+    let mut zones = Vec::new(alloc);
+    push_nodes(alloc, out, setting, top, name, &mut zones, &mut steps)
+}
+
+/// The same, while zones are kept, of which the last is the one to go on below.
+fn push_nodes<L: Ledger>(
+    alloc: Global,
+    out: &mut Vec<u8>,
+    setting: &Setting<'_>,
+    top: &Name,
+    name: &Name,
+    zones: &mut Vec<Node<StandIn>>,
+    steps: &mut Steps<L>,
+) -> Result<(), NoMemory> {
+    let first = island::<StandIn, L>(alloc, setting, top, steps)?;
+    if !take(out, zones, first)? {
+        return Ok(());
+    }
     for labels in top.label_count()..name.label_count() {
-        match go_on::<L>(alloc, out, setting, &zone, name, labels, &mut steps)? {
-            Onward::Zone(node) => zone = node,
-            Onward::Same => {}
-            Onward::End => break,
+        if !goes_on::<L>(alloc, out, setting, zones, name, labels, steps)? {
+            break;
         }
     }
     Ok(())
 }
 
-/// Adds the node of the next name, which has so many of the last labels.
-fn go_on<L: Ledger>(
+/// Adds the node of the next name, which has so many of the last labels, and says whether the way goes on.
+fn goes_on<L: Ledger>(
     alloc: Global,
     out: &mut Vec<u8>,
     setting: &Setting<'_>,
-    zone: &Node<StandIn>,
+    zones: &mut Vec<Node<StandIn>>,
     name: &Name,
     labels: usize,
     steps: &mut Steps<L>,
-) -> Result<Onward, NoMemory> {
+) -> Result<bool, NoMemory> {
     let here = name.ancestor(alloc, labels)?;
+    let Some(zone) = zones.last() else {
+        return Ok(false);
+    };
     match node_below::<StandIn, L>(alloc, setting, zone, &here, steps)? {
-        Some(node) => {
-            push_node(out, &node)?;
-            Ok(below(node))
-        }
-        None => Ok(Onward::End),
+        Some(node) => take(out, zones, node),
+        None => Ok(false),
+    }
+}
+
+/// Adds a node, and says whether the way goes on.
+fn take(
+    out: &mut Vec<u8>,
+    zones: &mut Vec<Node<StandIn>>,
+    node: Node<StandIn>,
+) -> Result<bool, NoMemory> {
+    push_node(out, &node)?;
+    leads_on(zones, node)
+}
+
+/// Whether the way goes on with a node, which is kept where a zone begins with it.
+fn leads_on(zones: &mut Vec<Node<StandIn>>, node: Node<StandIn>) -> Result<bool, NoMemory> {
+    match onward_from(&node) {
+        Onward::Below => keep(zones, node),
+        Onward::Beside => Ok(true),
+        Onward::End => Ok(false),
+    }
+}
+
+/// Keeps the node of a zone, below which the way goes on.
+fn keep(zones: &mut Vec<Node<StandIn>>, zone: Node<StandIn>) -> Result<bool, NoMemory> {
+    match zones.push(zone) {
+        Ok(()) => Ok(true),
+        Err(_) => Err(NoMemory),
     }
 }
 
 /// Where the way goes on below a node.
-fn below(node: Node<StandIn>) -> Onward {
+fn onward_from(node: &Node<StandIn>) -> Onward {
     match node.standing() {
-        Standing::Apex(_) => Onward::Zone(node),
+        Standing::Apex(_) => Onward::Below,
         Standing::Within(last) => beside(node.name(), last),
         Standing::Insecure(_, _) | Standing::Bogus(_) => Onward::End,
     }
@@ -85,6 +126,6 @@ fn beside(name: &Name, last: &Link) -> Onward {
     if redirects_below(name, last.records()) {
         Onward::End
     } else {
-        Onward::Same
+        Onward::Beside
     }
 }

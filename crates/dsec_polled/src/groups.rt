@@ -43,26 +43,28 @@ fn in_two_ways(
 ) -> Result<()> {
     let moment = scene.moment(index)?;
     let before = scene.upstream.asked;
-    let anchors = scene.anchors(rt.alloc())?;
-    let upstream = &mut scene.upstream;
-    let made = from_anchors(rt.alloc(), &anchors, caches, upstream, group, moment)?;
+    let made = from_anchors(rt.alloc(), scene, caches, group, moment)?;
     let questions = scene.upstream.asked.saturating_sub(before);
-    tell(
-        rt,
-        "first-group",
-        index,
-        (made.state(), made.ede()),
-        "questions",
-        questions,
-    )?;
-    match nearest(rt.alloc(), caches, made.signer_name())? {
-        Some(node) => by_node(rt, index, group, &node, moment),
-        None => Ok(()),
-    }
+    let told = (made.state(), made.ede());
+    tell(rt, "first-group", index, told, "questions", questions)?;
+    by_nearest(rt, caches, made.signer_name(), index, group, moment)
+}
+
+/// A group with what is said of it from the anchors of the scene.
+fn from_anchors(
+    alloc: Global,
+    scene: &mut Scene,
+    caches: &mut OwnedCaches<StandIn>,
+    group: &Group,
+    moment: u64,
+) -> Result<ValidatedGroup<StandIn>> {
+    let anchors = scene.anchors(alloc)?;
+    let upstream = &mut scene.upstream;
+    validated_from(alloc, &anchors, caches, upstream, group, moment)
 }
 
 /// A group with what validation from the anchors says of it.
-fn from_anchors<U: Upstream>(
+fn validated_from<U: Upstream>(
     alloc: Global,
     anchors: &TrustAnchors,
     caches: &mut OwnedCaches<StandIn>,
@@ -83,6 +85,21 @@ fn from_anchors<U: Upstream>(
     ) {
         Ok(made) => Ok(made),
         Err(error) => Err(Error::msg(error)),
+    }
+}
+
+/// Judges a group by the node that is kept for a zone, or for the nearest name above it, if one is.
+fn by_nearest(
+    rt: &HostRuntime,
+    caches: &mut OwnedCaches<StandIn>,
+    zone: &Name,
+    index: usize,
+    group: &Group,
+    moment: u64,
+) -> Result<()> {
+    match nearest(rt.alloc(), caches, zone)? {
+        Some(node) => by_node(rt, index, group, &node, moment),
+        None => Ok(()),
     }
 }
 

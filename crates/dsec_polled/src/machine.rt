@@ -1,7 +1,7 @@
 //! A message judged by hand: the caller's own loop answers its steps, from caches of nodes and an upstream.
 
-use crate::scene::{Scene, Told, tell};
-use anyhow::{Context, Result};
+use crate::scene::{Scene, Told};
+use anyhow::Result;
 use dsec_crypto::StandIn;
 use dsec_group::{NoMemo, Steps};
 use dsec_node::{Caches, Config};
@@ -9,6 +9,9 @@ use dsec_outside::Upstream;
 use dsec_serve::{Input, Step, Validation, answer_to};
 use std::alloc::Global;
 use std::sync::ledger::Ledger;
+
+/// What is told of a message, where it has ended, and how many questions it has asked.
+pub(crate) type Ended = (Option<Told>, u64);
 
 /// A message that is judged by hand.
 #[derive(Drop)]
@@ -62,9 +65,8 @@ impl Machine {
         }
     }
 
-    /// Writes what is told of the message, where nothing more is waited for.
-    pub(crate) fn tell(&self, rt: &HostRuntime, way: &str, index: usize) -> Result<()> {
-        let told = self.told.context("not judged")?;
-        tell(rt, way, index, told, "questions", self.questions)
+    /// What is told of the message, where nothing more is waited for, and how many questions it has asked.
+    pub(crate) fn ended(&self) -> Ended {
+        (self.told, self.questions)
     }
 }

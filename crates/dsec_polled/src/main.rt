@@ -24,11 +24,16 @@ use ways::{by_turns, one_by_one};
 /// Judges the messages of a script in each way.
 fn judge<L: Ledger>(rt: &HostRuntime, script: &[u8], steps: &mut Steps<L>) -> Result<()> {
     let mut scene = Scene::read(rt.alloc(), script)?;
-    by_hand(rt, &mut scene, steps)?;
-    by_turns(rt, &mut scene, steps)?;
-    one_by_one(rt, "forgetting", &mut scene, &mut Forgetting, steps)?;
-    one_by_one(rt, "refusing", &mut scene, &mut Refusing, steps)?;
-    first_groups(rt, &mut scene)
+    in_each_way(rt, &mut scene, steps)
+}
+
+/// Judges the messages of a scene in each way.
+fn in_each_way<L: Ledger>(rt: &HostRuntime, scene: &mut Scene, steps: &mut Steps<L>) -> Result<()> {
+    by_hand(rt, scene, steps)?;
+    by_turns(rt, scene, steps)?;
+    one_by_one(rt, "forgetting", scene, &mut Forgetting, steps)?;
+    one_by_one(rt, "refusing", scene, &mut Refusing, steps)?;
+    first_groups(rt, scene)
 }
 
 /// Judges the messages of a script one after the other, over one map of nodes.

@@ -1,11 +1,12 @@
 //! The ways in which a script's messages are judged by hand.
 
-use crate::machine::Machine;
-use crate::scene::Scene;
-use anyhow::Result;
+use crate::machine::{Ended, Machine};
+use crate::scene::{Scene, tell};
+use anyhow::{Context, Result};
 use dsec_crypto::StandIn;
 use dsec_group::Steps;
 use dsec_node::{Caches, OwnedCaches};
+use std::alloc::Global;
 use std::sync::ledger::Ledger;
 
 /// How many turns are enough for each message.
@@ -35,10 +36,21 @@ fn alone<C: Caches<StandIn>, L: Ledger>(
     steps: &mut Steps<L>,
 ) -> Result<()> {
     let mut machine = Machine::start(rt.alloc(), scene, index)?;
+    turn_alone(rt.alloc(), &mut machine, caches, scene, steps);
+    tell_end(rt, way, index, machine.ended())
+}
+
+/// A message takes its turns, over caches.
+fn turn_alone<C: Caches<StandIn>, L: Ledger>(
+    alloc: Global,
+    machine: &mut Machine,
+    caches: &mut C,
+    scene: &mut Scene,
+    steps: &mut Steps<L>,
+) {
     for _ in 0..TURNS {
-        machine.turn(rt.alloc(), caches, &mut scene.upstream, steps);
+        machine.turn(alloc, caches, &mut scene.upstream, steps);
     }
-    machine.tell(rt, way, index)
 }
 
 /// Judges each message and the one after it by turns, over one map of nodes.
@@ -60,23 +72,43 @@ fn two_by_turns<L: Ledger>(
     two: (usize, usize),
     steps: &mut Steps<L>,
 ) -> Result<()> {
-    let mut first = Machine::start(rt.alloc(), scene, two.0)?;
-    let mut second = Machine::start(rt.alloc(), scene, two.1)?;
-    let mut caches = OwnedCaches::new(rt.alloc());
-    for _ in 0..TURNS {
-        first.turn(rt.alloc(), &mut caches, &mut scene.upstream, steps);
-        second.turn(rt.alloc(), &mut caches, &mut scene.upstream, steps);
-    }
-    tell_both(rt, two, &first, &second)
+    let (first, second) = both_ends(rt.alloc(), scene, two, steps)?;
+    tell_end(rt, "by-turns", two.0, first)?;
+    tell_end(rt, "by-turns", two.1, second)
 }
 
-/// Writes what is told of two messages that were judged by turns.
-fn tell_both(
-    rt: &HostRuntime,
+/// How two messages end that are judged by turns.
+fn both_ends<L: Ledger>(
+    alloc: Global,
+    scene: &mut Scene,
     two: (usize, usize),
-    first: &Machine,
-    second: &Machine,
-) -> Result<()> {
-    first.tell(rt, "by-turns", two.0)?;
-    second.tell(rt, "by-turns", two.1)
+    steps: &mut Steps<L>,
+) -> Result<(Ended, Ended)> {
+    let mut first = Machine::start(alloc, scene, two.0)?;
+    let mut second = Machine::start(alloc, scene, two.1)?;
+    let mut caches = OwnedCaches::new(alloc);
+    turn_both(alloc, &mut first, &mut second, &mut caches, scene, steps);
+    Ok((first.ended(), second.ended()))
+}
+
+/// Two messages take their turns, over the same caches.
+fn turn_both<L: Ledger>(
+    alloc: Global,
+    first: &mut Machine,
+    second: &mut Machine,
+    caches: &mut OwnedCaches<StandIn>,
+    scene: &mut Scene,
+    steps: &mut Steps<L>,
+) {
+    for _ in 0..TURNS {
+        first.turn(alloc, caches, &mut scene.upstream, steps);
+        second.turn(alloc, caches, &mut scene.upstream, steps);
+    }
+}
+
+/// Writes what is told of a message that was judged in this way.
+fn tell_end(rt: &HostRuntime, way: &str, index: usize, ended: Ended) -> Result<()> {
+    let (told, questions) = ended;
+    let told = told.context("not judged")?;
+    tell(rt, way, index, told, "questions", questions)
 }
