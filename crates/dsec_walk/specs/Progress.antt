@@ -2,9 +2,21 @@
 use Rattle.std.specs.Prelude.{◌≡◌, ℕ, List, Option}
 use Rattle.dsec_spec.specs.Numbers.{DS, DNSKEY}
 use Rattle.dsec_nodes.specs.ByDs.{Pending}
-use Rattle.dsec_nodes.specs.Machine.{Walking, Step, ask, heard, making, name_at, with_pending}
+use Rattle.dsec_nodes.specs.Machine.{Question, Walking, Step, ask, heard, making, name_at, with_pending}
 use Rattle.dsec_walk.specs.declared.reached.Next.{Next}
 use Rattle.dsec_walk.specs.declared.reached.Next.TheVariants.{Made, Asks}
+
+-- the walk with these questions asked
+abbrev pub with_asked : Walking → List Question → Walking
+with_asked s asked = record {
+  top = s.top;
+  target = s.target;
+  behind = s.behind;
+  reached = s.reached;
+  phase = s.phase;
+  asked = asked;
+  got = s.got;
+}
 
 -- the DNSKEY set is asked for, after this reply to the question for the DS set (RFC 4035 5.2)
 abbrev pub pended : Walking → Option (List ℕ) → Pending → Walking × Step

@@ -3,7 +3,7 @@
 ghost use Rattle.std.specs.Prelude.{◌≡◌, ◌+◌, ◌*◌, ◌≤◌, IfOk, OnErr};
 ghost use Rattle.dsec_nodes.specs.Machine as machine;
 ghost use Rattle.dsec_walk.specs.Checks.{checked_reply};
-ghost use Rattle.dsec_walk.specs.Progress.{IsSameWay, pended};
+ghost use Rattle.dsec_walk.specs.Progress.{IsSameWay, pended, with_asked};
 ghost use Rattle.dsec_walk.specs.UnderWay.{CanHear, Fits};
 ghost use Rattle.dsec_walk.specs.Views.{step_view, world_in};
 
@@ -53,13 +53,12 @@ impl<V: Verifier> Walk<V> {
         ensures step { IfOk result (λ s. (self.new, step_view s) ≡ machine.making self.old (machine.heard self.old rtype reply) node) }
         ensures lost { OnErr result (IsSameWay self.old self.new) }
     {
-        let behind = self.one_more();
         let is_bogus = is_bogus(node.standing());
         let node = Arc::new(alloc, node)?;
         let here = arrived(&self.here, &node)?;
-        let name = self.name_at(alloc)?;
         let put = self.name_at(alloc)?;
-        self.asked.push(Question { name, rtype, reply })?;
+        let behind = self.one_more();
+        self.hear(alloc, rtype, reply)?;
         self.here = Some(here);
         self.behind = behind;
         if is_bogus {
@@ -82,13 +81,19 @@ impl<V: Verifier> Walk<V> {
         ensures lost { OnErr result (IsSameWay self.old self.new) }
     {
         let next = self.name_at(alloc)?;
-        let name = self.name_at(alloc)?;
-        self.asked.push(Question {
-            name,
-            rtype: Rtype::DS,
-            reply,
-        })?;
+        self.hear(alloc, Rtype::DS, reply)?;
         self.phase = Phase::AsksKeys(pending);
         Ok(Step::Ask(next, Rtype::DNSKEY))
+    }
+
+    /// A reply is kept, with the question for this type at the next name.
+    fn hear(&mut self, alloc: Global, rtype: Rtype, reply: Option<Octets>) -> Result<(), NoMemory>
+        requires { Fits self.old }
+        ensures ok { IfOk result (λ _. self.new ≡ with_asked self.old (machine.heard self.old rtype reply)) }
+        ensures lost { OnErr result (IsSameWay self.old self.new) }
+    {
+        let name = self.name_at(alloc)?;
+        self.asked.push(Question { name, rtype, reply })?;
+        Ok(())
     }
 }
