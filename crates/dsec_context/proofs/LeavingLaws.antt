@@ -1,6 +1,7 @@
 -- The message that a call leaves: as it came, or rewritten by its own groups.
 use Rattle.std.proofs.Common.{◌≡◌, ◌⊎◌, ℕ, Bool, true, false, cond, List, map, Option, Some, None, IfSome, Result, Ok, Err, inl, inr, refl, sym, ap, ◌∙◌, subst}
 use Rattle.std.specs.Prelude.{◌&&◌}
+use Rattle.std.specs.Bool.{OnFalse}
 use Rattle.dsec_spec.specs.Groups.{Group}
 use Rattle.dsec_nodes.specs.World.{World, moment}
 use Rattle.dsec_nodes.specs.Nodes.{Node}
@@ -11,16 +12,36 @@ use Rattle.dsec_course.specs.Hearing.{first_run, after_heard}
 use Rattle.dsec_course.specs.Justified.{AreRead}
 use Rattle.dsec_rewrite.specs.Cutting.{Bounded}
 use Rattle.dsec_rewrite.specs.Rewriting.{rewriting}
+use Rattle.dsec_rewrite.specs.Errors.{wants_memory}
 use Rattle.dsec_rewrite.specs.declared.error.RewriteError.{RewriteError}
+use Rattle.dsec_rewrite.specs.declared.error.RewriteError.TheVariants as refusals
 use Rattle.dsec_cut.specs.Ended.{Both, AreJudged, is_whole, both_in}
-use Rattle.dsec_cut.specs.Cuts.{bounded_at, are_due, to_rewrite}
+use Rattle.dsec_cut.specs.Cuts.{bounded_at, are_due, left_as, to_rewrite}
 use Rattle.dsec_found.specs.declared.error.Error.{Error}
 use Rattle.dsec_found.specs.declared.error.Error.TheVariants.{FormError, ParseError, NoMemory, InplaceError, OctetsConversion, PushError, PushNameError, ReadError, ShortMessage}
 use Rattle.dsec_serve.specs.Verdicts.{Verdict}
 use Rattle.dsec_serve.specs.Judgements.{HandsOn}
-use Rattle.dsec_context.specs.Leaving.{by_rewriting, handed_on, IsHanded}
+use Rattle.dsec_context.specs.Leaving.{by_rewriting, error_by, handed_on, IsHanded}
 use Rattle.dsec_context.specs.Calls.{OnEnd, IsRewrittenBy, IsRewritten, LeavesWith}
 use Rattle.dsec_context.proofs.ComingLaws.{its_groups}
+
+-- why a message isn't rewritten is handed on in place of an answer, with the message as it came
+in_place : {X : Type 0} (message left : List ℕ) (answer : Result X Error) (rewritten : Result (List ℕ) RewriteError) (e : RewriteError) → rewritten ≡ Err e
+    → left ≡ message → IsHanded message (by_rewriting message answer rewritten) (Err (error_by e)) left
+in_place message left answer rewritten e h same =
+    inl (sym (ap (λ (r : Result (List ℕ) RewriteError). (by_rewriting message answer r).0) h), same ∙ sym (ap (λ (r : Result (List ℕ) RewriteError). (by_rewriting message answer r).1) h))
+
+pub refusal_handed : {X : Type 0} (t : ℕ) (message left : List ℕ) (answer : Result X Error) (groups : Option Both) (e : RewriteError)
+    → OnFalse (wants_memory e) (left_as t message groups ≡ Err e) → left ≡ message → IsHanded message (handed_on t message answer groups) (Err (error_by e)) left
+refusal_handed t message left answer groups refusals.ParseError h same = in_place message left answer (left_as t message groups) refusals.ParseError h same
+refusal_handed t message left answer groups refusals.PushError h same = in_place message left answer (left_as t message groups) refusals.PushError h same
+refusal_handed t message left answer groups refusals.NoMemory h same = inr (refl, same)
+
+-- and it is no end of judging
+pub refusal_no_end : (P : Type 0) (e : RewriteError) → OnEnd (Err (error_by e)) P
+refusal_no_end P refusals.ParseError = tt
+refusal_no_end P refusals.PushError = tt
+refusal_no_end P refusals.NoMemory = tt
 
 -- the judged groups by which a message is rewritten are due
 where_due : (t : ℕ) (c : Course) (both : Both) → Some both ≡ to_rewrite t c → are_due t both ≡ true

@@ -26,13 +26,26 @@ pub(crate) fn hand_on<V: Verifier>(
     ensures handed { IsHanded message.old (handed_on (on_circle now) message.old judgement.answer judgement.groups) result message.new }
     ensures reads_back { OnEnd result (IfSome judgement.groups (λ both. IsRewrittenBy (on_circle now) message.old both message.new)) }
 {
-    let left = match judgement.groups() {
-        Some((answers, authorities)) => rewrite(alloc, message, answers, authorities, now),
-        None => Ok(()),
-    };
-    match left {
+    match leave(alloc, message, &judgement, now) {
         Ok(()) => judgement.into_answer(),
         Err(error) => Err(refusal(error)),
+    }
+}
+
+/// A message is left as it came, or rewritten by its judged groups where that is due. After an error it is as it came.
+fn leave<V: Verifier>(
+    alloc: Global,
+    message: &mut Message,
+    judgement: &Judgement<V>,
+    now: u64,
+) -> Result<(), RewriteError>
+    ensures exact { Gives {Y = List ℕ} wants_memory (λ _. message.new) result (left_as (on_circle now) message.old judgement.now.groups) }
+    ensures reads_back { OnOk result (IfSome judgement.now.groups (λ both. IsRewrittenBy (on_circle now) message.old both message.new)) }
+    ensures err { OnErr result (message.new ≡ message.old) }
+{
+    match judgement.groups() {
+        Some((answers, authorities)) => rewrite(alloc, message, answers, authorities, now),
+        None => Ok(()),
     }
 }
 
