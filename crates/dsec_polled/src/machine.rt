@@ -10,12 +10,10 @@ use dsec_serve::{Input, Step, Validation, answer_to};
 use std::alloc::Global;
 use std::sync::ledger::Ledger;
 
-/// What is told of a message, where it has ended, and how many questions it has asked.
-pub(crate) type Ended = (Option<Told>, u64);
-
 /// A message that is judged by hand.
 #[derive(Drop)]
 pub(crate) struct Machine {
+    index: usize,
     validation: Validation<StandIn>,
     next: Option<Input<StandIn>>,
     questions: u64,
@@ -29,6 +27,7 @@ impl Machine {
         let moment = scene.moment(index)?;
         let anchors = scene.anchors(alloc)?;
         Ok(Machine {
+            index,
             validation: Validation::start(alloc, anchors, Config::new(), &message, moment)?,
             next: Some(Input::Begin),
             questions: 0,
@@ -54,19 +53,41 @@ impl Machine {
             .validation
             .advance::<L>(alloc, input, &mut NoMemo, steps)
         {
-            Ok(Step::Done(outcome)) => self.told = Some((outcome.state(), outcome.cause())),
-            Ok(step) => {
-                if let Step::Ask(_, _) = &step {
-                    self.questions = self.questions.saturating_add(1);
-                }
-                self.next = answer_to(alloc, caches, upstream, step).ok();
-            }
+            Ok(step) => self.follow(alloc, caches, upstream, step),
             Err(_) => {}
         }
     }
 
-    /// What is told of the message, where nothing more is waited for, and how many questions it has asked.
-    pub(crate) fn ended(&self) -> Ended {
-        (self.told, self.questions)
+    /// What a step says is done: it is told, or caches or the upstream answer it.
+    fn follow<C: Caches<StandIn>, U: Upstream>(
+        &mut self,
+        alloc: Global,
+        caches: &mut C,
+        upstream: &mut U,
+        step: Step<StandIn>,
+    ) {
+        if let Step::Done(outcome) = &step {
+            self.told = Some((outcome.state(), outcome.cause()));
+            return;
+        }
+        if let Step::Ask(_, _) = &step {
+            self.questions = self.questions.saturating_add(1);
+        }
+        self.next = answer_to(alloc, caches, upstream, step).ok();
+    }
+
+    /// Which of the scene's messages it is.
+    pub(crate) fn index(&self) -> usize {
+        self.index
+    }
+
+    /// What is told of the message, where nothing more is waited for.
+    pub(crate) fn told(&self) -> Option<Told> {
+        self.told
+    }
+
+    /// How many questions it has asked.
+    pub(crate) fn questions(&self) -> u64 {
+        self.questions
     }
 }
