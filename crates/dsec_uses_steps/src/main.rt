@@ -11,8 +11,10 @@ use dsec_anchors::TrustAnchors;
 use dsec_core::{Input, Step, Validation};
 use dsec_crypto::StandIn;
 use dsec_group::{NoMemo, Steps};
+use dsec_message::Message;
 use dsec_node::{Caches, Config, OwnedCaches};
 use event::{Event, read_event};
+use std::alloc::Global;
 use std::marker::Brand;
 use std::sync::ledger::{Blank, Ledger};
 
@@ -47,28 +49,55 @@ fn go_on<L: Ledger>(
     Ok(())
 }
 
+/// A message that is to be judged from the anchor.
+fn begun(alloc: Global, message: &Message) -> Result<Validation<StandIn>> {
+    let anchors = TrustAnchors::from_u8(alloc, ANCHOR.as_bytes())?;
+    Ok(Validation::start(alloc, anchors, Config::new(), message, NOW)?)
+}
+
+/// To which message an event goes, and as what. A new message is put behind the others.
+fn taken(
+    alloc: Global,
+    event: Event,
+    under_way: &mut Vec<Validation<StandIn>>,
+) -> Result<(usize, Input<StandIn>)> {
+    match event {
+        Event::Message(message) => {
+            let index = under_way.len();
+            under_way.push(begun(alloc, &message)?)?;
+            Ok((index, Input::Begin))
+        }
+        Event::Reply(index, reply) => Ok((index, Input::Reply(reply))),
+    }
+}
+
+/// Takes an event: the message that it is for goes on.
+fn take<L: Ledger>(
+    rt: &HostRuntime,
+    line: &str,
+    under_way: &mut Vec<Validation<StandIn>>,
+    caches: &mut OwnedCaches<StandIn>,
+    steps: &mut Steps<L>,
+) -> Result<()> {
+    let event = read_event(rt.alloc(), line)?;
+    let (index, input) = taken(rt.alloc(), event, under_way)?;
+    match under_way.get_mut(index) {
+        Some(validation) => go_on(rt, index, validation, caches, steps, input),
+        None => Ok(()),
+    }
+}
+
 /// The loop. Checks of signatures are counted on the ledger that the blank opens.
 fn run<L: Ledger>(rt: &HostRuntime, blank: Blank) -> Result<()>
     requires name { blank.name ≡ L.name }
     requires parts { blank.parts ≡ L.parts }
     requires shared { 0 < L.parts }
 {
-    let alloc = rt.alloc();
-    let mut caches = OwnedCaches::new(alloc);
+    let mut caches = OwnedCaches::new(rt.alloc());
     let mut steps = Steps::<L>::begin(blank);
-    let mut under_way = Vec::new(alloc);
-    for line in rt.lines(alloc) {
-        let (index, input) = match read_event(alloc, line?.as_str())? {
-            Event::Message(message) => {
-                let anchors = TrustAnchors::from_u8(alloc, ANCHOR.as_bytes())?;
-                under_way.push(Validation::start(alloc, anchors, Config::new(), &message, NOW)?)?;
-                (under_way.len() - 1, Input::Begin)
-            }
-            Event::Reply(index, reply) => (index, Input::Reply(reply)),
-        };
-        if let Some(validation) = under_way.get_mut(index) {
-            go_on(rt, index, validation, &mut caches, &mut steps, input)?;
-        }
+    let mut under_way = Vec::new(rt.alloc());
+    for line in rt.lines(rt.alloc()) {
+        take(rt, line?.as_str(), &mut under_way, &mut caches, &mut steps)?;
     }
     Ok(())
 }

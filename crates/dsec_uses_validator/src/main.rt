@@ -20,6 +20,12 @@ use resolver::Resolver;
 use std::alloc::Global;
 use verifier::OneAlgorithm;
 
+/// The moment at which replies are judged, in seconds since 1970.
+const NOW: u64 = 500;
+
+/// The key of the zone that is trusted.
+const ANCHOR: &str = "example. 3600 IN DNSKEY 257 3 13 AQI=";
+
 /// The verdict on a reply, if it is Secure: the reply answers by sets that signatures lead to from the context's anchors, or denies so
 /// (RFC 4033 5).
 fn secure_verdict<U: Upstream>(
@@ -40,27 +46,40 @@ fn secure_verdict<U: Upstream>(
     }
 }
 
+/// The reply of a line in hex.
+fn read_reply(alloc: Global, line: &str) -> Result<Message> {
+    let octets = read_hex(alloc, line.trim().as_bytes())
+        .ok()
+        .context("no hex")?;
+    Message::from_octets(octets.into_vec()).map_err(Error::msg)
+}
+
+/// Judges the reply of a line, and says whether it is Secure.
+fn judge<U: Upstream>(
+    rt: &HostRuntime,
+    line: &str,
+    context: &mut ValidationContext<OneAlgorithm>,
+    upstream: &mut U,
+) -> Result<()> {
+    let mut reply = read_reply(rt.alloc(), line)?;
+    let is_secure = secure_verdict(rt.alloc(), context, &mut reply, upstream, NOW).is_some();
+    Ok(println!(rt; "secure: {is_secure}")?)
+}
+
 fn main(rt: HostRuntime) -> Result<()> {
-    let alloc = rt.alloc();
-    // The key of the zone that is trusted.
-    let anchors = TrustAnchors::from_u8(alloc, b"example. 3600 IN DNSKEY 257 3 13 AQI=")?;
-    let mut context = ValidationContext::new(alloc, anchors);
+    let anchors = TrustAnchors::from_u8(rt.alloc(), ANCHOR.as_bytes())?;
+    let mut context = ValidationContext::new(rt.alloc(), anchors);
     let mut upstream = Resolver {
         rt: &rt,
         asked: 0,
         faults: 0,
     };
     for _ in 0..u64::MAX {
-        let mut line = String::new(alloc);
+        let mut line = String::new(rt.alloc());
         if rt.read_line(&mut line)? == 0 {
             break;
         }
-        let word = line.trim().as_bytes();
-        let octets = read_hex(alloc, word).ok().context("no hex")?;
-        let mut reply = Message::from_octets(octets.into_vec()).map_err(Error::msg)?;
-        // The moment is in seconds since 1970.
-        let verdict = secure_verdict(alloc, &mut context, &mut reply, &mut upstream, 500);
-        println!(rt; "secure: {}", verdict.is_some())?;
+        judge(&rt, line.as_str(), &mut context, &mut upstream)?;
     }
     Ok(())
 }
