@@ -1,6 +1,7 @@
 #!/usr/bin/env bash
 # Where the time of a check goes: proves a crate's functions one after the other and prints the dearest, in seconds, by the files that the check
-# writes as it goes on. What another clone on this machine has kept isn't proved again, and so has no time.
+# writes as it goes on. What another clone on this machine has kept isn't proved again, and so has no time. The crate's folder out is removed
+# first, and its built library with it: not to be run while another rt works in this clone.
 # usage: bench/check.sh CRATE
 top=$(dirname "$(dirname "$(readlink -f "$0")")")
 [ $# = 1 ] && cd "$top/crates/$1" || { echo "usage: bench/check.sh CRATE" >&2; exit 2; }
@@ -14,7 +15,7 @@ import collections
 import re
 import sys
 
-LINE = re.compile(r'^\d+ ([\d.]+) openat\([^,]+, "out/incremental/[^"]*/([^"/]+)"')
+LINE = re.compile(r'^\d+ +([\d.]+) openat\([^,]+, "out/incremental/[^"]*/([^"/]+)"')
 # The files of a module are written beside their place and then moved; a function's modules have these names.
 NAME = re.compile(r"Rattle-(.*?)(?:\.decls)?\.oantt\.tmp")
 PARTS = re.compile(r"\.(Answers|Code|Given|Goals|Invariants|Kinds|Layout|Lts|Met|Named|Proof|Reads|Statement|TheLaws|Tie)\b.*$")
