@@ -11,7 +11,7 @@ use Rattle.dsec_spec.specs.Messages.{Question}
 use Rattle.dsec_spec.specs.Groups.{Group}
 use Rattle.dsec_spec.specs.Islands.{island, is_above}
 use Rattle.dsec_spec.specs.Answering.{is_alias_at, is_alias_above, leads_on}
-use Rattle.dsec_spec.specs.Sound.{IsIsland, LeadsOn}
+use Rattle.dsec_spec.specs.AtQuestion.{IsIsland, LeadsOn}
 use Rattle.dsec_spec.proofs.AnsweringLemmas.{leads_on_told}
 use Rattle.dsec_spec.proofs.CanonicalNames.{same_place_decides}
 use Rattle.dsec_spec.proofs.SignedTests.{strictly_below_decides}

@@ -4,7 +4,7 @@ use Rattle.std.proofs.lemmas.Bool.{true≢false}
 use Rattle.dsec_spec.specs.Names.{Place, IsStrictlyBelow}
 use Rattle.dsec_spec.specs.Records.{Record}
 use Rattle.dsec_spec.specs.Islands.{island, is_above}
-use Rattle.dsec_spec.specs.Sound.{IsIsland}
+use Rattle.dsec_spec.specs.AtQuestion.{IsIsland}
 use Rattle.dsec_spec.proofs.IslandLemmas.{island_told}
 use Rattle.dsec_spec.proofs.SignedTests.{strictly_below_decides}
 

@@ -8,7 +8,7 @@ use Rattle.dsec_spec.specs.Records.{Record}
 use Rattle.dsec_spec.specs.RecordViews.{target_of}
 use Rattle.dsec_spec.specs.Messages.{Question}
 use Rattle.dsec_spec.specs.Groups.{Group}
-use Rattle.dsec_spec.specs.Sound.{LeadsOn}
+use Rattle.dsec_spec.specs.AtQuestion.{LeadsOn}
 use Rattle.dsec_alias.specs.States.{State, secure, insecure, map_maybe_secure}
 use Rattle.dsec_alias.specs.Candidates.{Candidate, denied, opened, unproved, Reply, asked_at}
 use Rattle.dsec_alias.specs.Following.{AliasStep}

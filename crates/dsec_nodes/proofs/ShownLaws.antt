@@ -10,7 +10,7 @@ use Rattle.dsec_spec.specs.Records.{Record, Key}
 use Rattle.dsec_spec.specs.Groups.{Group, set_in}
 use Rattle.dsec_spec.specs.Islands.{looked_for_at, island, signers, is_usable, target}
 use Rattle.dsec_spec.specs.Trying.{Tried, good, nothing, all_bad, too_many_bad}
-use Rattle.dsec_spec.specs.Sound.{IsIsland}
+use Rattle.dsec_spec.specs.AtQuestion.{IsIsland}
 use Rattle.dsec_spec.specs.Chain as chain
 use Rattle.dsec_spec.specs.Chain.{Link, Holds, IsSetLink, IsChain}
 use Rattle.dsec_spec.proofs.IslandLemmas.{island_is, one_looked_for}

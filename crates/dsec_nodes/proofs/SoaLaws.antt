@@ -9,7 +9,7 @@ use Rattle.dsec_spec.specs.Records.{Record}
 use Rattle.dsec_spec.specs.Groups.{Group}
 use Rattle.dsec_spec.specs.Messages.{Question}
 use Rattle.dsec_spec.specs.Islands.{looked_for_at, island, is_above}
-use Rattle.dsec_spec.specs.Sound.{IsIsland}
+use Rattle.dsec_spec.specs.AtQuestion.{IsIsland}
 use Rattle.dsec_spec.proofs.IslandLemmas.{island_told, looked_for_is, one_looked_for}
 use Rattle.dsec_spec.proofs.NamesBelow.{below_itself, below_trans, strictly_below_trans}
 use Rattle.dsec_spec.proofs.SignedTests.{below_decides, strictly_below_decides}

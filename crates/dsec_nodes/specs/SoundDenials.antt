@@ -4,7 +4,7 @@ use Rattle.dsec_spec.specs.Names.{Place, place, IsAtOrBelow, IsStrictlyBelow}
 use Rattle.dsec_spec.specs.Numbers.{SOA}
 use Rattle.dsec_spec.specs.Messages.{Question}
 use Rattle.dsec_spec.specs.Groups.{Group}
-use Rattle.dsec_spec.specs.Sound.{IsLookedForAt, IsIsland}
+use Rattle.dsec_spec.specs.AtQuestion.{IsLookedForAt, IsIsland}
 use Rattle.dsec_spec.specs.DenyingRecords.{NsecAt}
 use Rattle.dsec_absence.specs.Denials.{Denial, no_type, no_name, no_type_by_wildcard, no_closer, IsDenial}
 use Rattle.dsec_absence.specs.Evidence.{Counts}

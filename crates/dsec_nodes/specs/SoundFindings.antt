@@ -7,7 +7,7 @@ use Rattle.dsec_spec.specs.SignedBytes.{rightmost, IsExpansion}
 use Rattle.dsec_spec.specs.Groups.{Group, set_in}
 use Rattle.dsec_spec.specs.Islands.{island}
 use Rattle.dsec_spec.specs.Chain.{Link, Holds}
-use Rattle.dsec_spec.specs.Sound.{IsIsland}
+use Rattle.dsec_spec.specs.AtQuestion.{IsIsland}
 use Rattle.dsec_nodes.specs.World.{World, moment}
 use Rattle.dsec_nodes.specs.Nodes.{SignedCause, IsSignedCause}
 use Rattle.dsec_nodes.specs.Judging.{Finding, is_shown, has_no_set, is_insecure, is_bogus, is_indeterminate, Judged, target_of}

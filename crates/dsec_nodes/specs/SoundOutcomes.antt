@@ -7,7 +7,7 @@ use Rattle.dsec_spec.specs.Messages.{Question, questions_of, answers_of, authori
 use Rattle.dsec_spec.specs.Groups.{Group, groups_of}
 use Rattle.dsec_spec.specs.Islands.{island}
 use Rattle.dsec_spec.specs.Redirection.{moved}
-use Rattle.dsec_spec.specs.Sound.{IsAtQuestion}
+use Rattle.dsec_spec.specs.AtQuestion.{IsAtQuestion}
 use Rattle.dsec_alias.specs.Paths.{LeadsOnTo}
 use Rattle.dsec_nodes.specs.World.{World}
 use Rattle.dsec_nodes.specs.Causes.{Cause, RrsigWithoutRrset, NoTrustAnchor}

@@ -9,7 +9,7 @@ use Rattle.dsec_spec.specs.Signed.{Signed}
 use Rattle.dsec_spec.specs.Groups.{Group, groups_of, set_in}
 use Rattle.dsec_spec.specs.Trying.{pair_matches}
 use Rattle.dsec_spec.specs.Islands.{looked_for_at}
-use Rattle.dsec_spec.specs.Sound.{IsAtQuestion}
+use Rattle.dsec_spec.specs.AtQuestion.{IsAtQuestion}
 use Rattle.dsec_nodes.specs.World.{World, Replies, moment}
 use Rattle.dsec_nodes.specs.Signing.{keys_of, is_set_at}
 use Rattle.dsec_nodes.specs.Replies.{sections, read_reply}

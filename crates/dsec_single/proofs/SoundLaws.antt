@@ -7,7 +7,7 @@ use Rattle.dsec_spec.specs.Accepts.{Accepts}
 use Rattle.dsec_spec.specs.Records.{Record}
 use Rattle.dsec_spec.specs.Groups.{Group}
 use Rattle.dsec_spec.specs.JudgedGroups.{ShowsGroup}
-use Rattle.dsec_spec.specs.Sound.{IsIsland}
+use Rattle.dsec_spec.specs.AtQuestion.{IsIsland}
 use Rattle.dsec_spec.proofs.IslandLemmas.{island_is}
 use Rattle.dsec_link.specs.Shown.{ShownSet}
 use Rattle.dsec_group.specs.declared.state.ValidationState.{ValidationState}

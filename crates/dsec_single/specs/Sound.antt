@@ -4,7 +4,7 @@ use Rattle.dsec_spec.specs.Names.{Place, place}
 use Rattle.dsec_spec.specs.Groups.{Group}
 use Rattle.dsec_spec.specs.Islands.{island}
 use Rattle.dsec_spec.specs.JudgedGroups.{ShowsGroup}
-use Rattle.dsec_spec.specs.Sound.{IsIsland}
+use Rattle.dsec_spec.specs.AtQuestion.{IsIsland}
 use Rattle.dsec_link.specs.Shown.{ShownSet}
 use Rattle.dsec_group.specs.declared.state.ValidationState.{ValidationState}
 use Rattle.dsec_group.specs.declared.state.ValidationState.TheVariants.{Secure, Insecure, Bogus, Indeterminate}

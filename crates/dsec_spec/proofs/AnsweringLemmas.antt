@@ -9,7 +9,7 @@ use Rattle.dsec_spec.specs.Messages.{Question}
 use Rattle.dsec_spec.specs.SignedBytes.{IsExpansion, signed_owner}
 use Rattle.dsec_spec.specs.Groups.{Group}
 use Rattle.dsec_spec.specs.Islands.{island, is_above}
-use Rattle.dsec_spec.specs.Sound.{IsAtQuestion, LeadsOn, IsIsland}
+use Rattle.dsec_spec.specs.AtQuestion.{IsAtQuestion, LeadsOn, IsIsland}
 use Rattle.dsec_spec.specs.Answering.{is_at_question, is_alias_at, is_alias_above, leads_on, is_expansion}
 use Rattle.dsec_spec.proofs.CanonicalNames.{same_place_decides}
 use Rattle.dsec_spec.proofs.SignedTests.{strictly_below_decides}

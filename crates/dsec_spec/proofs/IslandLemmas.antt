@@ -8,7 +8,7 @@ use Rattle.dsec_spec.specs.Names.{Place, place, is_below, IsAtOrBelow}
 use Rattle.dsec_spec.specs.Numbers.{DS}
 use Rattle.dsec_spec.specs.Records.{Record}
 use Rattle.dsec_spec.specs.Islands.{looked_for_at, longer, longest, island}
-use Rattle.dsec_spec.specs.Sound.{IsLookedForAt, IsIsland}
+use Rattle.dsec_spec.specs.AtQuestion.{IsLookedForAt, IsIsland}
 use Rattle.dsec_spec.proofs.Members.{first_in, later_in, in_more, from_filter, in_filter, from_map, in_map, not_in_none}
 use Rattle.dsec_spec.proofs.NamesBelow.{ancestors_comparable, below_antisymm}
 use Rattle.dsec_spec.proofs.SignedTests.{below_decides}

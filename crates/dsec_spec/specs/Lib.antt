@@ -26,7 +26,7 @@ pub mod Answering
 pub mod Redirection
 pub mod Lasting
 pub mod JudgedGroups
-pub mod Sound
+pub mod AtQuestion
 pub mod Outside
 pub mod TypeBitmaps
 pub mod Base32hex
