@@ -92,7 +92,7 @@ signed_ds_kept w zone keys name group p h below at g whole =
       λ _. refl,
       refl,
     ))
-    (λ _. (is_pending w zone keys name group p g at below, refl))
+    (λ _. (is_pending w zone keys name group p g at below whole, refl))
 
 ds_set_kept : (w : World) (zone : Node) (keys : List (List ℕ)) (name : Place) (answers authorities : List Group) (o : Option Group)
     → find (is_set_at name DS) answers ≡ o → HeldZone w zone keys → IsStrictlyBelow name zone.signer

@@ -98,14 +98,15 @@ within_kept w zone keys name group p h g below classed whole shows = (
   omega arith,
 )
 
--- a DS set strictly below a zone that a key of the zone's has signed is one as the zone has signed it (RFC 4035 5.2)
+-- a DS set strictly below a zone that a key of the zone's has signed, and no expansion, is one as the zone has signed it (RFC 4035 5.2)
 pub is_pending : (w : World) (zone : Node) (keys : List (List ℕ)) (name : Place) (group : Group) (p : Record × Key)
-    → GoodPair w zone.signer keys group p → SetAt name DS group → IsStrictlyBelow name zone.signer
+    → GoodPair w zone.signer keys group p → SetAt name DS group → IsStrictlyBelow name zone.signer → is_expanded group p.0 ≡ false
     → IsPending w zone keys (pending_by w zone keys name group p)
-is_pending w zone keys name group p g at below = record {
+is_pending w zone keys name group p g at below whole = record {
   at = at.at;
   no_longer = zone_longer w zone group p.0;
-  signed = λ s from to. ds_link_lasts w zone.signer keys name group p s g at below from (omega (arith, to, signature_longer w zone group p.0));
+  signed = λ s from to. ds_link_lasts w zone.signer keys name group p s g at below
+      (whole_set group p.0 g.counts.signature g.counts.reads_signature whole) from (omega (arith, to, signature_longer w zone group p.0));
 }
 
 -- a zone below a zone: a kept chain goes on by a DS link and a key link (RFC 4035 5.2)

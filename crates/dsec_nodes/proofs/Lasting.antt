@@ -10,6 +10,7 @@ use Rattle.dsec_spec.specs.Records.{Record, RecordSet, Key, Ds, ds_of, Rrsig, Rr
 use Rattle.dsec_spec.specs.Accepts.{Accepts}
 use Rattle.dsec_spec.specs.Period.{InPeriod, in_period, seconds_after}
 use Rattle.dsec_spec.specs.Signed.{Signed}
+use Rattle.dsec_spec.specs.SignedBytes.{IsExpansion}
 use Rattle.dsec_spec.specs.Groups.{Group, set_in}
 use Rattle.dsec_spec.specs.DelegationSigner.{IsSupported}
 use Rattle.dsec_spec.specs.Chain as chain
@@ -72,17 +73,20 @@ set_at name rtype group e =
     let front = and_parts _ _ both.0 in
     record { at = (same_place_decides (place group.owner) name).0 front.0; of_class = eqb-true group.class IN front.1; of_type = eqb-true group.rtype rtype both.1 }
 
--- the link of a DS set below a zone
+-- the link of a DS set below a zone that is no expansion of a wildcard
 pub ds_link_lasts : (w : World) (zone : Place) (keys : List (List ℕ)) (name : Place) (group : Group) (p : Record × Key) (s : ℕ)
-    → GoodPair w zone keys group p → SetAt name DS group → IsStrictlyBelow name zone
-    → w.now ≤ s → s ≤ w.now + ttl_for_sig p.0 (moment w) → IsDsLink w.accepts zone keys (link_under chain.ds keys group p) (on_circle s)
-ds_link_lasts w zone keys name group p s g at below from to = record {
+    → (g : GoodPair w zone keys group p) → SetAt name DS group → IsStrictlyBelow name zone
+    → (IsExpansion g.counts.signature.labels group.owner → ⊥) → w.now ≤ s → s ≤ w.now + ttl_for_sig p.0 (moment w)
+    → IsDsLink w.accepts zone keys (link_under chain.ds keys group p) (on_circle s)
+unfolding link_lasts
+ds_link_lasts w zone keys name group p s g at below whole from to = record {
   of_kind = refl;
   of_class = at.of_class;
   of_type = at.of_type;
   below = subst (λ (n : Place). IsStrictlyBelow n zone) (sym at.at) below;
   by_held = g.says.there;
   signed = link_lasts w chain.ds zone keys group p s g from to;
+  no_expansion = whole;
 }
 
 supported_by : (o : Option Ds) → is_supported o ≡ true → (ds : Ds) × (o ≡ Some ds) × IsSupported ds

@@ -108,6 +108,7 @@ ds_link_holds = record {
   below = record { next = codes "sub"; under = []; is = refl };
   by_held = search rules;
   signed = record { public_key = zone_key; reads = refl; signature = sig_over 43 2 parent; reads_signature = ds_sig_read; signed = ds_signed };
+  no_expansion = λ h. let few = h.fewer in omega (arith, few);
 }
 
 child_link_holds : IsKeyLink accepts_nine ds_link child_link 500

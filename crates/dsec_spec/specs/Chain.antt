@@ -3,6 +3,7 @@ use Rattle.std.specs.Prelude.{◌≡◌, ◌≢◌, ◌⊎◌, ℕ, List, [], �
 use Rattle.dsec_spec.specs.Names.{Place, place, IsAtOrBelow, IsStrictlyBelow}
 use Rattle.dsec_spec.specs.Numbers.{IN, DS, DNSKEY}
 use Rattle.dsec_spec.specs.Records.{Record, RecordSet, Key, key_of, Ds, ds_of, Rrsig, rrsig_of, beside}
+use Rattle.dsec_spec.specs.SignedBytes.{IsExpansion}
 use Rattle.dsec_spec.specs.Accepts.{Accepts}
 use Rattle.dsec_spec.specs.Signed.{Signed}
 use Rattle.dsec_spec.specs.DelegationSigner.{Matches, IsSupported}
@@ -78,7 +79,7 @@ pub record IsAnchorDsLink (accepts : Accepts) (anchors : List Record) (link : Li
   pub anchored : IsAnchor anchors DS (place link.records.owner) ds_data
   pub speaks : SpeaksOf ds_data link
 
--- a DS set of class IN strictly below the held zone, signed by one of the held keys (RFC 4035 5.2)
+-- a DS set of class IN strictly below the held zone, signed by one of the held keys, no expansion of a wildcard (RFC 4035 5.2, 5.3.4)
 pub record IsDsLink (accepts : Accepts) (zone : Place) (keys : List (List ℕ)) (link : Link) (t : ℕ) : Type 0 where
   pub of_kind : link.kind ≡ ds
   pub of_class : link.records.class ≡ IN
@@ -86,6 +87,7 @@ pub record IsDsLink (accepts : Accepts) (zone : Place) (keys : List (List ℕ)) 
   pub below : IsStrictlyBelow (place link.records.owner) zone
   pub by_held : Contains keys link.signing_key
   pub signed : IsSigned accepts link zone t
+  pub no_expansion : IsExpansion signed.signature.labels link.records.owner → ⊥
 
 -- the DNSKEY set at the owner of the DS set, with a key that a supported record of the DS set speaks of (RFC 4035 5.2)
 pub record IsKeyLink (accepts : Accepts) (above link : Link) (t : ℕ) : Type 0 where
