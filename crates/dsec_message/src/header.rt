@@ -1,6 +1,6 @@
 //! The header of a message (RFC 1035 4.1.1).
 
-ghost use Rattle.std.specs.Prelude.{◌≡◌, ◌+◌, ◌≤◌, ◌%◌, length, [], ◌∷◌, Some};
+ghost use Rattle.std.specs.Prelude.{◌≡◌, ◌↔◌, ◌+◌, ◌≤◌, ◌%◌, length, [], ◌∷◌, IsTrue, Some};
 ghost use Rattle.dsec_spec.specs.Messages.{header_of};
 ghost use Rattle.dsec_spec.specs.Reading.{u16_at as u16_of};
 
@@ -107,6 +107,13 @@ fn number_at(message: &[u8], at: usize) -> u16
     ensures { u16_of message.now at ≡ Some result }
 {
     u16_at(message, at).unwrap_or(0)
+}
+
+/// `==` on headers is equality of all six numbers.
+pub fn law_of_equal_headers(header: Header, other: Header) -> bool
+    ensures { IsTrue result ↔ (header ≡ other) }
+{
+    header == other
 }
 
 /// The bits AD and CD of a header's flags (RFC 6895 2.1).

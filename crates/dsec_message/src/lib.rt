@@ -8,6 +8,6 @@ mod opt;
 mod sections;
 
 pub use error::ShortMessage;
-pub use header::{Header, law_of_flags};
+pub use header::{Header, law_of_equal_headers, law_of_flags};
 pub use message::Message;
 pub use sections::Sections;
