@@ -28,7 +28,8 @@ use std::alloc::Global;
 use std::sync::ledger::Ledger;
 
 /// What the octets of the reply to the question for a name's DS set, if there are any, come to below a zone, at a moment in
-/// seconds since 1970. A DS set, a CNAME set and each group of the authority section are checked once at most.
+/// seconds since 1970. For a DS set, a CNAME set and each group of the authority section at most
+/// `max_bad_signatures + 1` signatures are checked.
 pub fn by_ds_reply<V: Verifier, L: Ledger>(
     alloc: Global,
     config: &Config,

@@ -21,7 +21,8 @@ use std::alloc::Global;
 use std::sync::ledger::Ledger;
 
 /// What the groups show of a name where no DS set stands for it: by their NSEC records, and where these show nothing, by their
-/// NSEC3 records; why nothing is shown, by the last that says so. Each group is checked once at most.
+/// NSEC3 records; why nothing is shown, by the last that says so. For each group at most `max_bad_signatures + 1` signatures are
+/// checked.
 pub fn denials_for_missing_ds<V: Verifier, L: Ledger>(
     alloc: Global,
     groups: &[Group],

@@ -115,7 +115,7 @@ impl Message {
         Ok(sections)
     }
 
-    /// The same three sections and the rcode: the OPT record is looked for after them, so that none is read twice.
+    /// The same three sections and the rcode: the OPT record is looked for in what follows them.
     pub fn sections_and_rcode(&self, alloc: Global) -> Result<(Sections, Rcode), MessageError>
         ensures sections { Reads wants_memory (λ read. read.0) result (sections_of self.now) }
         ensures rcode { IfOk result (λ read. rcode_of self.now ≡ Some read.1) }
@@ -127,7 +127,8 @@ impl Message {
         Ok((sections, rcode_by(header, opt)))
     }
 
-    /// The rcode, where the additional section begins at this place.
+    /// The rcode, where the additional section begins at this place: the header's four bits, below the upper octet of an OPT record
+    /// (RFC 6891 6.1.3). Of another place, or of a message whose sections before it can't be read, it says nothing.
     pub fn rcode_before(&self, alloc: Global, at: usize) -> Result<Rcode, NoMemory>
         ensures { (sections : SectionsRead) → sections_and_place self.now ≡ Some sections → sections.1 ≡ at → IfOk result (λ rcode. rcode_of self.now ≡ Some rcode) }
     {
@@ -137,7 +138,7 @@ impl Message {
         Ok(rcode_by(header, opt))
     }
 
-    /// The first OPT record of the additional section, where all before it is readable (RFC 6891 6.1.1).
+    /// The first OPT record of the additional section, where all before it is readable (RFC 6891 6.1.1); else none, as where there is none.
     pub fn opt(&self, alloc: Global) -> Result<Option<Record>, NoMemory>
         ensures { IfOk result (λ found. found ≡ opt_of self.now) }
     {

@@ -44,7 +44,7 @@ pub(crate) fn head_at(message: &[u8], at: usize) -> Option<Head>
     }
 }
 
-/// A number of two octets, the high one first.
+/// A number of two octets, the high one first (RFC 1035 2.3.2). None where the octets end before both.
 pub fn u16_at(message: &[u8], at: usize) -> Option<u16>
     ensures { result ≡ u16_of message.now at }
 {

@@ -80,7 +80,8 @@ pub(crate) fn question_at(
     Ok((Question::new(qname, qtype, qclass), at + 4))
 }
 
-/// So many records from a place on, and the place after them.
+/// So many records from a place on, and the place after them (RFC 1035 4.1.3). `ParseError` where one can't be read: its name, what stands
+/// between name and data, or data that its type doesn't allow.
 pub fn records_at(
     alloc: Global,
     count: u16,
@@ -99,7 +100,7 @@ pub fn records_at(
     Ok((Records::new(items), at))
 }
 
-/// So many questions from a place on, and the place after them.
+/// So many questions from a place on, and the place after them (RFC 1035 4.1.2). `ParseError` where one can't be read.
 pub fn questions_at(
     alloc: Global,
     count: u16,
