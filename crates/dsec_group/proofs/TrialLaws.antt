@@ -83,9 +83,6 @@ module _ (is_good matches : Record × Key → Bool) (goal : Trial (Record × Key
   at_key : (k : Key) → slice_get ks i ≡ Some k → (b : Bool) → matches (r, k) ≡ b → others i ≡ cond b ((r, k) ∷ others (i + 1)) (others (i + 1))
   at_key k there b e = ap (λ xs. filter matches (map (λ x. (r, x)) xs)) (drop_at ks i k there) ∙ ap (λ c. cond c ((r, k) ∷ others (i + 1)) (others (i + 1))) e
 
-  pub key_skipped : (k : Key) → slice_get ks i ≡ Some k → matches (r, k) ≡ false → goal ≡ trial is_good n (others i) → goal ≡ trial is_good n (others (i + 1))
-  key_skipped k there e so_far = so_far ∙ ap (trial is_good n) (at_key k there false e)
-
   pub key_bad : (k : Key) (more : ℕ) → slice_get ks i ≡ Some k → matches (r, k) ≡ true → is_good (r, k) ≡ false → n ≡ suc more → goal ≡ trial is_good n (others i)
       → goal ≡ trial is_good more (others (i + 1))
   key_bad k more there e bad one so_far =
@@ -95,12 +92,6 @@ module _ (is_good matches : Record × Key → Bool) (goal : Trial (Record × Key
       → goal ≡ found (r, k)
   key_good k more there e yes_good one so_far =
       so_far ∙ ap (trial is_good n) (at_key k there true e) ∙ ap (λ m. trial is_good m ((r, k) ∷ others (i + 1))) one ∙ trial_good is_good more (r, k) (others (i + 1)) yes_good
-
-  pub no_more : n ≡ 0 → goal ≡ trial is_good n (others i) → goal ≡ left 0
-  no_more z so_far = so_far ∙ ap (λ m. trial is_good m (others i)) z ∙ trial_full is_good (others i)
-
-  pub no_key : length ks ≤ i → goal ≡ trial is_good n (others i) → goal ≡ left n
-  no_key past so_far = so_far ∙ ap (λ xs. trial is_good n (filter matches (map (λ k. (r, k)) xs))) (drop_all i ks past) ∙ trial_none is_good n
 
 -- keys that a signature doesn't match are passed over at once
 module _ (matches : Record × Key → Bool) (r : Record) (ks : List Key) where
@@ -150,6 +141,3 @@ module _ (is_good matches : Record × Key → Bool) (goal : Trial (Record × Key
   pub signature_good : (r : Record) (p : Record × Key) → slice_get rs i ≡ Some r → trial is_good n (row r) ≡ found p → goal ≡ trial is_good n (rows i) → goal ≡ found p
   signature_good r p there is_found so_far =
       so_far ∙ ap (trial is_good n) (at_signature r there) ∙ trial_append is_good n (row r) (rows (i + 1)) ∙ ap (λ x. then_on is_good x (rows (i + 1))) is_found
-
-  pub no_signature : length rs ≤ i → goal ≡ trial is_good n (rows i) → goal ≡ left n
-  no_signature past so_far = so_far ∙ ap (λ xs. trial is_good n (filter matches (pairs xs ks))) (drop_all i rs past) ∙ trial_none is_good n
