@@ -3,23 +3,17 @@
 //! from the anchors and by a node. A line that begins with `== ` stands before each script.
 #![tactic(auto)]
 
-mod caches;
-mod groups;
-mod machine;
-mod scene;
-mod ways;
+mod telling;
 
 ghost use Rattle.std.specs.Prelude.{◌≡◌, ◌<◌};
 
 use anyhow::Result;
-use caches::{Forgetting, Refusing};
 use dsec_group::Steps;
 use dsec_node::OwnedCaches;
-use groups::first_groups;
-use scene::Scene;
+use dsec_ways::{Forgetting, Refusing, Scene};
 use std::marker::Brand;
 use std::sync::ledger::{Blank, Ledger};
-use ways::{by_turns, one_by_one};
+use telling::{first_groups, one_by_one, two_by_two};
 
 /// Judges the messages of a script in each way.
 fn judge<L: Ledger>(rt: &HostRuntime, script: &[u8], steps: &mut Steps<L>) -> Result<()> {
@@ -30,16 +24,22 @@ fn judge<L: Ledger>(rt: &HostRuntime, script: &[u8], steps: &mut Steps<L>) -> Re
 /// Judges the messages of a scene in each way.
 fn in_each_way<L: Ledger>(rt: &HostRuntime, scene: &mut Scene, steps: &mut Steps<L>) -> Result<()> {
     by_hand(rt, scene, steps)?;
-    by_turns(rt, scene, steps)?;
+    two_by_two(rt, scene, steps)?;
     one_by_one(rt, "forgetting", scene, &mut Forgetting, steps)?;
     one_by_one(rt, "refusing", scene, &mut Refusing, steps)?;
-    first_groups(rt, scene)
+    by_themselves(rt, scene)
 }
 
-/// Judges the messages of a script one after the other, over one map of nodes.
+/// Judges the messages of a scene one after the other, over one map of nodes.
 fn by_hand<L: Ledger>(rt: &HostRuntime, scene: &mut Scene, steps: &mut Steps<L>) -> Result<()> {
     let mut caches = OwnedCaches::new(rt.alloc());
     one_by_one(rt, "by-hand", scene, &mut caches, steps)
+}
+
+/// Judges the first groups of a scene's messages by themselves, over one map of nodes.
+fn by_themselves(rt: &HostRuntime, scene: &mut Scene) -> Result<()> {
+    let mut caches = OwnedCaches::new(rt.alloc());
+    first_groups(rt, scene, &mut caches)
 }
 
 /// Takes one line more: the script before a heading is judged, and any other line is added to the script.

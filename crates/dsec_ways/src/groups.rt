@@ -1,10 +1,12 @@
 //! Single groups, each judged by itself: from the anchors, and by a node that is kept.
 
-use crate::scene::{Scene, tell};
+use crate::scene::Scene;
+use crate::told::Told;
 use anyhow::{Error, Result};
 use dsec_anchors::TrustAnchors;
+use dsec_cause::Cause;
 use dsec_crypto::StandIn;
-use dsec_group::{Group, NoMemo, Seed, groups};
+use dsec_group::{Group, NoMemo, Seed, ValidationState, groups};
 use dsec_message::Message;
 use dsec_name::Name;
 use dsec_node::{Caches, Config, Node, OwnedCaches};
@@ -14,15 +16,26 @@ use dsec_validated::ValidatedGroup;
 use std::alloc::Global;
 use std::sync::Arc;
 
-/// Judges the first group of each message's answer section by itself, over one map of nodes.
-pub(crate) fn first_groups(rt: &HostRuntime, scene: &mut Scene) -> Result<()> {
-    let mut caches = OwnedCaches::new(rt.alloc());
-    for index in 0..scene.len() {
-        if let Some(single) = Single::first(rt.alloc(), scene, index)? {
-            single.in_two_ways(rt, scene, &mut caches)?;
-        }
+/// What is told of a group that is judged by itself.
+#[derive(Clone, Copy, Debug)]
+pub struct GroupTold {
+    /// From the anchors of the scene.
+    pub from_anchors: Told,
+    /// By the node that is then kept for the zone that was to have signed it, or for the nearest name above that, if one is.
+    pub by_node: Option<Told>,
+}
+
+/// What is told of the first group of a message's answer section, over one map of nodes, if there is one.
+pub fn first_group(
+    alloc: Global,
+    scene: &mut Scene,
+    index: usize,
+    caches: &mut OwnedCaches<StandIn>,
+) -> Result<Option<GroupTold>> {
+    match Single::first(alloc, scene, index)? {
+        Some(single) => single.in_two_ways(alloc, scene, caches),
+        None => Ok(None),
     }
-    Ok(())
 }
 
 /// A group that is judged by itself, and the moment at which it is, in seconds since 1970.
@@ -38,7 +51,7 @@ impl Single {
     fn first(alloc: Global, scene: &Scene, index: usize) -> Result<Option<Single>> {
         let moment = scene.moment(index)?;
         let message = scene.message(alloc, index)?;
-        match first_group(alloc, &message)? {
+        match first_of(alloc, &message)? {
             Some(group) => Ok(Some(Single {
                 index,
                 group,
@@ -51,14 +64,14 @@ impl Single {
     /// Judges it from the anchors of the scene, and then by the node that this has left.
     fn in_two_ways(
         &self,
-        rt: &HostRuntime,
+        alloc: Global,
         scene: &mut Scene,
         caches: &mut OwnedCaches<StandIn>,
-    ) -> Result<()> {
+    ) -> Result<Option<GroupTold>> {
         let before = scene.upstream.asked;
-        let made = self.from_anchors(rt.alloc(), scene, caches)?;
+        let made = self.from_anchors(alloc, scene, caches)?;
         let questions = scene.upstream.asked.saturating_sub(before);
-        self.tell_both(rt, caches, &made, questions)
+        self.told_of(alloc, caches, &made, questions)
     }
 
     /// What is said of it from the anchors of the scene.
@@ -96,30 +109,31 @@ impl Single {
         }
     }
 
-    /// Writes what was said of it from the anchors, and what is by the node that is kept for the zone that was to have signed it, or for the
-    /// nearest name above that, if one is.
-    fn tell_both(
+    /// What was said of it from the anchors, after so many questions, and what the node that is kept says.
+    fn told_of(
         &self,
-        rt: &HostRuntime,
+        alloc: Global,
         caches: &mut OwnedCaches<StandIn>,
         made: &ValidatedGroup<StandIn>,
         questions: u64,
-    ) -> Result<()> {
-        let told = (made.state(), made.ede());
-        tell(rt, "first-group", self.index, told, "questions", questions)?;
-        match nearest(rt.alloc(), caches, made.signer_name())? {
-            Some(node) => self.by_node(rt, &node),
-            None => Ok(()),
-        }
+    ) -> Result<Option<GroupTold>> {
+        let by_node = match nearest(alloc, caches, made.signer_name())? {
+            Some(node) => self.by_node(alloc, &node)?,
+            None => None,
+        };
+        Ok(Some(GroupTold {
+            from_anchors: self.told(made.state(), made.ede(), questions),
+            by_node,
+        }))
     }
 
-    /// Judges it by a node, and writes for how many seconds that may be kept.
-    fn by_node(&self, rt: &HostRuntime, node: &Arc<Node<StandIn>>) -> Result<()> {
+    /// What a node says of it, if it has records.
+    fn by_node(&self, alloc: Global, node: &Arc<Node<StandIn>>) -> Result<Option<Told>> {
         if self.group.rr_set().is_empty() {
-            return Ok(());
+            return Ok(None);
         }
         let found = validate_with_node(
-            rt.alloc(),
+            alloc,
             &self.group,
             node,
             &Config::new(),
@@ -127,13 +141,22 @@ impl Single {
             self.moment,
         )
         .map_err(Error::msg)?;
-        let told = (found.told.state(), found.told.ede());
-        tell(rt, "by-node", self.index, told, "seconds", found.seconds)
+        Ok(Some(self.told(found.told.state(), found.told.ede(), found.seconds)))
+    }
+
+    /// What is told of it.
+    fn told(&self, state: ValidationState, cause: Option<Cause>, number: u64) -> Told {
+        Told {
+            index: self.index,
+            state,
+            cause,
+            number,
+        }
     }
 }
 
 /// The first group of a message's answer section, if there is one.
-fn first_group(alloc: Global, message: &Message) -> Result<Option<Group>> {
+fn first_of(alloc: Global, message: &Message) -> Result<Option<Group>> {
     let sections = message.sections(alloc).map_err(Error::msg)?;
     let found = groups(alloc, sections.answer, Seed::fixed()).map_err(Error::msg)?;
     Ok(found.into_vec().into_iter().next())

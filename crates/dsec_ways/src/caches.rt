@@ -9,7 +9,7 @@ use std::sync::Arc;
 
 /// Caches that forget each node at once.
 #[derive(Drop)]
-pub(crate) struct Forgetting;
+pub struct Forgetting;
 
 impl Caches<StandIn> for Forgetting {
     ghost held = { λ _. None };
@@ -25,7 +25,7 @@ impl Caches<StandIn> for Forgetting {
 
 /// Caches that never find memory.
 #[derive(Drop)]
-pub(crate) struct Refusing;
+pub struct Refusing;
 
 impl Caches<StandIn> for Refusing {
     ghost held = { λ _. None };

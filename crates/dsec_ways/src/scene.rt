@@ -1,9 +1,7 @@
-//! What messages are judged by: anchors, an upstream and moments; and what is told of one.
+//! What messages are judged by: anchors, an upstream and moments.
 
 use anyhow::{Context, Error, Result};
 use dsec_anchors::TrustAnchors;
-use dsec_cause::Cause;
-use dsec_group::ValidationState;
 use dsec_message::Message;
 use dsec_outside::TableUpstream;
 use dsec_script::{Item, Items, read_script};
@@ -12,7 +10,7 @@ use std::alloc::Global;
 
 /// What a script says: anchors and messages, and an upstream that has its replies.
 #[derive(Drop)]
-pub(crate) struct Scene {
+pub struct Scene {
     anchors: Records,
     items: Items,
     pub(crate) upstream: TableUpstream,
@@ -20,7 +18,7 @@ pub(crate) struct Scene {
 
 impl Scene {
     /// The scene of a script.
-    pub(crate) fn read(alloc: Global, text: &[u8]) -> Result<Scene> {
+    pub fn read(alloc: Global, text: &[u8]) -> Result<Scene> {
         match read_script(alloc, text) {
             Ok(script) => Ok(Scene {
                 anchors: script.anchors,
@@ -41,7 +39,7 @@ impl Scene {
     }
 
     /// How many messages there are.
-    pub(crate) fn len(&self) -> usize {
+    pub fn len(&self) -> usize {
         self.items.len()
     }
 
@@ -60,28 +58,4 @@ impl Scene {
     fn item(&self, index: usize) -> Result<&Item> {
         self.items.as_slice().get(index).context("no message")
     }
-}
-
-/// What is told: a state, and a cause where there is one.
-pub(crate) type Told = (ValidationState, Option<Cause>);
-
-/// Writes what is told of the message with this index in this way, and a number by its name.
-pub(crate) fn tell(
-    rt: &HostRuntime,
-    way: &str,
-    index: usize,
-    told: Told,
-    name: &str,
-    number: u64,
-) -> Result<()> {
-    let (state, cause) = told;
-    match cause {
-        Some(cause) => println!(rt;
-            "{way} {index} {state:?} {} \"{}\" {name}={number}",
-            cause.code(),
-            cause.text()
-        )?,
-        None => println!(rt; "{way} {index} {state:?} - \"\" {name}={number}")?,
-    }
-    Ok(())
 }

@@ -1,6 +1,7 @@
 //! A message judged by hand: the caller's own loop answers its steps, from caches of nodes and an upstream.
 
-use crate::scene::{Scene, Told};
+use crate::scene::Scene;
+use crate::told::Told;
 use anyhow::Result;
 use dsec_crypto::StandIn;
 use dsec_group::{NoMemo, Steps};
@@ -67,7 +68,12 @@ impl Machine {
         step: Step<StandIn>,
     ) {
         if let Step::Done(outcome) = &step {
-            self.told = Some((outcome.state(), outcome.cause()));
+            self.told = Some(Told {
+                index: self.index,
+                state: outcome.state(),
+                cause: outcome.cause(),
+                number: self.questions,
+            });
             return;
         }
         if let Step::Ask(_, _) = &step {
@@ -76,18 +82,8 @@ impl Machine {
         self.next = answer_to(alloc, caches, upstream, step).ok();
     }
 
-    /// Which of the scene's messages it is.
-    pub(crate) fn index(&self) -> usize {
-        self.index
-    }
-
     /// What is told of the message, where nothing more is waited for.
     pub(crate) fn told(&self) -> Option<Told> {
         self.told
-    }
-
-    /// How many questions it has asked.
-    pub(crate) fn questions(&self) -> u64 {
-        self.questions
     }
 }

@@ -1,0 +1,15 @@
+//! Scripts judged in several ways by public calls alone: messages by hand, alone or by turns, and single groups from the anchors and by a node.
+#![tactic(auto)]
+
+mod caches;
+mod groups;
+mod machine;
+mod scene;
+mod told;
+mod ways;
+
+pub use caches::{Forgetting, Refusing};
+pub use groups::{GroupTold, first_group};
+pub use scene::Scene;
+pub use told::Told;
+pub use ways::{by_turns, together};
