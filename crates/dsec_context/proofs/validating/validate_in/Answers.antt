@@ -1,13 +1,10 @@
-use Rattle.std.proofs.Common.{◌≡◌, ◌≤◌, IfOk, Result}
-use Rattle.std.specs.Prelude.{⊤, length}
-use Rattle.dsec_spec.specs.Outside.{Table}
+use Rattle.std.proofs.Common.{◌≡◌}
+use Rattle.std.specs.Prelude.{⊤}
 use Rattle.dsec_nodes.specs.World.{on_circle}
 use Rattle.dsec_nodes.specs.Outcomes.{secure}
-use Rattle.dsec_nodes.specs.SoundOutcomes.{IsJustified}
 use Rattle.dsec_plain.specs.PlainAnswers.{IsPlainAnswer}
 use Rattle.dsec_node.specs.Views.{bounds_of, world_of}
-use Rattle.dsec_serve.specs.Calls.{most_questions}
-use Rattle.dsec_serve.specs.Outside.{Outside, HoldsTable, WasHeld, replies_of}
+use Rattle.dsec_serve.specs.Outside.{HoldsTable, WasHeld, replies_of}
 use Rattle.dsec_context.proofs.ComingLaws as coming
 use Rattle.dsec_context.proofs.LeavingLaws as leaving
 use Rattle.dsec_context.proofs.TableLaws as tables
