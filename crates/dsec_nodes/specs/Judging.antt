@@ -25,8 +25,8 @@ pub data Finding : Type 0 where
   -- no anchor stands at or above where it is looked for
   is_indeterminate : Finding
 
--- a group with the zone that is to have signed it, and what was found of it (RFC 4035 4.3); of an insecure group the zone is the name to which
--- no chain leads
+-- a group with the zone that is to have signed it, and what was found of it (RFC 4035 4.3); where the node that says so is insecure or bogus, the
+-- node's name stands in the zone's place
 pub record Judged : Type 0 where
   pub group : Group
   pub signer : Place
