@@ -20,7 +20,7 @@ use Rattle.dsec_context.specs.Judgements.{Judgement, HandsOn, IsJudging}
 use Rattle.dsec_context.specs.Calls.{IsAnswer, WereHeard, most_questions}
 use Rattle.dsec_context.proofs.CallLaws.{heard_few}
 use Rattle.dsec_context.proofs.JudgementLaws.{groups_sound}
-use Rattle.dsec_context.specs.Calls.{IsHandling}
+use Rattle.dsec_context.specs.Handling.{IsHandling}
 use Rattle.dsec_context.proofs.ComingLaws.{comes, of_verdict}
 use Rattle.dsec_answer.specs.Asked.{WereAsked, WerePut, HoldsAmong}
 use Rattle.dsec_answer.proofs.WholeRuns.{NoNode, whole_run, heard_wider}

@@ -27,7 +27,7 @@ use Rattle.dsec_found.specs.declared.error.Error.TheVariants as errors
 use Rattle.dsec_context.specs.Verdicts.{Verdict}
 use Rattle.dsec_context.specs.Outside.{Outside, replies_of, HoldsTable}
 use Rattle.dsec_context.specs.Calls.{most_questions}
-use Rattle.dsec_context.specs.Calls.{IsByTable, SaysOf, outcome_in}
+use Rattle.dsec_context.specs.Handling.{IsByTable, SaysOf, outcome_in}
 use Rattle.dsec_context.specs.Leaving.{handed_alone}
 use Rattle.dsec_context.specs.Setting.{world_at}
 use Rattle.dsec_context.specs.Writing.{CannotBeRewritten}

@@ -18,12 +18,12 @@ use Rattle.dsec_cut.specs.Ended.{Both, AreJudged}
 use Rattle.dsec_cut.specs.Cuts.{bounded_at}
 use Rattle.dsec_found.specs.declared.error.Error.{Error}
 use Rattle.dsec_found.specs.declared.error.Error.TheVariants.{FormError, ParseError, NoMemory, InplaceError, OctetsConversion, PushError, PushNameError, ReadError, ShortMessage}
-use Rattle.dsec_serve.specs.Verdicts.{Verdict}
-use Rattle.dsec_serve.specs.Calls.{IsAnswer, OkOrNoMemory, RefusedOrNoMemory, RefusedOrBogus}
-use Rattle.dsec_serve.proofs.ReadLaws.{asks_one}
+use Rattle.dsec_context.specs.Verdicts.{Verdict}
+use Rattle.dsec_context.specs.Calls.{IsAnswer, OkOrNoMemory, RefusedOrNoMemory, RefusedOrBogus}
+use Rattle.dsec_context.proofs.ReadLaws.{asks_one}
 use Rattle.dsec_context.specs.Writing.{uncut, written_out, CannotBeRewritten}
 use Rattle.dsec_context.specs.Leaving.{error_by, handed_on, by_rewriting, IsHanded}
-use Rattle.dsec_context.specs.Calls.{SaysOf, SaysCannot, IsVerdict, IsRefusal}
+use Rattle.dsec_context.specs.Handling.{SaysOf, SaysCannot, IsVerdict, IsRefusal}
 use Rattle.dsec_context.proofs.WritingLaws.{too_long, kept_unread, sections_unread}
 
 -- an answer is that of judging; or it says why the message can't be rewritten; or there was no memory

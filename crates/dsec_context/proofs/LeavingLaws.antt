@@ -19,10 +19,10 @@ use Rattle.dsec_cut.specs.Ended.{Both, AreJudged, is_whole, both_in}
 use Rattle.dsec_cut.specs.Cuts.{bounded_at, are_due, left_as, to_rewrite}
 use Rattle.dsec_found.specs.declared.error.Error.{Error}
 use Rattle.dsec_found.specs.declared.error.Error.TheVariants.{FormError, ParseError, NoMemory, InplaceError, OctetsConversion, PushError, PushNameError, ReadError, ShortMessage}
-use Rattle.dsec_serve.specs.Verdicts.{Verdict}
-use Rattle.dsec_serve.specs.Judgements.{HandsOn}
+use Rattle.dsec_context.specs.Verdicts.{Verdict}
+use Rattle.dsec_context.specs.Judgements.{HandsOn}
 use Rattle.dsec_context.specs.Leaving.{by_rewriting, error_by, handed_on, IsHanded}
-use Rattle.dsec_context.specs.Calls.{OnEnd, IsRewrittenBy, IsRewritten, LeavesWith}
+use Rattle.dsec_context.specs.Handling.{OnEnd, IsRewrittenBy, IsRewritten, LeavesWith}
 use Rattle.dsec_context.proofs.ComingLaws.{its_groups}
 
 -- why a message isn't rewritten is handed on in place of an answer, with the message as it came

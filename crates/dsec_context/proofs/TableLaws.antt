@@ -12,12 +12,12 @@ use Rattle.dsec_cut.specs.Cuts.{left_as, to_rewrite_alone}
 use Rattle.dsec_found.specs.declared.error.Error.{Error}
 use Rattle.dsec_found.specs.declared.error.Error.TheVariants.{FormError, ParseError, NoMemory, InplaceError, OctetsConversion, PushError, PushNameError, ReadError, ShortMessage}
 use Rattle.dsec_found.specs.Errors.{answer_of}
-use Rattle.dsec_serve.specs.Verdicts.{Verdict}
-use Rattle.dsec_serve.specs.Outside.{Outside, replies_of, HoldsTable}
-use Rattle.dsec_serve.specs.Calls.{IsAnswer, Says, AgreesWith}
-use Rattle.dsec_serve.specs.Judgements.{Judgement, GroupsAgree}
+use Rattle.dsec_context.specs.Verdicts.{Verdict}
+use Rattle.dsec_context.specs.Outside.{Outside, replies_of, HoldsTable}
+use Rattle.dsec_context.specs.Calls.{IsAnswer, Says, AgreesWith}
+use Rattle.dsec_context.specs.Judgements.{Judgement, GroupsAgree}
 use Rattle.dsec_context.specs.Leaving.{Handed, by_rewriting, handed_on, handed_alone, IsHanded}
-use Rattle.dsec_context.specs.Calls.{outcome_in, IsByTable}
+use Rattle.dsec_context.specs.Handling.{outcome_in, IsByTable}
 
 -- an answer without its questions is handed on as the answer is
 answer_in : (message : List ℕ) (x : Result Verdict Error) (r : Result (List ℕ) RewriteError)

@@ -1,95 +1,105 @@
--- What a call promises of its answer and of the message that it leaves (RFC 4033 5, RFC 4035 4.3, 5.3.3).
-use Rattle.std.specs.Prelude.{◌≡◌, ◌⊎◌, ℕ, List, map, Option, Result, Ok, Err, IfSome, true}
-use Rattle.dsec_spec.specs.Messages.{Question}
+-- What a call promises that judges a message over caches and an upstream (RFC 4033 5, RFC 4035 4.3, 4.5, 5).
+use Rattle.std.specs.Prelude.{◌≡◌, ◌⊎◌, ◌≤◌, ◌*◌, ℕ, List, [], ◌∷◌, length, Option, Some, None, Result, Ok, Err}
 use Rattle.dsec_spec.specs.Outside.{Table}
 use Rattle.dsec_spec.specs.Records.{Record}
-use Rattle.dsec_nodes.specs.World.{World, Replies, moment}
+use Rattle.dsec_spec.specs.Messages.{Question, questions_of}
+use Rattle.dsec_nodes.specs.World.{World, Replies}
+use Rattle.dsec_nodes.specs.Nodes.{Node}
+use Rattle.dsec_nodes.specs.Machine.{Question as Asked, Input}
+use Rattle.dsec_nodes.specs.InStep.{AskedOf}
 use Rattle.dsec_nodes.specs.Outcomes.{Outcome, bogus}
-use Rattle.dsec_plain.specs.Coming.{IsReadable, HasNotOneQuestion}
-use Rattle.dsec_course.specs.Justified.{AreRead}
-use Rattle.dsec_rewrite.specs.Cutting.{Bounded, is_due}
-use Rattle.dsec_rewrite.specs.Rewriting.{IsRewriting}
-use Rattle.dsec_rewrite.specs.declared.error.RewriteError.TheVariants as rewriting
-use Rattle.dsec_cut.specs.Ended.{Both}
-use Rattle.dsec_cut.specs.Cuts.{bounded_at}
+use Rattle.dsec_nodes.specs.SoundOutcomes.{IsJustified}
+use Rattle.dsec_nodes.specs.Alone.{Refusal, sections_of, alone}
+use Rattle.dsec_plain.specs.Coming.{IsReadable}
 use Rattle.dsec_found.specs.declared.error.Error.{Error}
-use Rattle.dsec_found.specs.declared.error.Error.TheVariants.{FormError, ParseError, PushError, NoMemory}
-pub use Rattle.dsec_serve.specs.Calls.{WereHeard, IsAnswer, most_questions}
-use Rattle.dsec_serve.specs.Verdicts.{Verdict}
-use Rattle.dsec_serve.specs.Outside.{Outside, HoldsTable}
-use Rattle.dsec_serve.specs.Judgements.{Judgement, IsJudging}
-use Rattle.dsec_context.specs.Leaving.{handed_on, handed_alone, IsHanded}
-use Rattle.dsec_context.specs.Writing.{CannotBeRewritten}
+use Rattle.dsec_found.specs.declared.error.Error.TheVariants.{FormError, ParseError, NoMemory}
+use Rattle.dsec_found.specs.Errors.{answer_of}
+use Rattle.dsec_course.specs.Course.{Course, groups_in, asked_in}
+use Rattle.dsec_course.specs.Advancing.{begun}
+use Rattle.dsec_course.specs.Hearing.{first_run, AreHeard, after_heard}
+pub use Rattle.dsec_context.specs.Verdicts.{Verdict}
+use Rattle.dsec_context.specs.Outside.{Outside, AreCounted, WasHeld, HoldsMore, HoldsTable}
 
--- judging went on to the message's end: it has a verdict, or is refused since it hasn't one question (RFC 1035 4.1.2)
-abbrev pub OnEnd : Result Verdict Error → Type 0 → Type 0
-OnEnd (Ok v) P = P
-OnEnd (Err FormError) P = P
-OnEnd (Err _) P = Unit {0}
+-- The questions, with their replies, and the nodes that were put are those of the message judged a step at a time: it heard inputs, whose nodes
+-- were held when the call began or were put on the way (RFC 4035 4.3, 4.5)
+pub record WereHeard (w : World) (most : ℕ) (message : List ℕ) (held : Node → Type 0) (asked : List Asked) (puts : List Node) : Type 0 where
+  pub course : Course
+  pub begins : begun w.anchors most message ≡ Ok course
+  pub inputs : List Input
+  pub heard : AreHeard w held (first_run w course) inputs
+  pub are : asked ≡ asked_in (after_heard w (first_run w course) inputs).course
+  pub puts_are : puts ≡ (after_heard w (first_run w course) inputs).puts
 
--- the message that is left is the rewriting of the other by these judged groups at the moment t, and reads back so
-abbrev pub IsRewrittenBy : ℕ → List ℕ → Both → List ℕ → Type 0
-IsRewrittenBy t message both left = IsRewriting message (map (bounded_at t) both.0) (map (bounded_at t) both.1) left
+-- at most one question finds no memory, and then neither does the call
+abbrev pub IsLost : Result Verdict Error → ℕ → Type 0
+IsLost (Ok v) lost = lost ≡ 0
+IsLost (Err NoMemory) lost = lost ≤ 1
+IsLost (Err _) lost = lost ≡ 0
 
--- What a call promises: judging the message comes to an answer, and to the judged groups by which it is rewritten, if it is to be; by these is what is
--- answered and left, and a rewritten message reads back as it was made (RFC 4033 5, RFC 4035 4.3, 5.3.3)
-pub record IsHandling (w : World) (most : ℕ) (message : List ℕ) (table : Option Table) (before after : Outside) (answer : Result Verdict Error) (left : List ℕ) : Type 0 where
-  pub judgement : Judgement
-  pub judging : IsJudging w most message table before after judgement
-  pub handed : IsHanded message (handed_on (moment w) message judgement.answer judgement.groups) answer left
-  pub reads_back : OnEnd answer (IfSome judgement.groups (λ both. IsRewrittenBy (moment w) message both left))
+-- An outcome is justified, its questions are told, and the message's sections can be read; FormError comes only where they can and there isn't one
+-- question; ParseError only where they can't, and then nothing is asked; no other error comes (RFC 4033 5, RFC 1035 4.1)
+abbrev pub IsAnswer : World → ℕ → List ℕ → List Asked → Result Verdict Error → Type 0
+IsAnswer w most message asked (Ok v) = (v.questions ≡ length asked) × IsJustified w most message v.outcome v.outcome.state × IsReadable message
+IsAnswer w most message asked (Err FormError) =
+    IsReadable message × ((question : Question) (rest : ℕ) → questions_of message ≡ Some (question ∷ [], rest) → ⊥)
+IsAnswer w most message asked (Err ParseError) = (sections_of message ≡ None) × (asked ≡ [])
+IsAnswer w most message asked (Err NoMemory) = Unit {0}
+IsAnswer w most message asked (Err _) = ⊥
 
--- an answer without the number of its questions
-abbrev pub outcome_in : Result Verdict Error → Result Outcome Error
-outcome_in (Ok v) = Ok v.outcome
-outcome_in (Err e) = Err e
+-- the answer is this outcome or refusal; want of memory may come in its place
+abbrev pub Says : Result Outcome Refusal → Result Verdict Error → Type 0
+Says r (Ok v) = r ≡ Ok v.outcome
+Says r (Err NoMemory) = Unit {0}
+Says r (Err e) = answer_of r ≡ Err e
 
--- by a table of which is all that was held the answer and the message that is left are those of the recursion, and all that is held afterwards is of
--- it (RFC 4033 5, RFC 4035 4.5)
-pub record IsByTable (w : World) (most : ℕ) (message : List ℕ) (after : Outside) (answer : Result Verdict Error) (left : List ℕ) (replies : Replies) : Type 0 where
-  pub handed : IsHanded message (handed_alone w most replies message) (outcome_in answer) left
+-- by a table of which is all that was held and heard the answer is that of the recursion, and all that is held afterwards is of it
+-- (RFC 4033 5, RFC 4035 4.5)
+pub record AgreesWith (w : World) (most : ℕ) (message : List ℕ) (after : Outside) (answer : Result Verdict Error) (replies : Replies) : Type 0 where
+  pub says : Says (alone w most replies message) answer
   pub holds : HoldsTable w replies after.held
 
--- the error says that the message can't be rewritten, and so it is
-abbrev pub SaysCannot : List Record → ℕ → List ℕ → Error → Type 0
-SaysCannot anchors most message ParseError = CannotBeRewritten anchors most message rewriting.ParseError
-SaysCannot anchors most message PushError = CannotBeRewritten anchors most message rewriting.PushError
-SaysCannot anchors most message _ = ⊥
+-- What a call promises: there is a list of its questions with their replies, and one of the nodes that it put. The questions are counted, no other
+-- node is held afterwards that wasn't before, both lists are those of the message judged a step at a time, the answer is so by them, and where all
+-- that was held and heard is of one table the answer is that of the table (RFC 4033 5, RFC 4035 4.3, 4.5)
+pub record IsCall (w : World) (most : ℕ) (message : List ℕ) (table : Option Table) (before after : Outside) (answer : Result Verdict Error) : Type 0 where
+  pub asked : List Asked
+  pub lost : ℕ
+  pub counted : AreCounted table before after asked lost
+  pub few : IsLost answer lost
+  pub puts : List Node
+  pub holds_more : HoldsMore before.held after.held puts
+  pub in_turn : ((asked ≡ []) × (puts ≡ [])) ⊎ WereHeard w most message (WasHeld w.accepts before.held) asked puts
+  pub so : IsAnswer w most message asked answer
+  pub agrees : (replies : Replies) → HoldsTable w replies before.held → AskedOf replies asked → AgreesWith w most message after answer replies
 
--- What an answer says of the message: with a verdict its sections can be read; with FormError too, and there isn't one question; with ParseError a
--- record can't, be it of the additional section alone; with PushError it is too long to be rewritten; no other error comes (RFC 1035 4.1, 4.2.2)
-abbrev pub SaysOf : List Record → ℕ → List ℕ → Result Verdict Error → Type 0
-SaysOf anchors most message (Ok v) = IsReadable message
-SaysOf anchors most message (Err FormError) = HasNotOneQuestion message
-SaysOf anchors most message (Err NoMemory) = Unit {0}
-SaysOf anchors most message (Err e) = SaysCannot anchors most message e
+-- how many groups a message has that are to be judged (RFC 2181 5)
+abbrev pub count_of : Result Course Refusal → ℕ
+count_of (Ok c) = length (groups_in c)
+count_of (Err e) = 0
 
--- a verdict of this kind; or want of memory; or the message can't be rewritten, and so it is said
-abbrev pub IsVerdict : (Verdict → Type 0) → List Record → ℕ → List ℕ → Result Verdict Error → Type 0
-IsVerdict Holds anchors most message (Ok v) = Holds v
-IsVerdict Holds anchors most message (Err NoMemory) = Unit {0}
-IsVerdict Holds anchors most message (Err e) = SaysCannot anchors most message e
+-- how many questions a message takes at most: 255 for each of its groups (RFC 1035 2.3.4, RFC 4035 5.2)
+abbrev pub most_questions : List Record → ℕ → List ℕ → ℕ
+most_questions anchors most message = 255 * count_of (begun anchors most message)
 
--- a refusal since there isn't one question, or a bogus verdict; or want of memory; or the message can't be rewritten, and so it is said
-abbrev pub IsRefusal : List Record → ℕ → List ℕ → Result Verdict Error → Type 0
-IsRefusal anchors most message (Ok v) = v.outcome.state ≡ bogus
-IsRefusal anchors most message (Err FormError) = Unit {0}
-IsRefusal anchors most message (Err NoMemory) = Unit {0}
-IsRefusal anchors most message (Err e) = SaysCannot anchors most message e
+-- the errors that a call on a message answers (RFC 1035 4.1)
+abbrev pub CanCome : Result Verdict Error → Type 0
+CanCome (Ok v) = Unit {0}
+CanCome (Err FormError) = Unit {0}
+CanCome (Err ParseError) = Unit {0}
+CanCome (Err NoMemory) = Unit {0}
+CanCome (Err _) = ⊥
 
--- The second message is a rewriting of the first by its own groups, CNAME records that follow from a DNAME record moved to it: their duplicates are
--- dropped and their TTLs cut, where one of these is due, and it reads back so (RFC 2181 5, RFC 4035 5.3.3, RFC 6672 3.1)
-pub record IsRewritten (anchors : List Record) (most : ℕ) (message left : List ℕ) : Type 0 where
-  pub questions : List Question
-  pub answers : List Bounded
-  pub authorities : List Bounded
-  pub groups : AreRead anchors most message questions (map (λ b. b.group) answers) (map (λ b. b.group) authorities)
-  pub due : is_due answers authorities ≡ true
-  pub made : IsRewriting message answers authorities left
+-- a verdict of this kind, or want of memory
+abbrev pub OkOrNoMemory : (Verdict → Type 0) → Result Verdict Error → Type 0
+OkOrNoMemory Holds (Ok v) = Holds v
+OkOrNoMemory Holds (Err e) = e ≡ NoMemory
 
--- the message that is left with an answer: where judging went on to its end it is as it came, or rewritten; after any other error it is as it came
--- (RFC 4035 5.3.3)
-abbrev pub LeavesWith : List Record → ℕ → Result Verdict Error → List ℕ → List ℕ → Type 0
-LeavesWith anchors most (Ok v) message left = (left ≡ message) ⊎ IsRewritten anchors most message left
-LeavesWith anchors most (Err FormError) message left = (left ≡ message) ⊎ IsRewritten anchors most message left
-LeavesWith anchors most (Err _) message left = left ≡ message
+-- a refusal for this reason, or want of memory
+abbrev pub RefusedOrNoMemory : Error → Result Verdict Error → Type 0
+RefusedOrNoMemory why (Ok v) = ⊥
+RefusedOrNoMemory why (Err e) = (e ≡ why) ⊎ (e ≡ NoMemory)
+
+-- a refusal for this reason, a bogus verdict, or want of memory
+abbrev pub RefusedOrBogus : Error → Result Verdict Error → Type 0
+RefusedOrBogus why (Ok v) = v.outcome.state ≡ bogus
+RefusedOrBogus why (Err e) = (e ≡ why) ⊎ (e ≡ NoMemory)

@@ -1,8 +1,12 @@
+pub mod Verdicts
+pub use Rattle.dsec_lookup.specs.Outside
+pub use Rattle.dsec_core.specs.Outcomes
+pub mod Serving
+pub mod Calls
+pub mod Judgements
+pub mod Checked
+pub mod Turns
 pub mod Setting
 pub mod Leaving
 pub mod Writing
-pub mod Calls
-pub use Rattle.dsec_serve.specs.Outside
-pub use Rattle.dsec_serve.specs.Verdicts
-pub use Rattle.dsec_serve.specs.Judgements
-pub use Rattle.dsec_serve.specs.Outcomes
+pub mod Handling

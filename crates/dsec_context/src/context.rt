@@ -9,19 +9,20 @@ ghost use Rattle.dsec_plain.specs.PlainAnswers.{IsPlainAnswer};
 ghost use Rattle.dsec_found.specs.declared.error.Error.TheVariants.{ParseError};
 ghost use Rattle.dsec_node.specs.Caches.{held_in};
 ghost use Rattle.dsec_node.specs.Configs.{default_settings};
-ghost use Rattle.dsec_serve.specs.Calls.{RefusedOrNoMemory, most_questions};
-ghost use Rattle.dsec_serve.specs.Outside.{replies_of, HoldsTable};
-ghost use Rattle.dsec_context.specs.Calls.{IsByTable, IsHandling, IsRefusal, IsVerdict, LeavesWith, SaysOf};
+ghost use Rattle.dsec_context.specs.Calls.{RefusedOrNoMemory, most_questions};
+ghost use Rattle.dsec_context.specs.Outside.{replies_of, HoldsTable};
+ghost use Rattle.dsec_context.specs.Handling.{IsByTable, IsHandling, IsRefusal, IsVerdict, LeavesWith, SaysOf};
 ghost use Rattle.dsec_context.specs.Setting.{world_at};
 
 use crate::validating::validate_in;
+use crate::verdict::Verdict;
 use dsec_anchors::TrustAnchors;
 use dsec_crypto::Verifier;
+use dsec_found::Error;
 use dsec_group::NoMemo;
 use dsec_message::Message;
 use dsec_node::{Config, OwnedCaches};
 use dsec_outside::Upstream;
-use dsec_serve::{Error, Verdict};
 use std::alloc::Global;
 use std::marker::Model;
 

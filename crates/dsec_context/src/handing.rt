@@ -5,14 +5,16 @@ ghost use Rattle.dsec_spec.specs.Reading.{Gives};
 ghost use Rattle.dsec_nodes.specs.World.{on_circle};
 ghost use Rattle.dsec_cut.specs.Cuts.{left_as};
 ghost use Rattle.dsec_rewrite.specs.Errors.{wants_memory};
-ghost use Rattle.dsec_context.specs.Calls.{IsRewrittenBy, OnEnd};
+ghost use Rattle.dsec_context.specs.Handling.{IsRewrittenBy, OnEnd};
 ghost use Rattle.dsec_context.specs.Leaving.{error_by, handed_on, IsHanded};
 
+use crate::judgement::Judgement;
+use crate::verdict::Verdict;
+use dsec_core::all_bounded;
 use dsec_crypto::Verifier;
 use dsec_found::{Error, JudgedGroup};
 use dsec_message::Message;
 use dsec_rewrite::{RewriteError, rebuild_msg};
-use dsec_serve::{Judgement, Verdict, all_bounded};
 use std::alloc::Global;
 
 /// What is answered of a message that was judged at a moment. The message is left as it came, or rewritten where that is due; if it can't be

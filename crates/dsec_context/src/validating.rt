@@ -8,11 +8,13 @@ ghost use Rattle.dsec_plain.specs.Coming.{HasNotOneQuestion, IsReadable};
 ghost use Rattle.dsec_plain.specs.PlainAnswers.{IsPlainAnswer};
 ghost use Rattle.dsec_found.specs.declared.error.Error.TheVariants.{ParseError};
 ghost use Rattle.dsec_node.specs.Views.{bounds_of, world_of};
-ghost use Rattle.dsec_serve.specs.Calls.{RefusedOrNoMemory, most_questions};
-ghost use Rattle.dsec_serve.specs.Outside.{replies_of, HoldsTable};
-ghost use Rattle.dsec_context.specs.Calls.{IsByTable, IsHandling, IsRefusal, IsVerdict, LeavesWith, SaysOf};
+ghost use Rattle.dsec_context.specs.Calls.{RefusedOrNoMemory, most_questions};
+ghost use Rattle.dsec_context.specs.Outside.{replies_of, HoldsTable};
+ghost use Rattle.dsec_context.specs.Handling.{IsByTable, IsHandling, IsRefusal, IsVerdict, LeavesWith, SaysOf};
 
 use crate::handing::hand_on;
+use crate::judging::judge_in;
+use crate::verdict::Verdict;
 use dsec_anchors::TrustAnchors;
 use dsec_crypto::Verifier;
 use dsec_found::Error;
@@ -20,7 +22,6 @@ use dsec_group::Memo;
 use dsec_message::Message;
 use dsec_node::{Caches, Config};
 use dsec_outside::Upstream;
-use dsec_serve::{Verdict, judge_in};
 use std::alloc::Global;
 
 /// The verdict on a message at a moment, in seconds since 1970, from these anchors. Nodes are got from the caches and put into them, and the

@@ -3,11 +3,11 @@
 use crate::scene::Scene;
 use crate::told::Told;
 use anyhow::Result;
+use dsec_context::{Input, Step, Validation, answer_to};
 use dsec_crypto::StandIn;
 use dsec_group::{NoMemo, Steps};
 use dsec_node::{Caches, Config};
 use dsec_outside::Upstream;
-use dsec_serve::{Input, Step, Validation, answer_to};
 use std::alloc::Global;
 use std::sync::ledger::Ledger;
 

@@ -1,7 +1,7 @@
 use Rattle.std.proofs.Common.{IfSome, Err, sym, subst}
 use Rattle.dsec_nodes.specs.World.{on_circle}
 use Rattle.dsec_found.specs.declared.error.Error.{Error}
-use Rattle.dsec_context.specs.Calls.{IsRewrittenBy, OnEnd}
+use Rattle.dsec_context.specs.Handling.{IsRewrittenBy, OnEnd}
 use Rattle.dsec_context.specs.Leaving.{handed_on, IsHanded}
 use Rattle.dsec_context.proofs.LeavingLaws.{refusal_handed, refusal_no_end}
 use Rattle.dsec_context.proofs.handing.hand_on.Goals as goal

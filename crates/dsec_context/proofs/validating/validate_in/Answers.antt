@@ -4,7 +4,7 @@ use Rattle.dsec_nodes.specs.World.{on_circle}
 use Rattle.dsec_nodes.specs.Outcomes.{secure}
 use Rattle.dsec_plain.specs.PlainAnswers.{IsPlainAnswer}
 use Rattle.dsec_node.specs.Views.{bounds_of, world_of}
-use Rattle.dsec_serve.specs.Outside.{HoldsTable, WasHeld, replies_of}
+use Rattle.dsec_context.specs.Outside.{HoldsTable, WasHeld, replies_of}
 use Rattle.dsec_context.proofs.ComingLaws as coming
 use Rattle.dsec_context.proofs.LeavingLaws as leaving
 use Rattle.dsec_context.proofs.TableLaws as tables

@@ -1,0 +1,4 @@
+use Rattle.dsec_context.proofs.judging.judge_in.Given as goal
+
+abbrev pub ghosts-counted : goal.ghosts-counted
+ghosts-counted g a = record { name = a.blank.name; parts = a.blank.parts }

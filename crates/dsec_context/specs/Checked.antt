@@ -1,0 +1,34 @@
+-- How many signatures are checked at most for a message that is judged over caches and an upstream (RFC 4035 5.2, 5.3).
+use Rattle.std.specs.Prelude.{◌≡◌, ◌≤◌, ℕ, ◌+◌, ◌*◌, ◌==◌, List, ◌++◌, map, Option, Some, IfSome, if◌then◌else◌}
+use Rattle.std.specs.List.{sum_by}
+use Rattle.dsec_spec.specs.Outside.{Entry, Table}
+use Rattle.dsec_spec.specs.Numbers.{DS}
+use Rattle.dsec_child.specs.Belows.{most_checked}
+use Rattle.dsec_nodes.specs.World.{World}
+use Rattle.dsec_nodes.specs.Machine.{Question as Asked}
+use Rattle.dsec_nodes.specs.Replies.{read_reply}
+use Rattle.dsec_course.specs.Advancing.{begun}
+use Rattle.dsec_context.specs.Outside.{Outside, asked_by}
+use Rattle.dsec_context.specs.Calls.{count_of}
+use Rattle.dsec_context.specs.Judgements.{Judgement, IsJudging}
+
+-- how many sets of the reply to a question are checked at most: to the one for a DS set a DS set, a CNAME set and each set of its authority section;
+-- to the one for a DNSKEY set that set (RFC 4035 5.2)
+abbrev pub sets_in : Asked → ℕ
+sets_in q = if q.rtype == DS then most_checked (read_reply q.reply) else 1
+
+-- how many sets are checked at most for a message that asked these questions, where so many of its groups are judged (RFC 4035 5.2, 5.3)
+abbrev pub sets_at_most : List Asked → ℕ → ℕ
+sets_at_most asked groups = sum_by sets_in asked + groups
+
+-- What judging promises; and of these two counts of checked signatures the later is greater by no more than what is tried of one set, for each set
+-- that the replies to its questions can have checked, and for each group of the message (RFC 4035 5.2, 5.3)
+pub record IsJudgingWithin (w : World) (most : ℕ) (message : List ℕ) (table : Option Table) (before after : Outside) (j : Judgement) (from to : ℕ) : Type 0 where
+  pub judging : IsJudging w most message table before after j
+  pub few : to ≤ from + sets_at_most judging.call.asked (count_of (begun w.anchors most message)) * w.bounds.room
+
+-- where it is told what was heard, the later of two counts is greater by no more than so much, for each set that the replies that were heard since can
+-- have checked, and for each of so many groups (RFC 4035 5.2, 5.3)
+abbrev pub HeardWithin : Option (List Entry) → Option (List Entry) → ℕ → ℕ → ℕ → ℕ → Type 0
+HeardWithin before after groups room from to =
+    IfSome before (λ told. (more : List Entry) × (after ≡ Some (told ++ more)) × (to ≤ from + sets_at_most (map asked_by more) groups * room))
