@@ -11,9 +11,9 @@ use Rattle.dsec_spec.specs.Groups.{Group, groups_of}
 use Rattle.dsec_spec.specs.Redirection.{has_too_many, moved, staying_from}
 use Rattle.dsec_nodes.specs.Outcomes.{Outcome, by_nothing, bogus_by}
 use Rattle.dsec_nodes.specs.Alone.{Refusal, sections_of}
-use Rattle.dsec_course.specs.Course.{to_begin, to_end, Course}
+use Rattle.dsec_course.specs.Course.{Waiting, to_begin, to_end, Course}
 use Rattle.dsec_course.specs.Advancing.{beginning, begun, begun_by, begun_with}
-use Rattle.dsec_core.specs.Progress.{MovesOrEnds, read_as}
+use Rattle.dsec_core.specs.Progress.{MovesOrEnds, OpensWith, read_as}
 use Rattle.dsec_cause.specs.declared.cause.Cause.{Cause}
 use Rattle.dsec_cause.specs.declared.cause.Cause.TheVariants.{TooManyUnsignedCnames}
 use Rattle.dsec_course.proofs.BeginningLaws.{unreadable_refused}
@@ -113,24 +113,26 @@ moves_or_ends anchors most before after cause c m =
         begins (Some after) (moved_if false f ∙ ap (λ (gs : List Group). Some gs) (sym (h ∙ ap (λ (o : Option (List Group)). unwrap_or o before) (moved_if false f))))
 
 -- a message that ends at its beginning
-pub ends_so : (anchors : List Record) (most : ℕ) (octets : List ℕ) (s : List Question × List Record × List Record) (before after : List Group) (cause : Cause) (c : Course)
-    (questions : List Question) (left : List Group) (o : Outcome) → MovesOrEnds anchors most before after (Some cause) → before ≡ groups_of s.1
-    → c ≡ beginning most octets questions 0 left (to_end o) → questions ≡ s.0 → left ≡ [] → o ≡ bogus_by cause by_nothing → Ok c ≡ begun_by anchors most octets (Some s)
-ends_so anchors most octets s before after cause c questions left o h same is qs ls os =
-    ap (λ (x : Course). Ok x)
-    (is ∙ (ap (λ (q : List Question). beginning most octets q 0 left (to_end o)) qs
-    ∙ (ap (λ (l : List Group). beginning most octets s.0 0 l (to_end o)) ls ∙ ap (λ (x : Outcome). beginning most octets s.0 0 [] (to_end x)) os)))
-    ∙ sym (h octets s (sym same))
+pub ends_so : (anchors : List Record) (most : ℕ) (before after authorities : List Group) (cause : Cause) (left : List Group) (o : Outcome) → MovesOrEnds anchors most before after (Some cause)
+    → left ≡ [] → o ≡ bogus_by cause by_nothing → OpensWith anchors most before authorities 0 left (to_end o)
+ends_so anchors most before after authorities cause left o h ls os = λ message s is others.
+    h message s is ∙ ap (λ (c : Course). Ok c)
+    (ap (λ (x : Outcome). beginning most message s.0 0 [] (to_end x)) (sym os) ∙ ap (λ (l : List Group). beginning most message s.0 0 l (to_end o)) (sym ls))
 
 -- one that begins
-pub begins_so : (anchors : List Record) (most : ℕ) (octets : List ℕ) (s : List Question × List Record × List Record) (before after : List Group) (c : Course)
-    (questions : List Question) (count : ℕ) (left : List Group) → MovesOrEnds anchors most before after None → before ≡ groups_of s.1
-    → c ≡ beginning most octets questions count left to_begin → questions ≡ s.0 → count ≡ length after → left ≡ after ++ groups_of s.2 → Ok c ≡ begun_by anchors most octets (Some s)
-begins_so anchors most octets s before after c questions count left h same is qs ns ls =
-    ap (λ (x : Course). Ok x)
-    (is ∙ (ap (λ (q : List Question). beginning most octets q count left to_begin) qs
-    ∙ (ap (λ (n : ℕ). beginning most octets s.0 n left to_begin) ns ∙ ap (λ (l : List Group). beginning most octets s.0 (length after) l to_begin) ls)))
-    ∙ sym (h octets s (sym same))
+pub begins_so : (anchors : List Record) (most : ℕ) (before after authorities : List Group) (count : ℕ) (left : List Group) → MovesOrEnds anchors most before after None
+    → count ≡ length after → left ≡ after ++ authorities → OpensWith anchors most before authorities count left to_begin
+begins_so anchors most before after authorities count left h ns ls = λ message s is others.
+    h message s is ∙ ap (λ (c : Course). Ok c)
+    (ap (λ (l : List Group). beginning most message s.0 (length after) l to_begin) (ap (λ (gs : List Group). after ++ gs) others ∙ sym ls)
+    ∙ ap (λ (n : ℕ). beginning most message s.0 n left to_begin) (sym ns))
+
+-- the beginning by what it opens with
+pub opens_so : (anchors : List Record) (most : ℕ) (octets : List ℕ) (s : List Question × List Record × List Record) (answers authorities : List Group) (questions : List Question)
+    (count : ℕ) (left : List Group) (waits : Waiting) (c : Course) → OpensWith anchors most answers authorities count left waits → answers ≡ groups_of s.1 → authorities ≡ groups_of s.2
+    → questions ≡ s.0 → c ≡ beginning most octets questions count left waits → Ok c ≡ begun_by anchors most octets (Some s)
+opens_so anchors most octets s answers authorities questions count left waits c h is others qs same =
+    ap (λ (x : Course). Ok x) (same ∙ ap (λ (q : List Question). beginning most octets q count left waits) qs) ∙ sym (h octets s (sym is) (sym others))
 
 -- copies of groups pushed one after the other
 pub pushed_one : (was now more groups : List Group) (i : ℕ) (item copy : Group) → now ≡ was ++ take i groups → more ≡ now ++ copy ∷ [] → copy ≡ item → i < length groups

@@ -8,7 +8,7 @@ ghost use Rattle.dsec_found.specs.Errors.{wants_memory};
 ghost use Rattle.dsec_group.specs.Reading.{in_groups};
 ghost use Rattle.dsec_group.specs.declared.seed.Seed.{Seed};
 ghost use Rattle.dsec_message.specs.declared.sections.Sections.{Sections};
-ghost use Rattle.dsec_core.specs.Progress.{MovesOrEnds, read_as};
+ghost use Rattle.dsec_core.specs.Progress.{MovesOrEnds, OpensWith, read_as};
 ghost use Rattle.dsec_core.specs.Views.{waits_view};
 
 use super::{Course, Waits};
@@ -35,8 +35,7 @@ pub(crate) fn begun<V: Verifier>(
 {
     let (sections, at) = read_groups(alloc, message)?;
     let rcode = message.rcode_before(alloc, at)?;
-    let octets = octets_of(alloc, message)?;
-    Ok(by_groups(alloc, anchors, most, octets, rcode, sections)?)
+    Ok(by_groups(alloc, anchors, most, message, rcode, sections)?)
 }
 
 /// The same by the groups of the sections.
@@ -44,48 +43,59 @@ fn by_groups<V: Verifier>(
     alloc: Global,
     anchors: &[Record],
     most: u8,
-    octets: Vec<u8>,
+    message: &Message,
     rcode: Rcode,
     groups: GroupedSections,
 ) -> Result<Course<V>, NoMemory>
-    requires { rcode_of octets.items ≡ Some rcode }
+    requires { rcode_of message.now ≡ Some rcode }
     ensures { (seed : Seed) (sections : Sections) → groups ≡ in_groups seed sections
-        → IfOk result (λ course. Ok course ≡ begun_by anchors.now most octets.items (Some (sections.question, sections.answer, sections.authority))) }
+        → IfOk result (λ course. Ok course ≡ begun_by anchors.now most message.now (Some (sections.question, sections.answer, sections.authority))) }
 {
     let GroupedSections {
         question,
         answer,
         authority,
     } = groups;
-    let questions = question.into_vec();
-    let mut answers = answer;
+    let opening = opened_by(alloc, anchors, most, answer, authority)?;
+    Ok(beginning(alloc, most, message, rcode, question.into_vec(), opening)?)
+}
+
+/// What a course begins with.
+#[derive(Drop)]
+struct Opening<V: Verifier> {
+    /// The groups that are to be judged, in order.
+    left: Vec<Group>,
+    /// How many of them are the answer section's.
+    answers: usize,
+    /// What is waited for.
+    waits: Waits<V>,
+}
+
+/// What a course begins with by the groups of its sections. Where there are too many bare CNAME records to move, it ends at once.
+fn opened_by<V: Verifier>(
+    alloc: Global,
+    anchors: &[Record],
+    most: u8,
+    answers: GroupSet,
+    authorities: GroupSet,
+) -> Result<Opening<V>, NoMemory>
+    ensures { IfOk result (λ it. OpensWith anchors.now most answers.groups authorities.groups it.answers it.left.items (waits_view it.waits)) }
+{
+    let mut answers = answers;
     match moved_or_ended(anchors, most, &mut answers)? {
-        Some(cause) => {
-            let waits = Waits::ToEnd(Outcome::bogus(cause));
-            Ok(beginning(
-                alloc,
-                most,
-                octets,
-                rcode,
-                questions,
-                0,
-                Vec::new(alloc),
-                waits,
-            ))
-        }
+        Some(cause) => Ok(Opening {
+            left: Vec::new(alloc),
+            answers: 0,
+            waits: Waits::ToEnd(Outcome::bogus(cause)),
+        }),
         None => {
             let count = answers.len();
-            let left = in_order(answers, authority)?;
-            Ok(beginning(
-                alloc,
-                most,
-                octets,
-                rcode,
-                questions,
-                count,
+            let left = in_order(answers, authorities)?;
+            Ok(Opening {
                 left,
-                Waits::ToBegin,
-            ))
+                answers: count,
+                waits: Waits::ToBegin,
+            })
         }
     }
 }
@@ -107,27 +117,26 @@ fn moved_or_ended(
 fn beginning<V: Verifier>(
     alloc: Global,
     most: u8,
-    message: Vec<u8>,
+    message: &Message,
     rcode: Rcode,
     questions: Vec<Question>,
-    answers: usize,
-    left: Vec<Group>,
-    waits: Waits<V>,
-) -> Course<V>
-    requires { rcode_of message.items ≡ Some rcode }
-    ensures { result ≡ beginning_of most message.items questions.items answers left.items (waits_view waits) }
+    opening: Opening<V>,
+) -> Result<Course<V>, NoMemory>
+    requires { rcode_of message.now ≡ Some rcode }
+    ensures { IfOk result (λ course. course ≡ beginning_of most message.now questions.items opening.answers opening.left.items (waits_view opening.waits)) }
 {
-    Course {
+    let message = octets_of(alloc, message)?;
+    Ok(Course {
         message,
         rcode,
         questions,
         most,
-        answers,
-        left: VecDeque::from_vec(left),
+        answers: opening.answers,
+        left: VecDeque::from_vec(opening.left),
         judged: Vec::new(alloc),
         walks: Vec::new(alloc),
-        waits,
-    }
+        waits: opening.waits,
+    })
 }
 
 /// The groups of both sections, in order.
