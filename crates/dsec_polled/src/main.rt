@@ -7,7 +7,7 @@ mod telling;
 
 ghost use Rattle.std.specs.Prelude.{◌≡◌, ◌<◌};
 
-use anyhow::Result;
+use anyhow::{Error, Result};
 use dsec_group::Steps;
 use dsec_node::OwnedCaches;
 use dsec_ways::{Forgetting, Refusing, Scene};
@@ -17,8 +17,10 @@ use telling::{first_groups, one_by_one, two_by_two};
 
 /// Judges the messages of a script in each way.
 fn judge<L: Ledger>(rt: &HostRuntime, script: &[u8], steps: &mut Steps<L>) -> Result<()> {
-    let mut scene = Scene::read(rt.alloc(), script)?;
-    in_each_way(rt, &mut scene, steps)
+    match Scene::read(rt.alloc(), script) {
+        Ok(mut scene) => in_each_way(rt, &mut scene, steps),
+        Err(_) => Err(Error::msg("no script")),
+    }
 }
 
 /// Judges the messages of a scene in each way.

@@ -1,10 +1,10 @@
 //! The ways in which a script's messages are judged, and what is written of each.
 
-use anyhow::Result;
+use anyhow::{Context, Result};
 use dsec_crypto::StandIn;
 use dsec_group::Steps;
 use dsec_node::{Caches, OwnedCaches};
-use dsec_ways::{Scene, Told, by_turns, first_group, together};
+use dsec_ways::{Scene, Told, first_group, together};
 use std::sync::ledger::Ledger;
 
 /// Judges messages one after the other, over caches.
@@ -16,8 +16,7 @@ pub(crate) fn one_by_one<C: Caches<StandIn>, L: Ledger>(
     steps: &mut Steps<L>,
 ) -> Result<()> {
     for index in 0..scene.len() {
-        let told = together(rt.alloc(), scene, &[index], caches, steps)?;
-        tell_all(rt, way, &told)?;
+        judge(rt, way, scene, &[index], caches, steps)?;
     }
     Ok(())
 }
@@ -29,10 +28,33 @@ pub(crate) fn two_by_two<L: Ledger>(
     steps: &mut Steps<L>,
 ) -> Result<()> {
     for index in 1..scene.len() {
-        let told = by_turns(rt.alloc(), scene, &[index - 1, index], steps)?;
-        tell_all(rt, "by-turns", &told)?;
+        by_turns(rt, scene, &[index - 1, index], steps)?;
     }
     Ok(())
+}
+
+/// Judges the messages with these indices by turns, over one map of nodes.
+fn by_turns<L: Ledger>(
+    rt: &HostRuntime,
+    scene: &mut Scene,
+    indices: &[usize],
+    steps: &mut Steps<L>,
+) -> Result<()> {
+    let mut caches = OwnedCaches::new(rt.alloc());
+    judge(rt, "by-turns", scene, indices, &mut caches, steps)
+}
+
+/// Judges the messages with these indices in this way.
+fn judge<C: Caches<StandIn>, L: Ledger>(
+    rt: &HostRuntime,
+    way: &str,
+    scene: &mut Scene,
+    indices: &[usize],
+    caches: &mut C,
+    steps: &mut Steps<L>,
+) -> Result<()> {
+    let told = together(rt.alloc(), scene, indices, caches, steps)?;
+    tell_all(rt, way, &told)
 }
 
 /// Judges the first group of each message's answer section by itself, over one map of nodes.
@@ -54,9 +76,9 @@ pub(crate) fn first_groups(
 }
 
 /// Writes what is told of messages that were judged in this way.
-fn tell_all(rt: &HostRuntime, way: &str, all: &[Told]) -> Result<()> {
+fn tell_all(rt: &HostRuntime, way: &str, all: &[Option<Told>]) -> Result<()> {
     for told in all {
-        tell(rt, way, *told, "questions")?;
+        tell(rt, way, told.context("not judged")?, "questions")?;
     }
     Ok(())
 }

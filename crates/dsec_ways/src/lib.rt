@@ -12,4 +12,4 @@ pub use caches::{Forgetting, Refusing};
 pub use groups::{GroupTold, first_group};
 pub use scene::Scene;
 pub use told::Told;
-pub use ways::{by_turns, together};
+pub use ways::together;

@@ -1,13 +1,18 @@
 //! A message judged by hand: the caller's own loop answers its steps, from caches of nodes and an upstream.
 
-use crate::scene::Scene;
+ghost use Rattle.std.specs.Prelude.{◌≡◌, true, false};
+ghost use Rattle.dsec_core.specs.Views.{step_view};
+ghost use Rattle.dsec_context.specs.Turns.{ends};
+
+use crate::scene::{Scene, message_of};
 use crate::told::Told;
-use anyhow::Result;
-use dsec_context::{Input, Step, Validation, answer_to};
+use dsec_anchors::TrustAnchors;
+use dsec_context::{Error, Input, Step, Validation, answer_to};
 use dsec_crypto::StandIn;
 use dsec_group::{NoMemo, Steps};
 use dsec_node::{Caches, Config};
 use dsec_outside::Upstream;
+use dsec_script::Item;
 use std::alloc::Global;
 use std::sync::ledger::Ledger;
 
@@ -21,15 +26,24 @@ pub(crate) struct Machine {
     told: Option<Told>,
 }
 
+/// A message at its moment, which is begun.
+fn begun(alloc: Global, scene: &Scene, item: &Item) -> Result<Validation<StandIn>, Error> {
+    let anchors = TrustAnchors::from_vec(scene.anchors.as_slice().to_vec(alloc)?);
+    let message = message_of(alloc, item)?;
+    Ok(Validation::start(alloc, anchors, Config::new(), &message, item.seconds)?)
+}
+
 impl Machine {
     /// The message with this index, which is to begin.
-    pub(crate) fn start(alloc: Global, scene: &Scene, index: usize) -> Result<Machine> {
-        let message = scene.message(alloc, index)?;
-        let moment = scene.moment(index)?;
-        let anchors = scene.anchors(alloc)?;
+    pub(crate) fn start(
+        alloc: Global,
+        scene: &Scene,
+        index: usize,
+        item: &Item,
+    ) -> Result<Machine, Error> {
         Ok(Machine {
             index,
-            validation: Validation::start(alloc, anchors, Config::new(), &message, moment)?,
+            validation: begun(alloc, scene, item)?,
             next: Some(Input::Begin),
             questions: 0,
             told: None,
@@ -44,42 +58,46 @@ impl Machine {
         upstream: &mut U,
         steps: &mut Steps<L>,
     ) {
-        let Some(input) = self.next.take() else {
+        let Some(step) = self.step(alloc, steps) else {
             return;
         };
-        if !self.validation.awaits(&input) {
-            return;
-        }
-        match self
-            .validation
-            .advance::<L>(alloc, input, &mut NoMemo, steps)
-        {
-            Ok(step) => self.follow(alloc, caches, upstream, step),
-            Err(_) => {}
+        if self.goes_on(&step) {
+            self.next = answer_to(alloc, caches, upstream, step).ok();
         }
     }
 
-    /// What a step says is done: it is told, or caches or the upstream answer it.
-    fn follow<C: Caches<StandIn>, U: Upstream>(
-        &mut self,
-        alloc: Global,
-        caches: &mut C,
-        upstream: &mut U,
-        step: Step<StandIn>,
-    ) {
-        if let Step::Done(outcome) = &step {
-            self.told = Some(Told {
-                index: self.index,
-                state: outcome.state(),
-                cause: outcome.cause(),
-                number: self.questions,
-            });
-            return;
+    /// The next step, where there is one.
+    fn step<L: Ledger>(&mut self, alloc: Global, steps: &mut Steps<L>) -> Option<Step<StandIn>> {
+        let input = self.next.take()?;
+        if !self.validation.awaits(&input) {
+            return None;
         }
-        if let Step::Ask(_, _) = &step {
-            self.questions = self.questions.saturating_add(1);
+        self.validation
+            .advance::<L>(alloc, input, &mut NoMemo, steps)
+            .ok()
+    }
+
+    /// Notes what a step says: what the message comes to, or that it asks a question more. Whether it is not the end.
+    fn goes_on(&mut self, step: &Step<StandIn>) -> bool
+        ensures { result ≡ true → ends (step_view step.now) ≡ false }
+    {
+        match step {
+            Step::Done(outcome) => {
+                self.told = Some(Told {
+                    index: self.index,
+                    state: outcome.state(),
+                    cause: outcome.cause(),
+                    number: self.questions,
+                });
+                false
+            }
+            Step::Ask(_, _) => {
+                self.questions = self.questions.saturating_add(1);
+                true
+            }
+            Step::NodeGet(_) => true,
+            Step::NodePut(_, _) => true,
         }
-        self.next = answer_to(alloc, caches, upstream, step).ok();
     }
 
     /// What is told of the message, where nothing more is waited for.
