@@ -10,7 +10,7 @@ ghost use Rattle.std.specs.Prelude.{◌≡◌, ◌<◌};
 use anyhow::{Error, Result};
 use dsec_group::Steps;
 use dsec_node::OwnedCaches;
-use dsec_ways::{Forgetting, Refusing, Scene};
+use dsec_ways::{Keepless, Scene};
 use std::marker::Brand;
 use std::sync::ledger::{Blank, Ledger};
 use telling::{first_groups, one_by_one, two_by_two};
@@ -27,8 +27,8 @@ fn judge<L: Ledger>(rt: &HostRuntime, script: &[u8], steps: &mut Steps<L>) -> Re
 fn in_each_way<L: Ledger>(rt: &HostRuntime, scene: &mut Scene, steps: &mut Steps<L>) -> Result<()> {
     by_hand(rt, scene, steps)?;
     two_by_two(rt, scene, steps)?;
-    one_by_one(rt, "forgetting", scene, &mut Forgetting, steps)?;
-    one_by_one(rt, "refusing", scene, &mut Refusing, steps)?;
+    one_by_one(rt, "forgetting", scene, &mut Keepless::Forgetting, steps)?;
+    one_by_one(rt, "refusing", scene, &mut Keepless::Refusing, steps)?;
     by_themselves(rt, scene)
 }
 

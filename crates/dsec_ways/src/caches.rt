@@ -7,34 +7,29 @@ use dsec_name::{Name, NoMemory};
 use dsec_node::{Caches, Node};
 use std::sync::Arc;
 
-/// Caches that forget each node at once.
-#[derive(Drop)]
-pub struct Forgetting;
-
-impl Caches<StandIn> for Forgetting {
-    ghost held = { λ _. None };
-
-    fn get(&mut self, _name: &Name) -> Result<Option<Arc<Node<StandIn>>>, NoMemory> {
-        Ok(None)
-    }
-
-    fn put(&mut self, _name: Name, _node: &Arc<Node<StandIn>>) -> Result<(), NoMemory> {
-        Ok(())
-    }
+/// Caches that keep nothing.
+#[derive(Clone, Copy)]
+pub enum Keepless {
+    /// They forget each node at once.
+    Forgetting,
+    /// They never find memory.
+    Refusing,
 }
 
-/// Caches that never find memory.
-#[derive(Drop)]
-pub struct Refusing;
-
-impl Caches<StandIn> for Refusing {
+impl Caches<StandIn> for Keepless {
     ghost held = { λ _. None };
 
     fn get(&mut self, _name: &Name) -> Result<Option<Arc<Node<StandIn>>>, NoMemory> {
-        Err(NoMemory)
+        match self {
+            Keepless::Forgetting => Ok(None),
+            Keepless::Refusing => Err(NoMemory),
+        }
     }
 
     fn put(&mut self, _name: Name, _node: &Arc<Node<StandIn>>) -> Result<(), NoMemory> {
-        Err(NoMemory)
+        match self {
+            Keepless::Forgetting => Ok(()),
+            Keepless::Refusing => Err(NoMemory),
+        }
     }
 }

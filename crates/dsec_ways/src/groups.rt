@@ -2,19 +2,22 @@
 
 use crate::scene::{Scene, message_of};
 use crate::told::Told;
+use dsec_anchors::TrustAnchors;
 use dsec_cause::Cause;
 use dsec_context::Error;
 use dsec_crypto::StandIn;
 use dsec_group::{Group, NoMemo, Seed, ValidationState, groups};
-use dsec_name::Name;
+use dsec_name::{Name, NoMemory};
 use dsec_node::{Caches, Config, Node, OwnedCaches};
+use dsec_outside::Upstream;
 use dsec_script::Item;
 use dsec_single::{validate_with_node, validated};
+use dsec_validated::ValidatedGroup;
 use std::alloc::Global;
 use std::sync::Arc;
 
 /// What is told of a group that is judged by itself.
-#[derive(Clone, Copy, Debug)]
+#[derive(Clone, Copy)]
 pub struct GroupTold {
     /// From the anchors of the scene.
     pub from_anchors: Told,
@@ -35,12 +38,14 @@ pub fn first_group(
         return Ok(None);
     };
     let moment = item.seconds;
+    let before = scene.upstream.asked;
     match first_of(alloc, item)? {
         Some(group) => {
             let single = Single {
                 index,
                 group: &group,
                 moment,
+                before,
             };
             single.in_two_ways(alloc, scene, caches)
         }
@@ -56,12 +61,15 @@ fn first_of(alloc: Global, item: &Item) -> Result<Option<Group>, Error> {
     Ok(found.into_vec().into_iter().next())
 }
 
-/// A group that is judged by itself, and the moment at which it is, in seconds since 1970.
+/// A group that is judged by itself.
 #[derive(Clone, Copy)]
 struct Single<'a> {
     index: usize,
     group: &'a Group,
+    /// The moment at which it is judged, in seconds since 1970.
     moment: u64,
+    /// How many questions were asked before.
+    before: u64,
 }
 
 impl Single<'_> {
@@ -72,22 +80,56 @@ impl Single<'_> {
         scene: &mut Scene,
         caches: &mut OwnedCaches<StandIn>,
     ) -> Result<Option<GroupTold>, Error> {
-        let before = scene.upstream.asked;
-        let made = validated(
+        let Ok(made) = self.from_anchors(alloc, scene, caches) else {
+            return Err(Error::NoMemory);
+        };
+        self.both(alloc, caches, &made, scene.upstream.asked)
+    }
+
+    /// What was said of it from the anchors, where so many questions were asked by then, and what the node that is then kept says.
+    fn both(
+        &self,
+        alloc: Global,
+        caches: &mut OwnedCaches<StandIn>,
+        made: &ValidatedGroup<StandIn>,
+        asked: u64,
+    ) -> Result<Option<GroupTold>, Error> {
+        let questions = asked.saturating_sub(self.before);
+        let by_node = self.by_nearest(alloc, caches, made.signer_name())?;
+        Ok(Some(GroupTold {
+            from_anchors: self.told(made.state(), made.ede(), questions),
+            by_node,
+        }))
+    }
+
+    /// What validation from the anchors of the scene says of it.
+    fn from_anchors(
+        &self,
+        alloc: Global,
+        scene: &mut Scene,
+        caches: &mut OwnedCaches<StandIn>,
+    ) -> Result<ValidatedGroup<StandIn>, NoMemory> {
+        self.validated_from(alloc, &scene.anchors, caches, &mut scene.upstream)
+    }
+
+    /// What validation from anchors says of it.
+    fn validated_from<U: Upstream>(
+        &self,
+        alloc: Global,
+        anchors: &TrustAnchors,
+        caches: &mut OwnedCaches<StandIn>,
+        upstream: &mut U,
+    ) -> Result<ValidatedGroup<StandIn>, NoMemory> {
+        validated(
             alloc,
             self.group,
-            &scene.anchors,
+            anchors,
             &Config::new(),
             caches,
             &mut NoMemo,
-            &mut scene.upstream,
+            upstream,
             self.moment,
-        )?;
-        let questions = scene.upstream.asked.saturating_sub(before);
-        Ok(Some(GroupTold {
-            from_anchors: self.told(made.state(), made.ede(), questions),
-            by_node: self.by_nearest(alloc, caches, made.signer_name())?,
-        }))
+        )
     }
 
     /// What the node says of it that is kept for a zone, or for the nearest name above, if one is.
@@ -108,14 +150,16 @@ impl Single<'_> {
         if self.group.rr_set().is_empty() {
             return Ok(None);
         }
-        let found = validate_with_node(
+        let Ok(found) = validate_with_node(
             alloc,
             self.group,
             node,
             &Config::new(),
             &mut NoMemo,
             self.moment,
-        )?;
+        ) else {
+            return Err(Error::NoMemory);
+        };
         Ok(Some(self.told(found.told.state(), found.told.ede(), found.seconds)))
     }
 

@@ -8,7 +8,7 @@ mod scene;
 mod told;
 mod ways;
 
-pub use caches::{Forgetting, Refusing};
+pub use caches::Keepless;
 pub use groups::{GroupTold, first_group};
 pub use scene::Scene;
 pub use told::Told;

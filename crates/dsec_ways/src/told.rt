@@ -4,7 +4,7 @@ use dsec_cause::Cause;
 use dsec_group::ValidationState;
 
 /// What is told of a message, or of its first group.
-#[derive(Clone, Copy, Debug)]
+#[derive(Clone, Copy)]
 pub struct Told {
     /// The message's index.
     pub index: usize,
