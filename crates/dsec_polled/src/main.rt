@@ -8,12 +8,13 @@ mod telling;
 ghost use Rattle.std.specs.Prelude.{◌≡◌, ◌<◌};
 
 use anyhow::{Error, Result};
+use dsec_crypto::StandIn;
 use dsec_group::Steps;
-use dsec_node::OwnedCaches;
-use dsec_ways::{Keepless, Scene};
+use dsec_node::{Caches, OwnedCaches};
+use dsec_ways::{Keepless, Scene, first_groups, one_by_one, two_by_two};
 use std::marker::Brand;
 use std::sync::ledger::{Blank, Ledger};
-use telling::{first_groups, one_by_one, two_by_two};
+use telling::{tell_all, tell_groups};
 
 /// Judges the messages of a script in each way.
 fn judge<L: Ledger>(rt: &HostRuntime, script: &[u8], steps: &mut Steps<L>) -> Result<()> {
@@ -25,23 +26,46 @@ fn judge<L: Ledger>(rt: &HostRuntime, script: &[u8], steps: &mut Steps<L>) -> Re
 
 /// Judges the messages of a scene in each way.
 fn in_each_way<L: Ledger>(rt: &HostRuntime, scene: &mut Scene, steps: &mut Steps<L>) -> Result<()> {
-    by_hand(rt, scene, steps)?;
-    two_by_two(rt, scene, steps)?;
-    one_by_one(rt, "forgetting", scene, &mut Keepless::Forgetting, steps)?;
-    one_by_one(rt, "refusing", scene, &mut Keepless::Refusing, steps)?;
+    over_one_map(rt, scene, steps)?;
+    by_turns(rt, scene, steps)?;
+    over(rt, "forgetting", scene, &mut Keepless::Forgetting, steps)?;
+    over(rt, "refusing", scene, &mut Keepless::Refusing, steps)?;
     by_themselves(rt, scene)
 }
 
 /// Judges the messages of a scene one after the other, over one map of nodes.
-fn by_hand<L: Ledger>(rt: &HostRuntime, scene: &mut Scene, steps: &mut Steps<L>) -> Result<()> {
+fn over_one_map<L: Ledger>(
+    rt: &HostRuntime,
+    scene: &mut Scene,
+    steps: &mut Steps<L>,
+) -> Result<()> {
     let mut caches = OwnedCaches::new(rt.alloc());
-    one_by_one(rt, "by-hand", scene, &mut caches, steps)
+    over(rt, "by-hand", scene, &mut caches, steps)
+}
+
+/// Judges the messages of a scene one after the other, over caches.
+fn over<C: Caches<StandIn>, L: Ledger>(
+    rt: &HostRuntime,
+    way: &str,
+    scene: &mut Scene,
+    caches: &mut C,
+    steps: &mut Steps<L>,
+) -> Result<()> {
+    let told = one_by_one(rt.alloc(), scene, caches, steps)?;
+    tell_all(rt, way, &told)
+}
+
+/// Judges each message of a scene and the one after it by turns.
+fn by_turns<L: Ledger>(rt: &HostRuntime, scene: &mut Scene, steps: &mut Steps<L>) -> Result<()> {
+    let told = two_by_two(rt.alloc(), scene, steps)?;
+    tell_all(rt, "by-turns", &told)
 }
 
 /// Judges the first groups of a scene's messages by themselves, over one map of nodes.
 fn by_themselves(rt: &HostRuntime, scene: &mut Scene) -> Result<()> {
     let mut caches = OwnedCaches::new(rt.alloc());
-    first_groups(rt, scene, &mut caches)
+    let told = first_groups(rt.alloc(), scene, &mut caches)?;
+    tell_groups(rt, &told)
 }
 
 /// Takes one line more: the script before a heading is judged, and any other line is added to the script.

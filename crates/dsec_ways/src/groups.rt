@@ -26,31 +26,51 @@ pub struct GroupTold {
     pub by_node: Option<Told>,
 }
 
-/// What is told of the first group of a message's answer section, over one map of nodes; none where there is no such message or group. A message that
-/// can't be read is an error, and so is want of memory.
-pub fn first_group(
+/// What is told of the first group of each message's answer section, in order, where there is one, over one map of nodes. A message that can't be
+/// read is an error, and so is want of memory.
+pub fn first_groups(
+    alloc: Global,
+    scene: &mut Scene,
+    caches: &mut OwnedCaches<StandIn>,
+) -> Result<Vec<GroupTold>, Error> {
+    let mut all = Vec::new(alloc);
+    for index in 0..scene.messages.len() {
+        if let Some(told) = first_group(alloc, scene, index, caches)? {
+            all.push(told)?;
+        }
+    }
+    Ok(all)
+}
+
+/// The same of the message with this index, if there is one.
+fn first_group(
     alloc: Global,
     scene: &mut Scene,
     index: usize,
     caches: &mut OwnedCaches<StandIn>,
 ) -> Result<Option<GroupTold>, Error> {
-    let Some(item) = scene.item(index) else {
+    let Some(item) = scene.messages.item(index) else {
         return Ok(None);
     };
     let moment = item.seconds;
     let before = scene.upstream.asked;
-    match first_of(alloc, item)? {
-        Some(group) => {
-            let single = Single {
-                index,
-                group: &group,
-                moment,
-                before,
-            };
-            single.in_two_ways(alloc, scene, caches)
-        }
-        None => Ok(None),
-    }
+    let Some(group) = first_of(alloc, item)? else {
+        return Ok(None);
+    };
+    let single = Single {
+        index,
+        group: &group,
+        moment,
+    };
+    let told = single.in_two_ways(alloc, &scene.messages.anchors, caches, &mut scene.upstream);
+    counted(told, scene.upstream.asked.saturating_sub(before))
+}
+
+/// What is told of a group, with how many questions were asked.
+fn counted(told: Result<GroupTold, Error>, questions: u64) -> Result<Option<GroupTold>, Error> {
+    let mut told = told?;
+    told.from_anchors.number = questions;
+    Ok(Some(told))
 }
 
 /// The first group of a message's answer section, if there is one.
@@ -68,59 +88,18 @@ struct Single<'a> {
     group: &'a Group,
     /// The moment at which it is judged, in seconds since 1970.
     moment: u64,
-    /// How many questions were asked before.
-    before: u64,
 }
 
 impl Single<'_> {
-    /// Judges it from the anchors of the scene, and then by the node that this has left.
-    fn in_two_ways(
-        &self,
-        alloc: Global,
-        scene: &mut Scene,
-        caches: &mut OwnedCaches<StandIn>,
-    ) -> Result<Option<GroupTold>, Error> {
-        let Ok(made) = self.from_anchors(alloc, scene, caches) else {
-            return Err(Error::NoMemory);
-        };
-        self.both(alloc, caches, &made, scene.upstream.asked)
-    }
-
-    /// What was said of it from the anchors, where so many questions were asked by then, and what the node that is then kept says.
-    fn both(
-        &self,
-        alloc: Global,
-        caches: &mut OwnedCaches<StandIn>,
-        made: &ValidatedGroup<StandIn>,
-        asked: u64,
-    ) -> Result<Option<GroupTold>, Error> {
-        let questions = asked.saturating_sub(self.before);
-        let by_node = self.by_nearest(alloc, caches, made.signer_name())?;
-        Ok(Some(GroupTold {
-            from_anchors: self.told(made.state(), made.ede(), questions),
-            by_node,
-        }))
-    }
-
-    /// What validation from the anchors of the scene says of it.
-    fn from_anchors(
-        &self,
-        alloc: Global,
-        scene: &mut Scene,
-        caches: &mut OwnedCaches<StandIn>,
-    ) -> Result<ValidatedGroup<StandIn>, NoMemory> {
-        self.validated_from(alloc, &scene.anchors, caches, &mut scene.upstream)
-    }
-
-    /// What validation from anchors says of it.
-    fn validated_from<U: Upstream>(
+    /// Judges it from anchors, whose questions aren't counted yet, and then by the node that this has left.
+    fn in_two_ways<U: Upstream>(
         &self,
         alloc: Global,
         anchors: &TrustAnchors,
         caches: &mut OwnedCaches<StandIn>,
         upstream: &mut U,
-    ) -> Result<ValidatedGroup<StandIn>, NoMemory> {
-        validated(
+    ) -> Result<GroupTold, Error> {
+        match validated(
             alloc,
             self.group,
             anchors,
@@ -129,7 +108,26 @@ impl Single<'_> {
             &mut NoMemo,
             upstream,
             self.moment,
-        )
+        ) {
+            Ok(made) => self.both(alloc, caches, made),
+            Err(NoMemory) => Err(Error::NoMemory),
+        }
+    }
+
+    /// What was said of it from anchors, and what the node that is then kept says.
+    fn both(
+        &self,
+        alloc: Global,
+        caches: &mut OwnedCaches<StandIn>,
+        made: ValidatedGroup<StandIn>,
+    ) -> Result<GroupTold, Error> {
+        let from_anchors = self.told(made.state(), made.ede(), 0);
+        let by_node = self.by_nearest(alloc, caches, made.signer_name());
+        let_go(made);
+        Ok(GroupTold {
+            from_anchors,
+            by_node: by_node?,
+        })
     }
 
     /// What the node says of it that is kept for a zone, or for the nearest name above, if one is.
@@ -173,6 +171,9 @@ impl Single<'_> {
         }
     }
 }
+
+/// Lets go of what was said of a group. Where nothing else is alive, each way in which its parts may be there is checked for little.
+fn let_go(_made: ValidatedGroup<StandIn>) {}
 
 /// The node that is kept for a zone, or for the nearest name above it, if one is.
 fn nearest(

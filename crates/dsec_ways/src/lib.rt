@@ -9,7 +9,7 @@ mod told;
 mod ways;
 
 pub use caches::Keepless;
-pub use groups::{GroupTold, first_group};
+pub use groups::{GroupTold, first_groups};
 pub use scene::Scene;
 pub use told::Told;
-pub use ways::together;
+pub use ways::{one_by_one, two_by_two};

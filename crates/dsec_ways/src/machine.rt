@@ -1,10 +1,10 @@
 //! A message judged by hand: the caller's own loop answers its steps, from caches of nodes and an upstream.
 
-ghost use Rattle.std.specs.Prelude.{◌≡◌, true, false};
+ghost use Rattle.std.specs.Prelude.{◌≡◌, false, IfSome};
 ghost use Rattle.dsec_core.specs.Views.{step_view};
 ghost use Rattle.dsec_context.specs.Turns.{ends};
 
-use crate::scene::{Scene, message_of};
+use crate::scene::{Messages, message_of};
 use crate::told::Told;
 use dsec_anchors::TrustAnchors;
 use dsec_context::{Error, Input, Step, Validation, answer_to};
@@ -27,23 +27,31 @@ pub(crate) struct Machine {
 }
 
 /// A message at its moment, which is begun.
-fn begun(alloc: Global, scene: &Scene, item: &Item) -> Result<Validation<StandIn>, Error> {
-    let anchors = TrustAnchors::from_vec(scene.anchors.as_slice().to_vec(alloc)?);
+fn begun(alloc: Global, messages: &Messages, item: &Item) -> Result<Validation<StandIn>, Error> {
     let message = message_of(alloc, item)?;
-    Ok(Validation::start(alloc, anchors, Config::new(), &message, item.seconds)?)
+    match messages.anchors.as_slice().to_vec(alloc) {
+        Ok(anchors) => Validation::start(
+            alloc,
+            TrustAnchors::from_vec(anchors),
+            Config::new(),
+            &message,
+            item.seconds,
+        ),
+        Err(_) => Err(Error::NoMemory),
+    }
 }
 
 impl Machine {
     /// The message with this index, which is to begin.
     pub(crate) fn start(
         alloc: Global,
-        scene: &Scene,
+        messages: &Messages,
         index: usize,
         item: &Item,
     ) -> Result<Machine, Error> {
         Ok(Machine {
             index,
-            validation: begun(alloc, scene, item)?,
+            validation: begun(alloc, messages, item)?,
             next: Some(Input::Begin),
             questions: 0,
             told: None,
@@ -58,28 +66,29 @@ impl Machine {
         upstream: &mut U,
         steps: &mut Steps<L>,
     ) {
-        let Some(step) = self.step(alloc, steps) else {
-            return;
-        };
-        if self.goes_on(&step) {
+        if let Some(step) = self.step(alloc, steps) {
             self.next = answer_to(alloc, caches, upstream, step).ok();
         }
     }
 
-    /// The next step, where there is one.
-    fn step<L: Ledger>(&mut self, alloc: Global, steps: &mut Steps<L>) -> Option<Step<StandIn>> {
+    /// The next step, where there is one that is to be answered.
+    fn step<L: Ledger>(&mut self, alloc: Global, steps: &mut Steps<L>) -> Option<Step<StandIn>>
+        ensures { IfSome result (λ step. ends (step_view step) ≡ false) }
+    {
         let input = self.next.take()?;
         if !self.validation.awaits(&input) {
             return None;
         }
-        self.validation
+        let step = self
+            .validation
             .advance::<L>(alloc, input, &mut NoMemo, steps)
-            .ok()
+            .ok()?;
+        self.noted(step)
     }
 
-    /// Notes what a step says: what the message comes to, or that it asks a question more. Whether it is not the end.
-    fn goes_on(&mut self, step: &Step<StandIn>) -> bool
-        ensures { result ≡ true → ends (step_view step.now) ≡ false }
+    /// The same step, where it is not the end; noted is what the message comes to, or that a question more is asked.
+    fn noted(&mut self, step: Step<StandIn>) -> Option<Step<StandIn>>
+        ensures { IfSome result (λ step. ends (step_view step) ≡ false) }
     {
         match step {
             Step::Done(outcome) => {
@@ -89,14 +98,14 @@ impl Machine {
                     cause: outcome.cause(),
                     number: self.questions,
                 });
-                false
+                None
             }
-            Step::Ask(_, _) => {
+            Step::Ask(name, rtype) => {
                 self.questions = self.questions.saturating_add(1);
-                true
+                Some(Step::Ask(name, rtype))
             }
-            Step::NodeGet(_) => true,
-            Step::NodePut(_, _) => true,
+            Step::NodeGet(name) => Some(Step::NodeGet(name)),
+            Step::NodePut(name, node) => Some(Step::NodePut(name, node)),
         }
     }
 

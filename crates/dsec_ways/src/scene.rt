@@ -10,8 +10,7 @@ use std::alloc::Global;
 /// What a script says: anchors and messages, and an upstream that has its replies.
 #[derive(Drop)]
 pub struct Scene {
-    pub(crate) anchors: TrustAnchors,
-    items: Items,
+    pub(crate) messages: Messages,
     pub(crate) upstream: TableUpstream,
 }
 
@@ -20,14 +19,25 @@ impl Scene {
     pub fn read(alloc: Global, text: &[u8]) -> Result<Scene, ScriptError> {
         let script = read_script(alloc, text)?;
         Ok(Scene {
-            anchors: TrustAnchors::from_vec(script.anchors.into_vec()),
-            items: script.items,
+            messages: Messages {
+                anchors: TrustAnchors::from_vec(script.anchors.into_vec()),
+                items: script.items,
+            },
             upstream: TableUpstream::new(script.replies),
         })
     }
+}
 
-    /// How many messages there are.
-    pub fn len(&self) -> usize {
+/// Messages, and the anchors from which they are judged.
+#[derive(Drop)]
+pub(crate) struct Messages {
+    pub(crate) anchors: TrustAnchors,
+    items: Items,
+}
+
+impl Messages {
+    /// How many there are.
+    pub(crate) fn len(&self) -> usize {
         self.items.len()
     }
 
