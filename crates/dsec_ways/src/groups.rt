@@ -123,7 +123,7 @@ impl Single<'_> {
     ) -> Result<GroupTold, Error> {
         let from_anchors = self.told(made.state(), made.ede(), 0);
         let by_node = self.by_nearest(alloc, caches, made.signer_name());
-        let_go(made);
+        drop(made);
         Ok(GroupTold {
             from_anchors,
             by_node: by_node?,
@@ -171,9 +171,6 @@ impl Single<'_> {
         }
     }
 }
-
-/// Lets go of what was said of a group. Where nothing else is alive, each way in which its parts may be there is checked for little.
-fn let_go(_made: ValidatedGroup<StandIn>) {}
 
 /// The node that is kept for a zone, or for the nearest name above it, if one is.
 fn nearest(
