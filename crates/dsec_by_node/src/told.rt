@@ -15,7 +15,8 @@ use dsec_number::Ttl;
 use dsec_validated::ValidatedGroup;
 use std::marker::Model;
 
-/// The security status of a group, why it has it, and how far its TTLs are to be cut. A Secure one comes with the links that show it.
+/// The security status of a group, why it has it, and how far its TTLs are to be cut. A Secure one of `validate_with_node` comes with the links that
+/// show it.
 #[derive(Drop)]
 pub struct Told<V: Verifier> {
     state: ValidationState,
@@ -51,7 +52,7 @@ impl<V: Verifier> Told<V> {
         }
     }
 
-    /// What is told of a group with another status.
+    /// What is told of a group without links: a status and its cause.
     pub fn unsecured(state: ValidationState, cause: Option<Cause>) -> Told<V>
         ensures { result ≡ record { answer = record { state = state; closest_encloser = None; cause = cause; adjusted = None }; shown = None } }
     {
@@ -98,7 +99,7 @@ impl<V: Verifier> Told<V> {
         self.closest_encloser.as_ref()
     }
 
-    /// Why the group isn't Secure, where that has a cause (RFC 8914); each bogus one has one.
+    /// Why the group isn't Secure, where that has a cause (RFC 8914); each bogus one of `validate_with_node` has one.
     pub fn ede(&self) -> Option<Cause>
         ensures { result ≡ self.now.answer.cause }
     {

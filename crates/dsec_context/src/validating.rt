@@ -27,8 +27,8 @@ use std::alloc::Global;
 /// The verdict on a message at a moment, in seconds since 1970, from these anchors. Nodes are got from the caches and put into them, and the
 /// upstream is asked for what they don't have. Where caches find no memory they are passed over; a question that fails has no reply.
 ///
-/// With a verdict, and where there isn't one question, the message is rewritten if one of its groups had duplicates, or TTLs greater than what its
-/// signature may be kept for (RFC 2181 5, RFC 4035 5.3.3); after any other error it is as it came.
+/// Where all groups are judged and none is bogus, the message is rewritten if there were duplicates, or if links show a group with TTLs greater than
+/// what its signature may be kept for (RFC 2181 5, RFC 4035 5.3.3). Else, and after any error but `FormError`, it is as it came.
 pub fn validate_in<V: Verifier, C: Caches<V>, M: Memo<V>, U: Upstream>(
     alloc: Global,
     anchors: &TrustAnchors,

@@ -12,8 +12,8 @@ use dsec_zonefile::InplaceError;
 use std::alloc::{AllocError, AllocFailed};
 use thiserror::Error;
 
-/// Why a message isn't judged. Of the calls of these crates only `FormError`, `ParseError` and `NoMemory` come; the others are for
-/// callers that read, build and judge messages by one type of error.
+/// Why a message isn't judged, or can't be handed on. Of the calls that judge only `FormError`, `ParseError` and `NoMemory` come, and of those
+/// that hand on besides `PushError`; the others are for callers that read, build and judge messages by one type of error.
 #[derive(Clone, Copy, Debug, PartialEq, Eq, Error)]
 pub enum Error {
     /// There isn't one question (RFC 1035 4.1.2).
@@ -25,7 +25,7 @@ pub enum Error {
     /// Octets couldn't be converted.
     #[error("OctetsConversion")]
     OctetsConversion,
-    /// A question, or a record of the answer or authority section, can't be read (RFC 1035 4.1).
+    /// A question or a record can't be read (RFC 1035 4.1); one of the additional section counts only where the message is to be rewritten.
     #[error("ParseError")]
     ParseError,
     /// A message would pass 65535 octets (RFC 1035 4.2.2).

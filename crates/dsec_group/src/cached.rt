@@ -24,7 +24,7 @@ use std::sync::ledger::{Blank, Ledger};
 impl Group {
     /// Whether the record is a signature over the group's records that counts at the moment t as the key's, where
     /// `signer_name` is the zone (RFC 4035 5.3.1, 5.3.3). The key stands at `key_name` and has the tag
-    /// `key_tag`. Whether it is in the zone's DNSKEY set is the caller's to see. The verifier is asked once at most.
+    /// `key_tag`. Whether it is in the zone's DNSKEY set is the caller's to see.
     pub fn check_sig_cached<V: Verifier>(
         &self,
         alloc: Global,

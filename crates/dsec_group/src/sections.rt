@@ -25,7 +25,7 @@ pub struct GroupedSections {
 }
 
 /// The questions of a message and the groups of its answer and authority sections, hashed by the message's own seed, and the place
-/// after them. Only records that groups keep take memory.
+/// after them.
 pub fn read_groups(
     alloc: Global,
     message: &Message,

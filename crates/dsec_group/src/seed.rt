@@ -1,4 +1,4 @@
-//! How the keys of groups are hashed, so that nobody can choose names that all fall together.
+//! How the keys of groups are hashed: by a seed, against names that are chosen to fall together.
 
 ghost use Rattle.std.specs.Prelude.{◌≡◌};
 ghost use Rattle.dsec_spec.specs.Messages.{header_of};
@@ -11,7 +11,8 @@ use std::hash::{BuildHasher, Hasher};
 /// A message of so many records is hashed by the fixed seed: that few names can fall together without harm.
 pub const FEW_RECORDS: usize = 64;
 
-/// What goes into each step of a hash, and where it begins. Names that fall together under one seed don't under another.
+/// What goes into each step of a hash, and where it begins. Names that were chosen to fall together under one seed are scattered by another, as
+/// far as was measured.
 #[derive(Clone, Copy, Debug, PartialEq, Eq)]
 pub struct Seed {
     state: u64,

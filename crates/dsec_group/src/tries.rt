@@ -36,8 +36,7 @@ pub(crate) enum KeyTries {
 }
 
 /// Tries each signature of the group with each key that it names, in order, and at most `room` pairs, each in one
-/// step; a signature names a key by the zone as its signer, and by algorithm and tag (RFC 4035 5.3.1). No key is looked at that a
-/// signature doesn't name.
+/// step; a signature names a key by the zone as its signer, and by algorithm and tag (RFC 4035 5.3.1).
 pub fn try_all<V: Verifier, L: Ledger, K: KeyList>(
     alloc: Global,
     group: &Group,

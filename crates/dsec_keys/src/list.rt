@@ -1,4 +1,4 @@
-//! Lists of keys with their tags, in which those of an algorithm and a tag are found without a look at the others.
+//! Lists of keys with their tags, in which those of an algorithm and a tag are found.
 
 ghost use Rattle.std.specs.Prelude.{◌≡◌, ◌<◌, ◌^◌, ◌∷◌, [], List, Some, length, map, slice_get, IfOk};
 ghost use Rattle.dsec_spec.specs.Records.{Key};

@@ -22,7 +22,7 @@ use std::marker::Model;
 const HEADER: usize = 12;
 
 /// A message: its octets, at least a header. What else they say is read when it is asked for, and octets
-/// after the last section are passed over. Each section is readable where those before it are.
+/// after the last section are passed over. A section can be read only where those before it can.
 #[derive(Drop)]
 pub struct Message {
     octets: Vec<u8>,

@@ -26,7 +26,7 @@ pub record Settings : Type 0 where
   pub max_ds_records : ℕ
   -- how many keys with the algorithm and tag of a DS record are tried with it
   pub max_dnskeys_per_ds : ℕ
-  -- how many iterated hashes one reply may ask for
+  -- how many iterated hashes are made at most to find one closest encloser
   pub max_nsec3_hashes : ℕ
 
 -- the settings that nobody has changed

@@ -112,28 +112,28 @@ impl Config {
         }
     }
 
-    /// How many nodes a cache of nodes holds.
+    /// How many nodes a cache of nodes is to hold, for whoever makes one; `OwnedCaches` hold any number.
     pub fn max_node_cache(&self) -> u64
         ensures { result ≡ self.now.max_node_cache }
     {
         self.max_node_cache
     }
 
-    /// How many iterated hashes are kept (RFC 5155 5).
+    /// How many iterated hashes are to be kept, for whoever makes a memo (RFC 5155 5).
     pub fn max_nsec3_cache(&self) -> u64
         ensures { result ≡ self.now.max_nsec3_cache }
     {
         self.max_nsec3_cache
     }
 
-    /// How many answers are kept for signatures of DS and DNSKEY sets.
+    /// How many answers are to be kept for signatures of DS and DNSKEY sets, for whoever makes a memo.
     pub fn max_isig_cache(&self) -> u64
         ensures { result ≡ self.now.max_isig_cache }
     {
         self.max_isig_cache
     }
 
-    /// How many answers are kept for signatures of all other sets.
+    /// How many answers are to be kept for signatures of all other sets, for whoever makes a memo.
     pub fn max_usig_cache(&self) -> u64
         ensures { result ≡ self.now.max_usig_cache }
     {
@@ -196,7 +196,7 @@ impl Config {
         self.max_dnskeys_per_ds
     }
 
-    /// How many iterated hashes one reply may ask for.
+    /// How many iterated hashes are made at most to find one closest encloser.
     pub fn max_nsec3_hashes(&self) -> u8
         ensures { result ≡ self.now.max_nsec3_hashes }
     {

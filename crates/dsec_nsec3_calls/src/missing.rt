@@ -25,7 +25,7 @@ use std::sync::ledger::Ledger;
 
 /// Whether NSEC3 records among the groups, of this class and signed by this zone, deny that the target exists: the walk goes from the
 /// zone's name down to the target, and at each name the first record decides that matches or covers it. With the closest encloser, the
-/// cause, and the indexes of the groups. Each hash is a step, whether the memo keeps it or not.
+/// cause, and the indexes of the groups. Steps are counted for hashes, whether the memo keeps them or not.
 pub fn nsec3_for_not_exists<V: Verifier, L: Ledger>(
     alloc: Global,
     target: &Name,

@@ -8,7 +8,7 @@ use crate::config::Config;
 use crate::ends;
 
 impl Config {
-    /// How many nodes a cache of nodes holds: from 1 to 1,000,000,000.
+    /// How many nodes a cache of nodes is to hold, for whoever makes one: from 1 to 1,000,000,000. `OwnedCaches` hold any number.
     pub fn set_max_node_cache(&mut self, value: u64)
         ensures value { IsLimited nat_cmp 1 1000000000 value self.new.max_node_cache }
         ensures others { self.new ≡ record self.old { max_node_cache = self.new.max_node_cache } }
@@ -16,7 +16,7 @@ impl Config {
         self.max_node_cache = ends::max_node_cache().limit(value);
     }
 
-    /// How many iterated hashes are kept (RFC 5155 5): from 1 to 1,000,000,000.
+    /// How many iterated hashes are to be kept, for whoever makes a memo (RFC 5155 5): from 1 to 1,000,000,000.
     pub fn set_max_nsec3_cache(&mut self, value: u64)
         ensures value { IsLimited nat_cmp 1 1000000000 value self.new.max_nsec3_cache }
         ensures others { self.new ≡ record self.old { max_nsec3_cache = self.new.max_nsec3_cache } }
@@ -24,7 +24,7 @@ impl Config {
         self.max_nsec3_cache = ends::max_nsec3_cache().limit(value);
     }
 
-    /// How many answers are kept for signatures of DS and DNSKEY sets: from 1 to 1,000,000,000.
+    /// How many answers are to be kept for signatures of DS and DNSKEY sets, for whoever makes a memo: from 1 to 1,000,000,000.
     pub fn set_max_isig_cache(&mut self, value: u64)
         ensures value { IsLimited nat_cmp 1 1000000000 value self.new.max_isig_cache }
         ensures others { self.new ≡ record self.old { max_isig_cache = self.new.max_isig_cache } }
@@ -32,7 +32,7 @@ impl Config {
         self.max_isig_cache = ends::max_isig_cache().limit(value);
     }
 
-    /// How many answers are kept for signatures of all other sets: from 1 to 1,000,000,000.
+    /// How many answers are to be kept for signatures of all other sets, for whoever makes a memo: from 1 to 1,000,000,000.
     pub fn set_max_usig_cache(&mut self, value: u64)
         ensures value { IsLimited nat_cmp 1 1000000000 value self.new.max_usig_cache }
         ensures others { self.new ≡ record self.old { max_usig_cache = self.new.max_usig_cache } }
@@ -104,7 +104,7 @@ impl Config {
         self.max_dnskeys_per_ds = ends::max_dnskeys_per_ds().limit(value);
     }
 
-    /// How many iterated hashes one reply may ask for: from 1 to 100.
+    /// How many iterated hashes are made at most to find one closest encloser: from 1 to 100.
     pub fn set_max_nsec3_hashes(&mut self, value: u8)
         ensures value { IsLimited nat_cmp 1 100 value self.new.max_nsec3_hashes }
         ensures others { self.new ≡ record self.old { max_nsec3_hashes = self.new.max_nsec3_hashes } }
