@@ -13,6 +13,7 @@ use dsec_outside::Upstream;
 use dsec_script::Item;
 use dsec_single::{validate_with_node, validated};
 use dsec_validated::ValidatedGroup;
+use dsec_wire::Records;
 use std::alloc::Global;
 use std::sync::Arc;
 
@@ -49,36 +50,35 @@ fn first_group(
     index: usize,
     caches: &mut OwnedCaches<StandIn>,
 ) -> Result<Option<GroupTold>, Error> {
-    let Some(item) = scene.messages.item(index) else {
+    let Scene { messages, upstream } = scene;
+    let Some(item) = messages.item(index) else {
         return Ok(None);
     };
-    let moment = item.seconds;
-    let before = scene.upstream.asked;
-    let Some(group) = first_of(alloc, item)? else {
+    let all = groups_of(alloc, item)?;
+    let Some(group) = all.first() else {
         return Ok(None);
     };
     let single = Single {
         index,
-        group: &group,
-        moment,
+        group,
+        moment: item.seconds,
     };
-    let told = single.in_two_ways(alloc, &scene.messages.anchors, caches, &mut scene.upstream);
-    counted(told, scene.upstream.asked.saturating_sub(before))
-}
-
-/// What is told of a group, with how many questions were asked.
-fn counted(told: Result<GroupTold, Error>, questions: u64) -> Result<Option<GroupTold>, Error> {
-    let mut told = told?;
-    told.from_anchors.number = questions;
+    let before = upstream.asked;
+    let mut told = single.in_two_ways(alloc, &messages.anchors, caches, upstream)?;
+    told.from_anchors.number = upstream.asked.saturating_sub(before);
     Ok(Some(told))
 }
 
-/// The first group of a message's answer section, if there is one.
-fn first_of(alloc: Global, item: &Item) -> Result<Option<Group>, Error> {
+/// The groups of a message's answer section.
+fn groups_of(alloc: Global, item: &Item) -> Result<Vec<Group>, Error> {
+    let answer = answer_of(alloc, item)?;
+    Ok(groups(alloc, answer, Seed::fixed())?.into_vec())
+}
+
+/// The records of a message's answer section.
+fn answer_of(alloc: Global, item: &Item) -> Result<Records, Error> {
     let message = message_of(alloc, item)?;
-    let answer = message.sections(alloc)?.answer;
-    let found = groups(alloc, answer, Seed::fixed())?;
-    Ok(found.into_vec().into_iter().next())
+    Ok(message.answer(alloc)?)
 }
 
 /// A group that is judged by itself.
@@ -158,7 +158,9 @@ impl Single<'_> {
         ) else {
             return Err(Error::NoMemory);
         };
-        Ok(Some(self.told(found.told.state(), found.told.ede(), found.seconds)))
+        let told = self.told(found.told.state(), found.told.ede(), found.seconds);
+        drop(found);
+        Ok(Some(told))
     }
 
     /// What is told of it.
@@ -180,9 +182,8 @@ fn nearest(
 ) -> Result<Option<Arc<Node<StandIn>>>, Error> {
     for labels in (0..zone.label_count()).rev() {
         let name = zone.ancestor(alloc, labels)?;
-        let held = caches.get(&name)?;
-        if held.is_some() {
-            return Ok(held);
+        if let Some(node) = caches.get(&name)? {
+            return Ok(Some(node));
         }
     }
     Ok(None)

@@ -6,6 +6,7 @@ mod groups;
 mod machine;
 mod scene;
 mod told;
+mod turning;
 mod ways;
 
 pub use caches::Keepless;

@@ -6,8 +6,9 @@ ghost use Rattle.dsec_context.specs.Turns.{ends};
 
 use crate::scene::{Messages, message_of};
 use crate::told::Told;
+use crate::turning::Turning;
 use dsec_anchors::TrustAnchors;
-use dsec_context::{Error, Input, Step, Validation, answer_to};
+use dsec_context::{Error, Input, Outcome, Step, Validation, answer_to};
 use dsec_crypto::StandIn;
 use dsec_group::{NoMemo, Steps};
 use dsec_node::{Caches, Config};
@@ -41,9 +42,8 @@ fn begun(alloc: Global, messages: &Messages, item: &Item) -> Result<Validation<S
     }
 }
 
-impl Machine {
-    /// The message with this index, which is to begin.
-    pub(crate) fn start(
+impl Turning for Machine {
+    fn start(
         alloc: Global,
         messages: &Messages,
         index: usize,
@@ -58,8 +58,7 @@ impl Machine {
         })
     }
 
-    /// One step more, where it has not ended: it is given what answers the last step, and caches or the upstream answer the next.
-    pub(crate) fn turn<C: Caches<StandIn>, U: Upstream, L: Ledger>(
+    fn turn<C: Caches<StandIn>, U: Upstream, L: Ledger>(
         &mut self,
         alloc: Global,
         caches: &mut C,
@@ -71,6 +70,12 @@ impl Machine {
         }
     }
 
+    fn told(&self) -> Option<Told> {
+        self.told
+    }
+}
+
+impl Machine {
     /// The next step, where there is one that is to be answered.
     fn step<L: Ledger>(&mut self, alloc: Global, steps: &mut Steps<L>) -> Option<Step<StandIn>>
         ensures { IfSome result (λ step. ends (step_view step) ≡ false) }
@@ -92,25 +97,25 @@ impl Machine {
     {
         match step {
             Step::Done(outcome) => {
-                self.told = Some(Told {
-                    index: self.index,
-                    state: outcome.state(),
-                    cause: outcome.cause(),
-                    number: self.questions,
-                });
+                self.told = Some(self.come_to(&outcome));
+                drop(outcome);
                 None
             }
             Step::Ask(name, rtype) => {
                 self.questions = self.questions.saturating_add(1);
                 Some(Step::Ask(name, rtype))
             }
-            Step::NodeGet(name) => Some(Step::NodeGet(name)),
-            Step::NodePut(name, node) => Some(Step::NodePut(name, node)),
+            step @ (Step::NodeGet(_) | Step::NodePut(_, _)) => Some(step),
         }
     }
 
-    /// What is told of the message, where nothing more is waited for.
-    pub(crate) fn told(&self) -> Option<Told> {
-        self.told
+    /// What the message comes to.
+    fn come_to(&self, outcome: &Outcome<StandIn>) -> Told {
+        Told {
+            index: self.index,
+            state: outcome.state(),
+            cause: outcome.cause(),
+            number: self.questions,
+        }
     }
 }

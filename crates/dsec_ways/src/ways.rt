@@ -3,11 +3,12 @@
 use crate::machine::Machine;
 use crate::scene::{Messages, Scene};
 use crate::told::Told;
+use crate::turning::Turning;
 use dsec_context::Error;
 use dsec_crypto::StandIn;
 use dsec_group::Steps;
 use dsec_node::{Caches, OwnedCaches};
-use dsec_outside::Upstream;
+use dsec_outside::{TableUpstream, Upstream};
 use std::alloc::Global;
 use std::sync::ledger::Ledger;
 
@@ -25,7 +26,15 @@ pub fn one_by_one<C: Caches<StandIn>, L: Ledger>(
     let Scene { messages, upstream } = scene;
     let mut all = Vec::new(alloc);
     for index in 0..messages.len() {
-        together(alloc, messages, &[index], caches, upstream, steps, &mut all)?;
+        together::<Machine, C, TableUpstream, L>(
+            alloc,
+            messages,
+            &[index],
+            caches,
+            upstream,
+            steps,
+            &mut all,
+        )?;
     }
     Ok(all)
 }
@@ -39,7 +48,7 @@ pub fn two_by_two<L: Ledger>(
     let Scene { messages, upstream } = scene;
     let mut all = Vec::new(alloc);
     for index in 1..messages.len() {
-        over_one_map(
+        over_one_map::<Machine, TableUpstream, L>(
             alloc,
             messages,
             &[index - 1, index],
@@ -52,7 +61,7 @@ pub fn two_by_two<L: Ledger>(
 }
 
 /// Adds what is told of the messages with these indices, judged by turns over one map of nodes.
-fn over_one_map<U: Upstream, L: Ledger>(
+fn over_one_map<M: Turning, U: Upstream, L: Ledger>(
     alloc: Global,
     messages: &Messages,
     indices: &[usize],
@@ -61,11 +70,19 @@ fn over_one_map<U: Upstream, L: Ledger>(
     all: &mut Vec<Option<Told>>,
 ) -> Result<(), Error> {
     let mut caches = OwnedCaches::new(alloc);
-    together(alloc, messages, indices, &mut caches, upstream, steps, all)
+    together::<M, OwnedCaches<StandIn>, U, L>(
+        alloc,
+        messages,
+        indices,
+        &mut caches,
+        upstream,
+        steps,
+        all,
+    )
 }
 
 /// Adds what is told of the messages with these indices, where there are such, judged by turns over the same caches.
-fn together<C: Caches<StandIn>, U: Upstream, L: Ledger>(
+fn together<M: Turning, C: Caches<StandIn>, U: Upstream, L: Ledger>(
     alloc: Global,
     messages: &Messages,
     indices: &[usize],
@@ -74,7 +91,7 @@ fn together<C: Caches<StandIn>, U: Upstream, L: Ledger>(
     steps: &mut Steps<L>,
     all: &mut Vec<Option<Told>>,
 ) -> Result<(), Error> {
-    let mut machines = Vec::new(alloc);
+    let mut machines: Vec<M> = Vec::new(alloc);
     start(alloc, messages, indices, &mut machines)?;
     for _ in 0..TURNS {
         turn(alloc, &mut machines, caches, upstream, steps);
@@ -83,24 +100,24 @@ fn together<C: Caches<StandIn>, U: Upstream, L: Ledger>(
 }
 
 /// Adds the messages with these indices, which are to begin.
-fn start(
+fn start<M: Turning>(
     alloc: Global,
     messages: &Messages,
     indices: &[usize],
-    machines: &mut Vec<Machine>,
+    machines: &mut Vec<M>,
 ) -> Result<(), Error> {
     for index in indices {
         if let Some(item) = messages.item(*index) {
-            machines.push(Machine::start(alloc, messages, *index, item)?)?;
+            machines.push(M::start(alloc, messages, *index, item)?)?;
         }
     }
     Ok(())
 }
 
 /// A turn of each message.
-fn turn<C: Caches<StandIn>, U: Upstream, L: Ledger>(
+fn turn<M: Turning, C: Caches<StandIn>, U: Upstream, L: Ledger>(
     alloc: Global,
-    machines: &mut [Machine],
+    machines: &mut [M],
     caches: &mut C,
     upstream: &mut U,
     steps: &mut Steps<L>,
@@ -111,7 +128,7 @@ fn turn<C: Caches<StandIn>, U: Upstream, L: Ledger>(
 }
 
 /// Adds what is told of each message, where nothing more is waited for.
-fn tell(machines: &[Machine], all: &mut Vec<Option<Told>>) -> Result<(), Error> {
+fn tell<M: Turning>(machines: &[M], all: &mut Vec<Option<Told>>) -> Result<(), Error> {
     for machine in machines {
         all.push(machine.told())?;
     }
