@@ -85,30 +85,45 @@ fn goes_on<L: Ledger>(
     }
 }
 
-/// Adds a node, and says whether the way goes on.
+/// Adds a node, which is kept where a zone begins with it, and says whether the way goes on.
 fn take(
     out: &mut Vec<u8>,
     zones: &mut Vec<Node<StandIn>>,
     node: Node<StandIn>,
 ) -> Result<bool, NoMemory> {
-    push_node(out, &node)?;
-    leads_on(zones, node)
+    put(zones, node)?;
+    let onward = push_last(out, zones)?;
+    Ok(leads_on(zones, onward))
 }
 
-/// Whether the way goes on with a node, which is kept where a zone begins with it.
-fn leads_on(zones: &mut Vec<Node<StandIn>>, node: Node<StandIn>) -> Result<bool, NoMemory> {
-    match onward_from(&node) {
-        Onward::Below => keep(zones, node),
-        Onward::Beside => Ok(true),
-        Onward::End => Ok(false),
+/// Puts a node behind the zones.
+fn put(zones: &mut Vec<Node<StandIn>>, node: Node<StandIn>) -> Result<(), NoMemory> {
+    match zones.push(node) {
+        Ok(()) => Ok(()),
+        Err(_) => Err(NoMemory),
     }
 }
 
-/// Keeps the node of a zone, below which the way goes on.
-fn keep(zones: &mut Vec<Node<StandIn>>, zone: Node<StandIn>) -> Result<bool, NoMemory> {
-    match zones.push(zone) {
-        Ok(()) => Ok(true),
-        Err(_) => Err(NoMemory),
+/// Adds the last node, and says where the way goes on.
+fn push_last(out: &mut Vec<u8>, zones: &[Node<StandIn>]) -> Result<Onward, NoMemory> {
+    match zones.last() {
+        Some(node) => {
+            push_node(out, node)?;
+            Ok(onward_from(node))
+        }
+        None => Ok(Onward::End),
+    }
+}
+
+/// Whether the way goes on; the last node is let go of where it goes on below the zone before.
+fn leads_on(zones: &mut Vec<Node<StandIn>>, onward: Onward) -> bool {
+    match onward {
+        Onward::Below => true,
+        Onward::Beside => {
+            drop(zones.pop());
+            true
+        }
+        Onward::End => false,
     }
 }
 
