@@ -16,3 +16,7 @@ signer_of key_of it = record { owner = it.owner; key = key_of it.inner }
 -- how often what signs failed, or was asked
 abbrev pub count_in : {I : Type 0} → (I → ℕ) → SigningKey I → ℕ
 count_in count_of it = count_of it.inner
+
+-- the flags of a key
+abbrev pub flags_in : {I : Type 0} → SigningKey I → ℕ
+flags_in it = it.flags

@@ -41,6 +41,7 @@ pub fn sign_rrset<I: SignRaw>(
     ensures why { IfErr result (λ e. IsSetRefusal (first_type (members_of set.now)) (record { inception = inception; expiration = expiration })
         (Rose (I.faults key.old.inner) (I.faults key.new.inner)) e) }
     ensures kept { signer_of I.key key.new ≡ signer_of I.key key.old }
+    ensures flags { key.new.flags ≡ key.old.flags }
     ensures later { I.faults key.old.inner ≤ I.faults key.new.inner }
     ensures counts { CountsRefusal (I.faults key.old.inner) (I.faults key.new.inner) result }
     ensures asks { AsksRefusal (I.asked key.old.inner) (I.asked key.new.inner) result }
@@ -66,6 +67,7 @@ pub fn sign_sorted_rrset_in<I: SignRaw>(
     ensures why { IfErr result (λ e. IsSetRefusal (first_type (members_of set.now)) (record { inception = inception; expiration = expiration })
         (Rose (I.faults key.old.inner) (I.faults key.new.inner)) e) }
     ensures kept { signer_of I.key key.new ≡ signer_of I.key key.old }
+    ensures flags { key.new.flags ≡ key.old.flags }
     ensures later { I.faults key.old.inner ≤ I.faults key.new.inner }
     ensures counts { CountsRefusal (I.faults key.old.inner) (I.faults key.new.inner) result }
     ensures asks { AsksRefusal (I.asked key.old.inner) (I.asked key.new.inner) result }
@@ -85,6 +87,7 @@ fn sign_allowed<I: SignRaw>(
     ensures allowed { OnOk result ((first_type (members_of set.now) ≢ RRSIG) × IsValidPeriod (period_of config.now)) }
     ensures why { IfErr result (λ e. IsSetRefusal (first_type (members_of set.now)) (period_of config.now) (Rose (I.faults key.old.inner) (I.faults key.new.inner)) e) }
     ensures kept { signer_of I.key key.new ≡ signer_of I.key key.old }
+    ensures flags { key.new.flags ≡ key.old.flags }
     ensures later { I.faults key.old.inner ≤ I.faults key.new.inner }
     ensures counts { CountsRefusal (I.faults key.old.inner) (I.faults key.new.inner) result }
     ensures asks { AsksRefusal (I.asked key.old.inner) (I.asked key.new.inner) result }
@@ -107,6 +110,7 @@ fn sign_sorted_allowed<I: SignRaw>(
     ensures allowed { OnOk result ((first_type (members_of set.now) ≢ RRSIG) × IsValidPeriod (period_of config.now)) }
     ensures why { IfErr result (λ e. IsSetRefusal (first_type (members_of set.now)) (period_of config.now) (Rose (I.faults key.old.inner) (I.faults key.new.inner)) e) }
     ensures kept { signer_of I.key key.new ≡ signer_of I.key key.old }
+    ensures flags { key.new.flags ≡ key.old.flags }
     ensures later { I.faults key.old.inner ≤ I.faults key.new.inner }
     ensures counts { CountsRefusal (I.faults key.old.inner) (I.faults key.new.inner) result }
     ensures asks { AsksRefusal (I.asked key.old.inner) (I.asked key.new.inner) result }

@@ -48,6 +48,7 @@ pub fn sign_set<I: SignRaw>(
     requires canonical { IsCanonical (members_of set.now) }
     ensures signed { IfOk result (λ r. IsSignature I.signs (period_of config.now) (members_of set.now, signer_of I.key key.old) r) }
     ensures kept { signer_of I.key key.new ≡ signer_of I.key key.old }
+    ensures flags { key.new.flags ≡ key.old.flags }
     ensures later { I.faults key.old.inner ≤ I.faults key.new.inner }
     ensures failed { IsErrOf result SignError.Failed → Rose (I.faults key.old.inner) (I.faults key.new.inner) }
     ensures counts { CountsSigning (I.faults key.old.inner) (I.faults key.new.inner) result }
@@ -104,6 +105,7 @@ pub(crate) fn sign_message<I: SignRaw>(
     requires { tag ≡ key_tag (I.key key.old.inner) }
     ensures made { IfOk result (λ r. IsRrsigOver I.signs (signer_of I.key key.old) (period_of config.now) first.now message.now r) }
     ensures kept { signer_of I.key key.new ≡ signer_of I.key key.old }
+    ensures flags { key.new.flags ≡ key.old.flags }
     ensures later { I.faults key.old.inner ≤ I.faults key.new.inner }
     ensures failed { IsErrOf result SignError.Failed → Rose (I.faults key.old.inner) (I.faults key.new.inner) }
     ensures counts { CountsSigning (I.faults key.old.inner) (I.faults key.new.inner) result }

@@ -37,6 +37,7 @@ pub(crate) fn sign_unsorted<I: SignRaw>(
 ) -> Result<Record, SignError>
     ensures signed { IfOk result (λ r. IsSignature I.signs (period_of config.now) (members_of set.now, signer_of I.key key.old) r) }
     ensures kept { signer_of I.key key.new ≡ signer_of I.key key.old }
+    ensures flags { key.new.flags ≡ key.old.flags }
     ensures later { I.faults key.old.inner ≤ I.faults key.new.inner }
     ensures failed { IsErrOf result SignError.Failed → Rose (I.faults key.old.inner) (I.faults key.new.inner) }
     ensures counts { CountsSigning (I.faults key.old.inner) (I.faults key.new.inner) result }

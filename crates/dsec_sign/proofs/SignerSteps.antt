@@ -13,7 +13,7 @@ use Rattle.dsec_spec.specs.Outside.{Rose}
 use Rattle.dsec_spec.specs.Records.{Key, Record}
 use Rattle.dsec_spec.specs.Trying.{pairs}
 use Rattle.dsec_spec.specs.Signatures.{Signs, Signer, Period, IsSignature, AreSignatures}
-use Rattle.dsec_rrsig.specs.Signers.{count_in, signer_of}
+use Rattle.dsec_rrsig.specs.Signers.{count_in, flags_in, signer_of}
 use Rattle.dsec_rrsig.specs.declared.signing_key.SigningKey.{SigningKey}
 use Rattle.dsec_spec.specs.CanonicalRecords.{IsCanonical}
 use Rattle.dsec_sorted.specs.Sets.{AreOfOneSet, differ_in_ttl}
@@ -37,7 +37,7 @@ rose_before a b c le rose = omega (arith, le, rose)
 
 module _ {I : Type 0} (key_of : I → Key) (count_of : I → ℕ) where
   pub same_at_first : (keys : List (SigningKey I)) → AreSameSigners key_of count_of keys keys
-  same_at_first keys = record { kept = refl; later = λ k d lt. omega arith }
+  same_at_first keys = record { kept = refl; flags = refl; later = λ k d lt. omega arith }
 
   pub same_length : (old new : List (SigningKey I)) → AreSameSigners key_of count_of old new → length new ≡ length old
   same_length old new same = sym (length-map new (signer_of key_of)) ∙ (ap length same.kept ∙ length-map old (signer_of key_of))
@@ -45,14 +45,16 @@ module _ {I : Type 0} (key_of : I → Key) (count_of : I → ℕ) where
   pub same_then : (old mid new : List (SigningKey I)) → AreSameSigners key_of count_of old mid → AreSameSigners key_of count_of mid new → AreSameSigners key_of count_of old new
   same_then old mid new first second = record {
     kept = second.kept ∙ first.kept;
+    flags = second.flags ∙ first.flags;
     later = λ k d lt. let a = first.later k d lt in let b = second.later k d (omega (arith, lt, same_length old mid first)) in omega (arith, a, b);
   }
 
   -- one of the keys was used
   pub same_once : (keys : List (SigningKey I)) (i : ℕ) (new d : SigningKey I) → i < length keys → signer_of key_of new ≡ signer_of key_of (get_or keys i d)
-      → count_in count_of (get_or keys i d) ≤ count_in count_of new → AreSameSigners key_of count_of keys (slice_set keys i new)
-  same_once keys i new d lt same later = record {
+      → flags_in new ≡ flags_in (get_or keys i d) → count_in count_of (get_or keys i d) ≤ count_in count_of new → AreSameSigners key_of count_of keys (slice_set keys i new)
+  same_once keys i new d lt same flags later = record {
     kept = mapped_set (signer_of key_of) keys i new d lt same;
+    flags = mapped_set flags_in keys i new d lt flags;
     later = λ k e below. elim (same_or_not i k) [
       | inl is ↦ subst (λ (n : ℕ). count_in count_of (get_or keys n e) ≤ count_in count_of (get_or (slice_set keys i new) n e)) is
           (rw (get_or-set_same keys i new e lt) (rw (get_or_default keys i e d lt) later))

@@ -5,7 +5,7 @@ use Rattle.dsec_spec.specs.KeyTag.{key_tag}
 use Rattle.dsec_spec.specs.Outside.{Rose, risen}
 use Rattle.dsec_spec.specs.Records.{Key, Record}
 use Rattle.dsec_spec.specs.Signatures.{Signs, Signer, Period, AreSignatures, IsSignature}
-use Rattle.dsec_rrsig.specs.Signers.{count_in, signer_of}
+use Rattle.dsec_rrsig.specs.Signers.{count_in, flags_in, signer_of}
 use Rattle.dsec_rrsig.specs.declared.error.SignError.{SignError}
 use Rattle.dsec_rrsig.specs.declared.error.SignError.TheVariants as sign
 use Rattle.dsec_rrsig.specs.declared.error.SigningError.{SigningError}
@@ -16,9 +16,10 @@ use Rattle.dsec_rrsig.specs.declared.signing_key.SigningKey.{SigningKey}
 abbrev pub tags_of : List Signer → List ℕ
 tags_of signers = map (λ (by : Signer). key_tag by.key) signers
 
--- the keys are of the signers that they were, and no count of faults fell
+-- the keys are of the signers that they were, with the same flags, and no count of faults fell
 pub record AreSameSigners {I : Type 0} (key_of : I → Key) (count_of : I → ℕ) (old new : List (SigningKey I)) : Type 0 where
   pub kept : map (signer_of key_of) new ≡ map (signer_of key_of) old
+  pub flags : map flags_in new ≡ map flags_in old
   pub later : (k : ℕ) (d : SigningKey I) → k < length old → count_in count_of (slice_index_or old k d) ≤ count_in count_of (slice_index_or new k d)
 
 -- the count of faults of one of the keys rose

@@ -20,7 +20,7 @@ returns-in_err-made-clause-same g c =
     let keys = c.loop-i.keys in
     let lt : c.loop-i.i < length keys = omega (arith, c.loop-i.auto.keys, c.loop-i-test.true) in
     same_then g.I.SignRaw.key g.I.SignRaw.faults c.args.keys.now keys _ c.loop-i.invariant.same
-    (same_once g.I.SignRaw.key g.I.SignRaw.faults keys c.loop-i.i c.sign_set.new.key c.index-keys-i.result lt c.sign_set.ensures.kept c.sign_set.ensures.later)
+    (same_once g.I.SignRaw.key g.I.SignRaw.faults keys c.loop-i.i c.sign_set.new.key c.index-keys-i.result lt c.sign_set.ensures.kept c.sign_set.ensures.flags c.sign_set.ensures.later)
 
 pub returns-in_err-made-clause-failed : goal.returns-in_err-made-clause-failed
 returns-in_err-made-clause-failed g c h =
@@ -65,7 +65,7 @@ returns-in_err-push_one-clause-same g c =
     let keys = c.loop-i.keys in
     let lt : c.loop-i.i < length keys = omega (arith, c.loop-i.auto.keys, c.loop-i-test.true) in
     same_then g.I.SignRaw.key g.I.SignRaw.faults c.args.keys.now keys _ c.loop-i.invariant.same
-    (same_once g.I.SignRaw.key g.I.SignRaw.faults keys c.loop-i.i c.sign_set.new.key c.index-keys-i.result lt c.sign_set.ensures.kept c.sign_set.ensures.later)
+    (same_once g.I.SignRaw.key g.I.SignRaw.faults keys c.loop-i.i c.sign_set.new.key c.index-keys-i.result lt c.sign_set.ensures.kept c.sign_set.ensures.flags c.sign_set.ensures.later)
 
 pub loop-i-preserved : goal.loop-i-preserved
 loop-i-preserved g c =
@@ -79,7 +79,7 @@ loop-i-preserved g c =
     let long : c.loop-i.i < length signers = omega (arith, length-map c.args.keys.now signer, c.loop-i-test.true) in
     record {
       same = same_then g.I.SignRaw.key g.I.SignRaw.faults c.args.keys.now keys _ c.loop-i.invariant.same
-          (same_once g.I.SignRaw.key g.I.SignRaw.faults keys c.loop-i.i c.sign_set.new.key d lt c.sign_set.ensures.kept c.sign_set.ensures.later);
+          (same_once g.I.SignRaw.key g.I.SignRaw.faults keys c.loop-i.i c.sign_set.new.key d lt c.sign_set.ensures.kept c.sign_set.ensures.flags c.sign_set.ensures.later);
       quiet = quiet_once g.I.SignRaw.faults c.args.keys.now keys c.loop-i.i c.sign_set.new.key d c.loop-i.invariant.quiet lt c.in_ok-made.ensures.counts;
       asks = asked_more g.I.SignRaw.asked c.args.keys.now keys c.loop-i.i c.sign_set.new.key d c.loop-i.invariant.asks lt c.in_ok-made.ensures.asks;
       adds = rw (c.in_ok-push_one.ensures) (key_more g.I.SignRaw.signs (period_of c.args.config.now) (members_of c.args.set.now) signers c.loop-i.i by c.args.out.now.items c.loop-i.out.items c.in_ok-made.made
