@@ -92,7 +92,7 @@ impl<'a> Upstream for FixedUpstream<'a> {
 /// An upstream over another one, whose calls of given numbers fail.
 #[derive(Drop)]
 pub struct FailingUpstream<'a, U> {
-    /// Who is asked at the other calls.
+    /// Who is asked at the other calls, once each.
     pub inner: U,
     /// The numbers of the calls that fail; the first call has the number 0.
     pub failing: &'a [u64],
@@ -117,6 +117,10 @@ impl<'a, U: Upstream> Upstream for FailingUpstream<'a, U> {
         ensures inner_failed { IsErrOf result AskError.Failed
             → Contains self.old.failing.now self.old.asked ⊎ HasNoReply (U.table self.old.inner) name.now rtype }
         ensures inner_table { U.table self.new.inner ≡ U.table self.old.inner }
+        ensures inner_unasked { Contains self.old.failing.now self.old.asked → self.new.inner ≡ self.old.inner }
+        ensures inner_counted { (Contains self.old.failing.now self.old.asked → ⊥) → U.asked self.new.inner ≡ risen (U.asked self.old.inner) }
+        ensures inner_faults { (Contains self.old.failing.now self.old.asked → ⊥) → CountsFailure (U.faults self.old.inner) (U.faults self.new.inner) result }
+        ensures inner_noted { (Contains self.old.failing.now self.old.asked → ⊥) → Notes (U.heard self.old.inner) (U.heard self.new.inner) name.now rtype result }
         ensures same_list { self.new.failing.now ≡ self.old.failing.now }
         ensures reply { IfOk result (λ reply. IsReplyOf None name.now rtype reply.items) }
         ensures later { self.old.faults ≤ self.new.faults }

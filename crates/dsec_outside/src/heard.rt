@@ -1,7 +1,9 @@
 //! An upstream that keeps what it has heard.
 
-ghost use Rattle.std.specs.Prelude.{◌≡◌, [], Some, IfOk, map};
-ghost use Rattle.dsec_outside.specs.Hearing.{entry_of};
+ghost use Rattle.std.specs.Prelude.{◌≡◌, ◌≤◌, ◌⊎◌, [], Some, IfOk, IsErrOf, map};
+ghost use Rattle.dsec_spec.specs.Outside.{HasNoReply, IsReplyOf, Rose, risen};
+ghost use Rattle.dsec_outside.specs.Faults.{CountsFailure};
+ghost use Rattle.dsec_outside.specs.Hearing.{Notes, entry_of};
 
 use crate::upstream::{AskError, Upstream};
 use dsec_name::{Name, Octets};
@@ -55,7 +57,18 @@ impl<U: Upstream> Upstream for HearingUpstream<U> {
 
     ghost heard = { λ upstream. Some (map entry_of upstream.heard.items) };
 
-    fn ask(&mut self, alloc: Global, name: &Name, rtype: Rtype) -> Result<Vec<u8>, AskError> {
+    fn ask(&mut self, alloc: Global, name: &Name, rtype: Rtype) -> Result<Vec<u8>, AskError>
+        ensures same_table { U.table self.new.inner ≡ U.table self.old.inner }
+        ensures reply { IfOk result (λ reply. IsReplyOf (U.table self.old.inner) name.now rtype reply.items) }
+        ensures no_reply { IsErrOf result AskError.Failed → HasNoReply (U.table self.old.inner) name.now rtype }
+        ensures later { U.faults self.old.inner ≤ U.faults self.new.inner }
+        ensures failed { IsErrOf result AskError.Failed → Rose (U.faults self.old.inner) (U.faults self.new.inner) }
+        ensures counts { CountsFailure (U.faults self.old.inner) (U.faults self.new.inner) result }
+        ensures counted { self.new.asked ≡ risen self.old.asked }
+        ensures noted { Notes (Some (map entry_of self.old.heard.items)) (Some (map entry_of self.new.heard.items)) name.now rtype result }
+        ensures inner_asked { IsErrOf result AskError.NoMemory ⊎ (U.asked self.new.inner ≡ risen (U.asked self.old.inner)) }
+        ensures inner_once { (U.asked self.new.inner ≡ U.asked self.old.inner) ⊎ (U.asked self.new.inner ≡ risen (U.asked self.old.inner)) }
+    {
         self.asked = self.asked.saturating_add(1);
         let name_heard = name_copy(name)?;
         // There is room before the question is asked, so that no failure is told as want of memory.

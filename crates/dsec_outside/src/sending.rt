@@ -1,12 +1,13 @@
 //! Texts that go out whole, or in blocks.
 
-ghost use Rattle.std.specs.Prelude.{◌≡◌, ◌≤◌, ◌⊎◌, IsErrOf, OnOk};
+ghost use Rattle.std.specs.Prelude.{◌≡◌, ◌<◌, ◌≤◌, ◌⊎◌, length, [], IsErrOf, IsOk, OnErr, OnOk};
 ghost use Rattle.std.specs.Io.KnownBytes.{Appends};
 ghost use Rattle.dsec_spec.specs.Outside.{Rose, SentFront};
 ghost use Rattle.dsec_outside.specs.Faults.{CountsWrites};
 ghost use Rattle.dsec_outside.specs.Sending.{SentBut};
 ghost use Rattle.dsec_outside.specs.Statuses.{status_in};
 ghost use Rattle.dsec_outside.specs.declared.sending.Halt.TheVariants.{Memory, Write};
+ghost use Rattle.dsec_outside.specs.declared.sending.TheConstants.{BLOCK};
 
 use crate::sink::Sink;
 use crate::source::Failed;
@@ -62,7 +63,7 @@ pub fn send<K: Sink>(sink: &mut K, octets: &[u8]) -> Result<(), Halt>
     }
 }
 
-/// Sends what was gathered, once that is a block, and else keeps it.
+/// Sends what was gathered, once that is a block, and else keeps it. Where a write failed all of it is kept, also what went out.
 pub fn send_block<K: Sink>(sink: &mut K, gathered: &mut Vec<u8>) -> Result<(), Halt>
     ensures later { K.faults sink.old ≤ K.faults sink.new }
     ensures write { IsErrOf result Halt.Write → Rose (K.faults sink.old) (K.faults sink.new) }
@@ -70,6 +71,11 @@ pub fn send_block<K: Sink>(sink: &mut K, gathered: &mut Vec<u8>) -> Result<(), H
     ensures only { IsErrOf result Halt.Memory → ⊥ }
     ensures sent { OnOk result (SentBut (K.written sink.old) (K.written sink.new) gathered.old.items gathered.new.items) }
     ensures front { SentFront (K.written sink.old) (K.written sink.new) gathered.old.items }
+    ensures kept { length gathered.old.items < BLOCK → IsOk result }
+    ensures unsent { length gathered.old.items < BLOCK → K.written sink.new ≡ K.written sink.old }
+    ensures stays { length gathered.old.items < BLOCK → gathered.new.items ≡ gathered.old.items }
+    ensures whole { BLOCK ≤ length gathered.old.items → OnOk result (gathered.new.items ≡ []) }
+    ensures err { OnErr result (gathered.new.items ≡ gathered.old.items) }
 {
     if gathered.len() < BLOCK {
         return Ok(());

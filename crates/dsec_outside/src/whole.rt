@@ -1,6 +1,6 @@
 //! A source read whole, and octets written whole.
 
-ghost use Rattle.std.specs.Prelude.{◌≡◌, ◌+◌, ◌≤◌, length, IfOk, IsErrOf, OnErr, OnOk};
+ghost use Rattle.std.specs.Prelude.{◌≡◌, ◌+◌, ◌≤◌, length, true, IfOk, IsErrOf, OnErr, OnOk};
 ghost use Rattle.std.specs.Io.KnownBytes.{Appends, Consumes, IsAtEnd};
 ghost use Rattle.dsec_spec.specs.Outside.{Rose, SentFront};
 ghost use Rattle.dsec_outside.specs.Ends.{TakesAtMost};
@@ -57,6 +57,8 @@ pub fn read_all<S: Source>(alloc: Global, source: &mut S) -> Result<Vec<u8>, Sto
     ensures bound { IfOk result (λ all. length all.items ≤ limit + 1) }
     ensures within { TakesAtMost (limit + 1) (S.left source.old) (S.left source.new) }
     ensures ended { IsErrOf result Stop.Read → S.ended source.new ≡ S.ended source.old }
+    ensures goes_on { IsErrOf result Stop.Memory → S.ended source.new ≡ S.ended source.old }
+    ensures end { IfOk result (λ all. length all.items ≤ limit → S.ended source.new ≡ true) }
 {
     let mut all = Vec::new(alloc);
     let mut piece = [0u8; PIECE];
