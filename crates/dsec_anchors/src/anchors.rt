@@ -39,7 +39,7 @@ impl Model for TrustAnchors {
 }
 
 impl TrustAnchors {
-    /// No anchors: all that is validated is indeterminate.
+    /// No anchors.
     pub fn empty(alloc: Global) -> TrustAnchors
         ensures { result ≡ [] }
     {
@@ -201,13 +201,15 @@ pub struct AnchorRecords<'a> {
 }
 
 impl<'a> AnchorRecords<'a> {
-    ghost use Rattle.std.specs.Prelude.{◌≡◌, ◌↔◌, [], ◌∷◌, None, IfSome};
+    ghost use Rattle.std.specs.Prelude.{◌≡◌, ◌↔◌, [], ◌∷◌, None, IfNone, IfSome};
     ghost use Rattle.dsec_anchors.specs.Anchors.{left_of};
 
     /// Takes the next anchor.
     pub fn next(&mut self) -> Option<&'a Record>
         ensures taken { IfSome result (λ one. left_of self.old ≡ one.now ∷ left_of self.new) }
         ensures end { result ≡ None ↔ (left_of self.old ≡ []) }
+        ensures ended { IfNone result (left_of self.new ≡ []) }
+        ensures owner { self.new.owner.now ≡ self.old.owner.now }
     {
         while let Some((one, rest)) = self.rest.split_first() {
             self.rest = rest;
