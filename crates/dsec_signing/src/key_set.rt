@@ -72,6 +72,8 @@ pub fn sign_key_set(
 ) -> Result<Record, SigningError>
     ensures signed { IfOk result (λ r. IsKeySetSigned (of_stand_in key.old) (record { inception = inception; expiration = expiration }) (keys_at (place apex.now) records.now) r) }
     ensures why { IfErr result (λ e. IsKeySetRefusal (record { inception = inception; expiration = expiration }) (keys_at (place apex.now) records.now) e) }
+    ensures kept { of_stand_in key.new ≡ of_stand_in key.old }
+    ensures flags { key.new.flags ≡ key.old.flags }
 {
     let places = key_places(alloc, apex, records)?;
     let set = Rrset::new_from_refs(records, &places)?;
