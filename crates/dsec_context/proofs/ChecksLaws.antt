@@ -1,47 +1,22 @@
 -- For each input no more sets are checked than its question and the group that it judges take.
-use Rattle.std.proofs.Common.{◌≡◌, ℕ, ◌+◌, ◌*◌, ◌≤◌, List, [], ◌∷◌, length, Option, Some, None, ap, ◌∙◌, arith, add-mul, mul-le-mul_right}
+use Rattle.std.proofs.Common.{◌≡◌, ℕ, ◌+◌, ◌≤◌, List, [], ◌∷◌, length, ap, ◌∙◌, arith}
 use Rattle.std.specs.List.{sum_by}
 use Rattle.std.proofs.lemmas.List.{length-append}
 use Rattle.std.proofs.lemmas.List.Sums.{sum_by-append}
 use Rattle.dsec_spec.specs.Groups.{Group}
 use Rattle.dsec_nodes.specs.World.{World}
-use Rattle.dsec_nodes.specs.Walk.{Reached}
-use Rattle.dsec_nodes.specs.Machine.{Question as Asked, Phase, begins, gets, asks_first, asks_keys, puts, ends, Walking, Step, node_get, node_put, ask, done, Input, begin, node, stored, reply, name_at, type_at, asked_type, advanced}
+use Rattle.dsec_nodes.specs.Machine.{Question as Asked, Walking, Step, node_get, node_put, ask, done, Input, begin, node, stored, reply, advanced}
 use Rattle.dsec_nodes.specs.Judging.{Finding, is_shown, has_no_set, is_insecure, is_bogus, is_indeterminate, by_node}
-use Rattle.dsec_walk.specs.Checks.{checked_first, checked_reply, most_checked_by}
+use Rattle.dsec_walk.specs.Checks.{most_checked_by, sets_in}
+use Rattle.dsec_walk.proofs.CheckLaws.{reply_sets}
 use Rattle.dsec_course.specs.Course.{Waiting, to_begin, to_end, for_walk, for_nothing, Course, CourseAnswers, asked_in, asked_by, Way, at_once, by_walk, way_of}
 use Rattle.dsec_course.specs.Advancing.{with_judged, with_walk, by_way, going_on, by_found, by_step, by_waiting, course_advanced}
 use Rattle.dsec_course.specs.Justified.{SoundCourse}
 use Rattle.dsec_course.proofs.StepLaws.{asked_grows}
 use Rattle.dsec_core.specs.Validating.{judged_by, most_checked_at}
-use Rattle.dsec_context.specs.Checked.{sets_in}
 use Rattle.dsec_context.specs.Turns.{sets_so_far}
 
--- so many more of each are no more than of all
-pub spent : (a p q k from at to : ℕ) → a + p ≤ q → at ≤ from + p * k → to ≤ at + a * k → to ≤ from + q * k
-spent a p q k from at to le h l =
-    let most : (a + p) * k ≤ q * k = mul-le-mul_right k le in
-    let both : (a + p) * k ≡ a * k + p * k = add-mul a p k in
-    omega (arith, most, both, h, l)
-
--- the sets of a reply are those of the question that it answers
-reply_sets : (s : Walking) (octets : Option (List ℕ))
-    → checked_reply s.phase s.reached octets ≤ sets_in (record { name = name_at s; rtype = asked_type s.phase s.reached; reply = octets })
-reply_sets s octets = by s.phase s.reached
-  where
-    first : (o : Option Reached) → checked_first o octets ≤ sets_in (record { name = name_at s; rtype = type_at o; reply = octets })
-    first None = omega arith
-    first (Some r) = omega arith
-
-    by : (x : Phase) (o : Option Reached) → checked_reply x o octets ≤ sets_in (record { name = name_at s; rtype = asked_type x o; reply = octets })
-    by (asks_keys pending) o = omega arith
-    by begins o = first o
-    by gets o = first o
-    by asks_first o = first o
-    by puts o = first o
-    by ends o = first o
-
--- so are those of what answers a step of a walk
+-- the sets of what answers a step of a walk are those of its question
 walk_sets : (group : Group) (s : Walking) (i : Input) → most_checked_by i s.phase s.reached ≤ sum_by sets_in (asked_by (for_walk group s) i)
 walk_sets group s begin = omega arith
 walk_sets group s (node o) = omega arith

@@ -18,7 +18,7 @@ use Rattle.dsec_course.specs.Course.{Course}
 use Rattle.dsec_course.specs.Advancing.{begun_with, begun_by, begun}
 use Rattle.dsec_course.proofs.BeginningLaws.{begun_waits}
 use Rattle.dsec_context.specs.Calls.{count_of}
-use Rattle.dsec_context.specs.Checked.{sets_in}
+use Rattle.dsec_walk.specs.Checks.{sets_in}
 
 -- so many things are read
 many_length : {A : Type 0} (read : ℕ → Option (A × ℕ)) (n at : ℕ) (r : List A × ℕ) → many_of read n at ≡ Some r → length r.0 ≡ n

@@ -21,10 +21,12 @@ use Rattle.dsec_context.specs.Serving.{IsServing}
 use Rattle.dsec_context.specs.Verdicts.{Verdict}
 use Rattle.dsec_context.specs.Calls.{count_of}
 use Rattle.dsec_context.specs.Judgements.{Judgement, judgement_at, IsJudging}
-use Rattle.dsec_context.specs.Checked.{sets_in, sets_at_most, IsJudgingWithin, HeardWithin}
+use Rattle.dsec_walk.specs.Checks.{sets_in, sets_at_most}
+use Rattle.dsec_walk.proofs.CheckLaws.{spent}
+use Rattle.dsec_context.specs.Checked.{IsJudgingWithin, HeardWithin}
 use Rattle.dsec_context.specs.Turns.{asks, sets_so_far, AreFew, CountsTo, IsAt}
 use Rattle.dsec_context.proofs.CallLaws.{groups_after, ends_ok, ok_asks, ends_refused, refused_asks, ends_without_memory, without_memory_asks, ends_at_a_question, at_a_question_asks}
-use Rattle.dsec_context.proofs.ChecksLaws.{spent, course_counts}
+use Rattle.dsec_context.proofs.ChecksLaws.{course_counts}
 use Rattle.dsec_context.proofs.ServingLaws.{serving_begins, serving_goes_on, serving_holds}
 use Rattle.dsec_context.proofs.TurnLaws.{served_answers, asked_waits, at_awaits}
 

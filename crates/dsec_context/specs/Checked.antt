@@ -1,25 +1,12 @@
 -- How many signatures are checked at most for a message that is judged over caches and an upstream (RFC 4035 5.2, 5.3).
-use Rattle.std.specs.Prelude.{◌≡◌, ◌≤◌, ℕ, ◌+◌, ◌*◌, ◌==◌, List, ◌++◌, map, Option, Some, IfSome, if◌then◌else◌}
-use Rattle.std.specs.List.{sum_by}
+use Rattle.std.specs.Prelude.{◌≡◌, ◌≤◌, ℕ, ◌+◌, ◌*◌, List, ◌++◌, map, Option, Some, IfSome}
 use Rattle.dsec_spec.specs.Outside.{Entry, Table}
-use Rattle.dsec_spec.specs.Numbers.{DS}
-use Rattle.dsec_child.specs.Belows.{most_checked}
 use Rattle.dsec_nodes.specs.World.{World}
-use Rattle.dsec_nodes.specs.Machine.{Question as Asked}
-use Rattle.dsec_nodes.specs.Replies.{read_reply}
+use Rattle.dsec_walk.specs.Checks.{sets_at_most}
 use Rattle.dsec_course.specs.Advancing.{begun}
 use Rattle.dsec_context.specs.Outside.{Outside, asked_by}
 use Rattle.dsec_context.specs.Calls.{count_of}
 use Rattle.dsec_context.specs.Judgements.{Judgement, IsJudging}
-
--- how many sets of the reply to a question are checked at most: to the one for a DS set a DS set, a CNAME set and each set of its authority section;
--- to the one for a DNSKEY set that set (RFC 4035 5.2)
-abbrev pub sets_in : Asked → ℕ
-sets_in q = if q.rtype == DS then most_checked (read_reply q.reply) else 1
-
--- how many sets are checked at most for a message that asked these questions, where so many of its groups are judged (RFC 4035 5.2, 5.3)
-abbrev pub sets_at_most : List Asked → ℕ → ℕ
-sets_at_most asked groups = sum_by sets_in asked + groups
 
 -- What judging promises; and of these two counts of checked signatures the later is greater by no more than what is tried of one set, for each set
 -- that the replies to its questions can have checked, and for each group of the message (RFC 4035 5.2, 5.3)

@@ -9,7 +9,8 @@ use Rattle.dsec_core.specs.declared.step.Step.{Step}
 use Rattle.dsec_context.specs.Outside.{Outside}
 use Rattle.dsec_context.specs.Serving.{IsServing}
 use Rattle.dsec_context.specs.Judgements.{judgement_at}
-use Rattle.dsec_context.specs.Checked.{sets_at_most, IsJudgingWithin}
+use Rattle.dsec_walk.specs.Checks.{sets_at_most}
+use Rattle.dsec_context.specs.Checked.{IsJudgingWithin}
 
 -- whether a step is the end
 abbrev pub ends : CourseStep → Bool

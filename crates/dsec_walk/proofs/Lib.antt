@@ -2,3 +2,4 @@ pub mod Worlds
 pub mod Heard
 pub mod Making
 pub mod UnderWayLaws
+pub mod CheckLaws
