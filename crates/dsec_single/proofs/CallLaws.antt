@@ -1,5 +1,6 @@
 -- What a call promises where a group is judged at once, or its walk ends.
-use Rattle.std.proofs.Common.{◌≡◌, ℕ, ◌+◌, ◌≤◌, [], length, Option, Some, None, IfSome, refl, sym, ap, ◌∙◌, subst, arith}
+use Rattle.std.proofs.Common.{◌≡◌, ℕ, ◌+◌, ◌*◌, ◌≤◌, [], length, Option, Some, None, IfSome, refl, sym, ap, ◌∙◌, subst, arith}
+use Rattle.std.specs.List.{sum_by}
 use Rattle.dsec_spec.specs.Names.{Place}
 use Rattle.dsec_spec.specs.Outside.{Table}
 use Rattle.dsec_spec.specs.Groups.{Group}
@@ -20,6 +21,9 @@ use Rattle.dsec_by_node.specs.Answers.{Answer, answer_by}
 use Rattle.dsec_single.specs.Trips.{Trip, first_trip, IsTrip}
 use Rattle.dsec_single.specs.Progress.{IsStuck, IsEnded}
 use Rattle.dsec_single.specs.Calls.{Tells, TellsAt, WasJudged, IsWanting, zone_on, zone_for, most_by, AgreesOn, IsSingleCall}
+use Rattle.dsec_walk.specs.Checks.{sets_in}
+use Rattle.dsec_single.specs.Checked.{IsSingleCallWithin}
+use Rattle.dsec_single.proofs.ChecksLaws.{one_more}
 use Rattle.dsec_single.proofs.EndLaws.{needs_walk}
 use Rattle.dsec_single.proofs.TripLaws.{HoldsTrip, got_of}
 use Rattle.dsec_single.proofs.ServeLaws.{trip_holds, trip_first}
@@ -44,49 +48,55 @@ module _ (w : World) (group : Group) (table : Option Table) (before after : Outs
       f ∙ ap (λ (j : Judged). answer_by group (moment w) j.finding) (sym same)
 
   -- a walk that has come so far
-  pub walked_call : (top : Place) (lost : ℕ) (t : Trip) (answer : Option Answer) → way_of w group ≡ by_walk top
+  pub walked_call : (top : Place) (lost : ℕ) (t : Trip) (answer : Option Answer) (from to : ℕ) → way_of w group ≡ by_walk top
       → IsTrip w table before after top (target_of group (Some top)) lost t → IsWanting answer lost → TellsAt w group t.step answer
-      → IsSingleCall w group table before after answer
-  walked_call top lost t answer way s wanting tells = record {
-    asked = t.walk.asked;
-    lost = lost;
-    counted = s.counted;
-    wanting = wanting;
-    few = subst (λ (x : Way). length t.walk.asked + lost ≤ most_by group x) (sym way) s.few;
-    puts = t.puts;
-    holds_more = s.holds_more;
-    judged = subst (WasJudged w group (WasHeld w.accepts before.held) t.walk.asked t.puts answer) (sym way) (record {
-      inputs = s.inputs;
-      given = s.given;
-      are = ap (λ (x : Trip). x.walk.asked) (sym s.comes_to);
-      puts_are = ap (λ (x : Trip). x.puts) (sym s.comes_to);
-      tells = subst (λ (x : Trip). TellsAt w group x.step answer) (sym s.comes_to) tells;
-    });
-    agrees = λ replies h asked.
-        let target : Place = target_of group (Some top) in
-        let of : (m : Node) → WasHeld w.accepts before.held m → IsOfTable w replies m = held_of_table w replies before.held h in
-        record {
-          tells = told_by top lost t answer replies (needs_walk w group top way) s tells h asked;
-          holds = holds_after w replies before.held after.held t.puts s.holds_more h
-              ((trip_holds w table before after top target lost t s).of_table replies of asked);
-        };
-  }
+      → to ≤ from + (sum_by sets_in t.walk.asked + 1) * w.bounds.room → IsSingleCallWithin w group table before after answer from to
+  walked_call top lost t answer from to way s wanting tells checks =
+      let call : IsSingleCall w group table before after answer = record {
+        asked = t.walk.asked;
+        lost = lost;
+        counted = s.counted;
+        wanting = wanting;
+        few = subst (λ (x : Way). length t.walk.asked + lost ≤ most_by group x) (sym way) s.few;
+        puts = t.puts;
+        holds_more = s.holds_more;
+        judged = subst (WasJudged w group (WasHeld w.accepts before.held) t.walk.asked t.puts answer) (sym way) (record {
+          inputs = s.inputs;
+          given = s.given;
+          are = ap (λ (x : Trip). x.walk.asked) (sym s.comes_to);
+          puts_are = ap (λ (x : Trip). x.puts) (sym s.comes_to);
+          tells = subst (λ (x : Trip). TellsAt w group x.step answer) (sym s.comes_to) tells;
+        });
+        agrees = λ replies h asked.
+            let target : Place = target_of group (Some top) in
+            let of : (m : Node) → WasHeld w.accepts before.held m → IsOfTable w replies m = held_of_table w replies before.held h in
+            record {
+              tells = told_by top lost t answer replies (needs_walk w group top way) s tells h asked;
+              holds = holds_after w replies before.held after.held t.puts s.holds_more h
+                  ((trip_holds w table before after top target lost t s).of_table replies of asked);
+            };
+      } in
+      record { call = call; few = checks }
 
   -- a walk that has come to its end
-  pub ended_call : (top : Place) (n : Node) (a : Answer) → way_of w group ≡ by_walk top
-      → IsEnded w table before after top (target_of group (Some top)) n → a ≡ answer_by group (moment w) (by_node w group n).finding
-      → IsSingleCall w group table before after (Some a)
-  ended_call top n a way (t, e, s) f = walked_call top 0 t (Some a) way s refl (n, e, f)
+  pub ended_call : (top : Place) (n : Node) (a : Answer) (from reached to : ℕ) → way_of w group ≡ by_walk top
+      → IsEnded w table before after top (target_of group (Some top)) n from reached → to ≤ reached + w.bounds.room
+      → a ≡ answer_by group (moment w) (by_node w group n).finding → IsSingleCallWithin w group table before after (Some a) from to
+  ended_call top n a from reached to way (t, e, s, few) more f =
+      walked_call top 0 t (Some a) from to way s refl (n, e, f) (one_more (sum_by sets_in t.walk.asked) w.bounds.room from reached to few more)
 
   -- or to its end, and there is no memory for what is told
-  pub ended_without : (top : Place) (n : Node) → way_of w group ≡ by_walk top
-      → IsEnded w table before after top (target_of group (Some top)) n → IsSingleCall w group table before after None
-  ended_without top n way (t, e, s) = walked_call top 0 t None way s (omega arith) tt
+  pub ended_without : (top : Place) (n : Node) (from reached to : ℕ) → way_of w group ≡ by_walk top
+      → IsEnded w table before after top (target_of group (Some top)) n from reached → to ≤ reached + w.bounds.room
+      → IsSingleCallWithin w group table before after None from to
+  ended_without top n from reached to way (t, e, s, few) more =
+      walked_call top 0 t None from to way s (omega arith) tt (one_more (sum_by sets_in t.walk.asked) w.bounds.room from reached to few more)
 
   -- or no further
-  pub stuck_call : (top : Place) → way_of w group ≡ by_walk top → IsStuck w table before after top (target_of group (Some top))
-      → IsSingleCall w group table before after None
-  stuck_call top way (t, lost, one, s) = walked_call top lost t None way s one tt
+  pub stuck_call : (top : Place) (from to : ℕ) → way_of w group ≡ by_walk top → IsStuck w table before after top (target_of group (Some top)) from to
+      → IsSingleCallWithin w group table before after None from to
+  stuck_call top from to way (t, lost, one, s, few) =
+      walked_call top lost t None from to way s one tt (one_more (sum_by sets_in t.walk.asked) w.bounds.room from to to few (omega arith))
 
   -- by a table that is told
   pub told_call : (answer : Option Answer) → IsSingleCall w group table before after answer
@@ -98,13 +108,13 @@ module _ (w : World) (group : Group) (table : Option Table) (before after : Outs
       by None told = tt
       by (Some t) told = λ h. c.agrees (replies_of t) h told
 
-module _ (w : World) (group : Group) (table : Option Table) (before : Outside) where
+module _ (w : World) (group : Group) (table : Option Table) (before : Outside) (from : ℕ) where
   -- a group that is judged at once
   pub once_call : (j : Judged) (answer : Option Answer) → way_of w group ≡ at_once j → IsWanting answer 0
-      → Tells (answer_by group (moment w) j.finding) answer → IsSingleCall w group table before before answer
+      → Tells (answer_by group (moment w) j.finding) answer → IsSingleCallWithin w group table before before answer from from
   once_call j answer way wanting tells =
       let once = subst (WayIs w group) way (way_is w group) in
-      record {
+      let call : IsSingleCall w group table before before answer = record {
         asked = [];
         lost = 0;
         counted = counted_none table before;
@@ -117,20 +127,22 @@ module _ (w : World) (group : Group) (table : Option Table) (before : Outside) w
           tells = subst (λ (x : Judged). Tells (answer_by group (moment w) x.finding) answer) (sym (once.same replies)) tells;
           holds = h;
         };
-      }
+      } in
+      record { call = call; few = omega arith }
 
   -- there is no memory to begin with
-  pub unbegun_call : IsSingleCall w group table before before None
+  pub unbegun_call : IsSingleCallWithin w group table before before None from from
   unbegun_call = by (way_of w group) refl
     where
-      by : (x : Way) → way_of w group ≡ x → IsSingleCall w group table before before None
+      by : (x : Way) → way_of w group ≡ x → IsSingleCallWithin w group table before before None from from
       by (at_once j) e = once_call j None e (omega arith) tt
       by (by_walk top) e =
           let needs = needs_walk w group top e in
           let f = target_below w group top needs.from_island in
-          walked_call w group table before before top 0 (first_trip w top (target_of group (Some top))) None e
-          (trip_first w table before top (target_of group (Some top)) f.below f.shorter) (omega arith) tt
+          walked_call w group table before before top 0 (first_trip w top (target_of group (Some top))) None from from e
+          (trip_first w table before top (target_of group (Some top)) f.below f.shorter) (omega arith) tt (omega arith)
 
+module _ (w : World) (group : Group) where
   -- the zone that is to have signed a group
   pub zone_is : (x : Way) → way_of w group ≡ x → zone_for w group ≡ zone_on group x
   zone_is x e = ap (zone_on group) e

@@ -1,5 +1,5 @@
 -- What a call comes to in code: by its walk's end, or at once.
-use Rattle.std.proofs.Common.{◌≡◌, true, [], Option, Some, None, Result, Ok, Err, IfOk, refl, sym, ap, ◌∙◌, subst, inr}
+use Rattle.std.proofs.Common.{◌≡◌, ℕ, ◌+◌, ◌≤◌, true, [], Option, Some, None, Result, Ok, Err, IfOk, refl, sym, ap, ◌∙◌, subst, inr}
 use Rattle.std.specs.Prelude.{◌≢◌}
 use Rattle.dsec_spec.specs.Names.{Labels, Place, place}
 use Rattle.dsec_spec.specs.Accepts.{Accepts}
@@ -16,6 +16,7 @@ use Rattle.dsec_by_node.specs.Answers.{answer_by, Told, validated_by, told_in, C
 use Rattle.dsec_by_node.specs.WithNode.{tells_of}
 use Rattle.dsec_single.specs.Progress.{IsStuck, IsEnded}
 use Rattle.dsec_single.specs.Calls.{answered, zone_for, of_signatures_alone, of_no_island, IsSingleCall}
+use Rattle.dsec_single.specs.Checked.{IsSingleCallWithin}
 use Rattle.dsec_single.specs.Sound.{IsSoundOn}
 use Rattle.dsec_single.proofs.WayLaws.{no_set, no_island, way_without_set, way_without_island}
 use Rattle.dsec_by_node.proofs.GroundLaws.{if_ok}
@@ -24,112 +25,113 @@ use Rattle.dsec_single.proofs.CallLaws.{ended_call, ended_without, stuck_call, o
 use Rattle.dsec_single.proofs.SoundLaws.{IsAnchored, can_tell, sound_on}
 
 -- what a call promises of what it tells
-pub record IsToldSo (w : World) (group : Group) (table : Option Table) (before after : Outside) (zone : Place) (told : Told) : Type 0 where
-  pub call : IsSingleCall w group table before after (Some told.answer)
+pub record IsToldSo (w : World) (group : Group) (table : Option Table) (before after : Outside) (from to : ℕ) (zone : Place) (told : Told) : Type 0 where
+  pub checks : IsSingleCallWithin w group table before after (Some told.answer) from to
   pub sound : IsSoundOn w group zone told
   pub justified : CanBeTold w.accepts group zone told
 
 module _ (w : World) (group : Group) (table : Option Table) (before after : Outside) (top zone : Place) (way : way_of w group ≡ by_walk top)
     (its : zone ≡ target_of group (Some top)) where
-  module _ (n : Node) (ended : IsEnded w table before after top zone n) where
-    to_target : IsEnded w table before after top (target_of group (Some top)) n
-    to_target = subst (λ (z : Place). IsEnded w table before after top z n) its ended
+  module _ (n : Node) (from reached : ℕ) (ended : IsEnded w table before after top zone n from reached) where
+    to_target : IsEnded w table before after top (target_of group (Some top)) n from reached
+    to_target = subst (λ (z : Place). IsEnded w table before after top z n from reached) its ended
 
     end : IsEndOf w group top n
-    end = end_of w table before after group top n way to_target
+    end = end_of w table before after group top n from reached way to_target
 
     -- the node tells something of the group
     pub end_tells : tells_of w group n ≡ true
     end_tells = end.tells
 
-    -- what is told by it
-    pub told_at_end : (told : Told) → told.answer ≡ answer_by group (moment w) (by_node w group n).finding → CanBeTold w.accepts group n.signer told
-        → IsAnchored w n told.shown → IsToldSo w group table before after zone told
-    told_at_end told is can anchored = record {
-      call = ended_call w group table before after top n told.answer way to_target is;
-      sound = subst (λ (z : Place). IsSoundOn w group z told) (sym its) (sound_on w group top n end told is can anchored);
-      justified = subst (λ (z : Place). CanBeTold w.accepts group z told) (sym its) (can_tell w group top n end told is can);
-    }
+    module _ (to : ℕ) (more : to ≤ reached + w.bounds.room) where
+      -- what is told by it
+      pub told_at_end : (told : Told) → told.answer ≡ answer_by group (moment w) (by_node w group n).finding → CanBeTold w.accepts group n.signer told
+          → IsAnchored w n told.shown → IsToldSo w group table before after from to zone told
+      told_at_end told is can anchored = record {
+        checks = ended_call w group table before after top n told.answer from reached to way to_target more is;
+        sound = subst (λ (z : Place). IsSoundOn w group z told) (sym its) (sound_on w group top n end told is can anchored);
+        justified = subst (λ (z : Place). CanBeTold w.accepts group z told) (sym its) (can_tell w group top n end told is can);
+      }
 
-    -- or there is no memory for that
-    pub untold_at_end : IsSingleCall w group table before after None
-    untold_at_end = ended_without w group table before after top n way to_target
+      -- or there is no memory for that
+      pub untold_at_end : IsSingleCallWithin w group table before after None from to
+      untold_at_end = ended_without w group table before after top n from reached to way to_target more
 
-    -- what is told of it in code, or there is no memory
-    module _ {A E : Type 0} (result : Result A E) (told : A → Told) (is : IfOk result (λ a. (told a).answer ≡ answer_by group (moment w) (by_node w group n).finding))
-        (can : IfOk result (λ a. CanBeTold w.accepts group n.signer (told a))) (anchored : IfOk result (λ a. IsAnchored w n (told a).shown)) where
-      pub end_call : IsSingleCall w group table before after (answered result (λ a. (told a).answer))
-      end_call = by result is can anchored
-        where
-          by : (r : Result A E) → IfOk r (λ a. (told a).answer ≡ answer_by group (moment w) (by_node w group n).finding)
-              → IfOk r (λ a. CanBeTold w.accepts group n.signer (told a)) → IfOk r (λ a. IsAnchored w n (told a).shown)
-              → IsSingleCall w group table before after (answered r (λ a. (told a).answer))
-          by (Ok a) f g h = (told_at_end (told a) f g h).call
-          by (Err e) f g h = untold_at_end
+      -- what is told of it in code, or there is no memory
+      module _ {A E : Type 0} (result : Result A E) (told : A → Told) (is : IfOk result (λ a. (told a).answer ≡ answer_by group (moment w) (by_node w group n).finding))
+          (can : IfOk result (λ a. CanBeTold w.accepts group n.signer (told a))) (anchored : IfOk result (λ a. IsAnchored w n (told a).shown)) where
+        pub end_call : IsSingleCallWithin w group table before after (answered result (λ a. (told a).answer)) from to
+        end_call = by result is can anchored
+          where
+            by : (r : Result A E) → IfOk r (λ a. (told a).answer ≡ answer_by group (moment w) (by_node w group n).finding)
+                → IfOk r (λ a. CanBeTold w.accepts group n.signer (told a)) → IfOk r (λ a. IsAnchored w n (told a).shown)
+                → IsSingleCallWithin w group table before after (answered r (λ a. (told a).answer)) from to
+            by (Ok a) f g h = (told_at_end (told a) f g h).checks
+            by (Err e) f g h = untold_at_end
 
-      pub end_sound : (zone_in : A → Place) → IfOk result (λ a. zone_in a ≡ zone) → IfOk result (λ a. IsSoundOn w group (zone_in a) (told a))
-      end_sound zone_in at = by result is can anchored at
-        where
-          by : (r : Result A E) → IfOk r (λ a. (told a).answer ≡ answer_by group (moment w) (by_node w group n).finding)
-              → IfOk r (λ a. CanBeTold w.accepts group n.signer (told a)) → IfOk r (λ a. IsAnchored w n (told a).shown)
-              → IfOk r (λ a. zone_in a ≡ zone) → IfOk r (λ a. IsSoundOn w group (zone_in a) (told a))
-          by (Ok a) f g h at = subst (λ (z : Place). IsSoundOn w group z (told a)) (sym at) (told_at_end (told a) f g h).sound
-          by (Err e) f g h at = tt
+        pub end_sound : (zone_in : A → Place) → IfOk result (λ a. zone_in a ≡ zone) → IfOk result (λ a. IsSoundOn w group (zone_in a) (told a))
+        end_sound zone_in at = by result is can anchored at
+          where
+            by : (r : Result A E) → IfOk r (λ a. (told a).answer ≡ answer_by group (moment w) (by_node w group n).finding)
+                → IfOk r (λ a. CanBeTold w.accepts group n.signer (told a)) → IfOk r (λ a. IsAnchored w n (told a).shown)
+                → IfOk r (λ a. zone_in a ≡ zone) → IfOk r (λ a. IsSoundOn w group (zone_in a) (told a))
+            by (Ok a) f g h at = subst (λ (z : Place). IsSoundOn w group z (told a)) (sym at) (told_at_end (told a) f g h).sound
+            by (Err e) f g h at = tt
 
-      pub end_justified : (zone_in : A → Place) → IfOk result (λ a. zone_in a ≡ zone) → IfOk result (λ a. CanBeTold w.accepts group (zone_in a) (told a))
-      end_justified zone_in at = by result is can anchored at
-        where
-          by : (r : Result A E) → IfOk r (λ a. (told a).answer ≡ answer_by group (moment w) (by_node w group n).finding)
-              → IfOk r (λ a. CanBeTold w.accepts group n.signer (told a)) → IfOk r (λ a. IsAnchored w n (told a).shown)
-              → IfOk r (λ a. zone_in a ≡ zone) → IfOk r (λ a. CanBeTold w.accepts group (zone_in a) (told a))
-          by (Ok a) f g h at = subst (λ (z : Place). CanBeTold w.accepts group z (told a)) (sym at) (told_at_end (told a) f g h).justified
-          by (Err e) f g h at = tt
+        pub end_justified : (zone_in : A → Place) → IfOk result (λ a. zone_in a ≡ zone) → IfOk result (λ a. CanBeTold w.accepts group (zone_in a) (told a))
+        end_justified zone_in at = by result is can anchored at
+          where
+            by : (r : Result A E) → IfOk r (λ a. (told a).answer ≡ answer_by group (moment w) (by_node w group n).finding)
+                → IfOk r (λ a. CanBeTold w.accepts group n.signer (told a)) → IfOk r (λ a. IsAnchored w n (told a).shown)
+                → IfOk r (λ a. zone_in a ≡ zone) → IfOk r (λ a. CanBeTold w.accepts group (zone_in a) (told a))
+            by (Ok a) f g h at = subst (λ (z : Place). CanBeTold w.accepts group z (told a)) (sym at) (told_at_end (told a) f g h).justified
+            by (Err e) f g h at = tt
 
   -- or the walk doesn't come to its end
-  pub stuck : IsStuck w table before after top zone → IsSingleCall w group table before after None
-  stuck s = stuck_call w group table before after top way (subst (IsStuck w table before after top) its s)
+  pub stuck : (from to : ℕ) → IsStuck w table before after top zone from to → IsSingleCallWithin w group table before after None from to
+  stuck from to s = stuck_call w group table before after top from to way (subst (λ (z : Place). IsStuck w table before after top z from to) its s)
 
   -- the zone is the group's
   pub zone_of_walk : zone ≡ zone_for w group
-  zone_of_walk = its ∙ sym (zone_is w group table before (by_walk top) way)
+  zone_of_walk = its ∙ sym (zone_is w group (by_walk top) way)
 
   pub zones_of_walk : {A E : Type 0} (result : Result A E) (zone_in : A → Place) → IfOk result (λ a. zone_in a ≡ zone) → IfOk result (λ a. zone_in a ≡ zone_for w group)
   zones_of_walk result zone_in at = if_ok (λ a. zone_in a ≡ zone) (λ a. zone_in a ≡ zone_for w group) result (λ a e. e ∙ zone_of_walk) at
 
-module _ (w : World) (group : Group) (table : Option Table) (before : Outside) (zone : Place) (told : Told) where
+module _ (w : World) (group : Group) (table : Option Table) (before : Outside) (from : ℕ) (zone : Place) (told : Told) where
   -- a group of signatures alone
   pub told_without_set : group.records ≡ []
       → told ≡ of_signatures_alone
-      → IsToldSo w group table before before zone told
+      → IsToldSo w group table before before from from zone told
   told_without_set none is =
       let way = way_without_set w group none in
-      let so : IsToldSo w group table before before zone of_signatures_alone = record {
-        call = once_call w group table before (no_set group) (Some of_signatures_alone.answer) way refl refl;
+      let so : IsToldSo w group table before before from from zone of_signatures_alone = record {
+        checks = once_call w group table before from (no_set group) (Some of_signatures_alone.answer) way refl refl;
         sound = inr (none, refl);
         justified = record { no_encloser = refl; not_cut = refl };
       } in
-      subst (IsToldSo w group table before before zone) (sym is) so
+      subst (IsToldSo w group table before before from from zone) (sym is) so
 
   -- a group without an island
   pub told_without_island : group.records ≢ [] → island w.anchors (place group.owner) group.rtype ≡ None
       → told ≡ of_no_island
-      → IsToldSo w group table before before zone told
+      → IsToldSo w group table before before from from zone told
   told_without_island some none is =
       let way = way_without_island w group some none in
-      let so : IsToldSo w group table before before zone of_no_island = record {
-        call = once_call w group table before (no_island group) (Some of_no_island.answer) way refl refl;
+      let so : IsToldSo w group table before before from from zone of_no_island = record {
+        checks = once_call w group table before from (no_island group) (Some of_no_island.answer) way refl refl;
         sound = (none, refl);
         justified = record { no_encloser = refl; not_cut = refl };
       } in
-      subst (IsToldSo w group table before before zone) (sym is) so
+      subst (IsToldSo w group table before before from from zone) (sym is) so
 
 -- the zones of both
-module _ (w : World) (group : Group) (table : Option Table) (before : Outside) where
+module _ (w : World) (group : Group) where
   pub zone_without_set : group.records ≡ [] → [] ≡ zone_for w group
-  zone_without_set none = sym (zone_is w group table before (at_once (no_set group)) (way_without_set w group none))
+  zone_without_set none = sym (zone_is w group (at_once (no_set group)) (way_without_set w group none))
 
   pub zone_without_island : group.records ≢ [] → island w.anchors (place group.owner) group.rtype ≡ None → target_of group None ≡ zone_for w group
-  zone_without_island some none = sym (zone_is w group table before (at_once (no_island group)) (way_without_island w group some none))
+  zone_without_island some none = sym (zone_is w group (at_once (no_island group)) (way_without_island w group some none))
 
 -- a copy of a group with what is told of it
 module _ (v : Validated) (own group : Group) (signer : Labels) (told : Told) (is : v ≡ validated_by own signer told) (same : own ≡ group) where

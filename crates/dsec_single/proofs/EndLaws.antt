@@ -11,7 +11,7 @@ use Rattle.dsec_spec.proofs.NamesBelow.{below_trans}
 use Rattle.dsec_spec.proofs.SignedTests.{below_decides}
 use Rattle.dsec_nodes.specs.World.{World}
 use Rattle.dsec_nodes.specs.Nodes.{Node, apex, Kept}
-use Rattle.dsec_nodes.specs.Walk.{Reached, goes_on, goes_on_at}
+use Rattle.dsec_nodes.specs.Walk.{Reached, goes_on_at}
 use Rattle.dsec_nodes.specs.Taking.{Rests, is_in_time}
 use Rattle.dsec_nodes.specs.Machine.{Walking, Step, done}
 use Rattle.dsec_nodes.specs.SoundSteps.{OnTheWay, SoundAt, StepKept}
@@ -49,9 +49,9 @@ at_end w s None n f (r, e, is) = absurd (let clash : None ≡ Some r = e in cc)
 at_end w s (Some q) n f (r, e, is) = (length s.top + f.0, q, ap (λ (x : Reached). x.node) (let same : q ≡ r = cc in same) ∙ is, f.3)
 
 -- the node with which a walk for a group ends
-pub end_of : (w : World) (table : Option Table) (before now : Outside) (group : Group) (top : Place) (n : Node) → way_of w group ≡ by_walk top
-    → IsEnded w table before now top (target_of group (Some top)) n → IsEndOf w group top n
-end_of w table before now group top n way (t, e, s) = record {
+pub end_of : (w : World) (table : Option Table) (before now : Outside) (group : Group) (top : Place) (n : Node) (a b : ℕ) → way_of w group ≡ by_walk top
+    → IsEnded w table before now top (target_of group (Some top)) n a b → IsEndOf w group top n
+end_of w table before now group top n a b way (t, e, s, few) = record {
   from_island = needs.from_island;
   tells = ap (λ (b : Bool). b && is_over n group) in_time ∙ (below_decides (looked_for_at (place group.owner) group.rtype) n.name).1 over;
   rests = subst (Rests w.anchors top) same on.node_rests;

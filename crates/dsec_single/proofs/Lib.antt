@@ -1,4 +1,5 @@
 pub mod NameLaws
+pub mod ChecksLaws
 pub mod TripLaws
 pub mod ServeLaws
 pub mod StepLaws

@@ -30,7 +30,7 @@ listed_after w [] t h = h
 listed_after w (i ∷ inputs) t h = listed_after w inputs (trip_on w t i) (λ n there. in_back n t.puts (put_in (trip_on w t i).step) there)
 
 -- what was asked after an input that answers
-asked_is : (w : World) (held : Node → Type 0) (top target : Place) (t : Trip) (i : Input) → HoldsTrip w held top target t → Answers t.walk.phase i
+pub asked_is : (w : World) (held : Node → Type 0) (top target : Place) (t : Trip) (i : Input) → HoldsTrip w held top target t → Answers t.walk.phase i
     → (trip_on w t i).walk.asked ≡ asked_after t.walk i
 asked_is w held top target t i h a = (advances w t.walk i a).leaves.asked_is h.under_way.is_counted.waits
 

@@ -1,6 +1,6 @@
 //! Groups validated from trust anchors, over caches, a memo and an upstream (RFC 4033 5, RFC 4035 4.3, 5).
 
-ghost use Rattle.std.specs.Prelude.{◌≡◌, ◌<◌, ◌≢◌, [], IfOk, IfSome, Some, true};
+ghost use Rattle.std.specs.Prelude.{◌≡◌, ◌<◌, ◌≤◌, ◌≢◌, ◌+◌, [], IfOk, IfSome, Some, true};
 ghost use Rattle.std.specs.Arc.{arc_value};
 ghost use Rattle.dsec_spec.specs.Names.{place, IsAtOrBelow};
 ghost use Rattle.dsec_course.specs.Course.{by_walk, way_of};
@@ -11,6 +11,7 @@ ghost use Rattle.dsec_walk.specs.Views.{world_in};
 ghost use Rattle.dsec_lookup.specs.Outside.{replies_of, HoldsTable};
 ghost use Rattle.dsec_by_node.specs.Answers.{CanBeTold, answer_by};
 ghost use Rattle.dsec_single.specs.Calls.{answered, of_no_island, of_signatures_alone, zone_for, AgreesOn, IsSingleCall};
+ghost use Rattle.dsec_single.specs.Checked.{HeardWithin, IsSingleCallWithin};
 ghost use Rattle.dsec_single.specs.Sound.{IsSoundOn};
 ghost use Rattle.dsec_by_node.specs.WithNode.{tells_of};
 
@@ -55,18 +56,15 @@ pub fn validate_with_vc<V: Verifier, C: Caches<V>, M: Memo<V>, U: Upstream>(
         (record { held = C.held caches.new; asked = U.asked upstream.new; faults = U.faults upstream.new; heard = U.heard upstream.new }) (answered result (λ it. it.told.answer)) (replies_of t)) }
     ensures same_table { U.table upstream.new ≡ U.table upstream.old }
 {
-    let setting = Setting {
-        anchors: anchors.as_slice(),
-        config,
-        moment: now,
-    };
     counted::<V, C, M, U, Brand>(
         alloc,
         group,
-        &setting,
+        anchors,
+        config,
         caches,
         memo,
         upstream,
+        now,
         Blank::new(1),
     )
 }
@@ -75,18 +73,85 @@ pub fn validate_with_vc<V: Verifier, C: Caches<V>, M: Memo<V>, U: Upstream>(
 fn counted<V: Verifier, C: Caches<V>, M: Memo<V>, U: Upstream, L: Ledger>(
     alloc: Global,
     group: &Group,
-    setting: &Setting<'_>,
+    anchors: &TrustAnchors,
+    config: &Config,
     caches: &mut C,
     memo: &mut M,
     upstream: &mut U,
+    now: u64,
     blank: Blank,
 ) -> Result<WithContext<V>, NoMemory>
     requires name { blank.name ≡ L.name }
     requires parts { blank.parts ≡ L.parts }
     requires shared { 0 < L.parts }
-    ensures call { IsSingleCall (world_in V.accepts setting.now) group.now (U.table upstream.old)
+    ensures call { IsSingleCall (world_of V.accepts anchors.now (bounds_of config.now) now) group.now (U.table upstream.old)
         (record { held = C.held caches.old; asked = U.asked upstream.old; faults = U.faults upstream.old; heard = U.heard upstream.old })
         (record { held = C.held caches.new; asked = U.asked upstream.new; faults = U.faults upstream.new; heard = U.heard upstream.new }) (answered result (λ it. it.told.answer)) }
+    ensures target { IfOk result (λ it. place it.target ≡ zone_for (world_of V.accepts anchors.now (bounds_of config.now) now) group.now) }
+    ensures sound { IfOk result (λ it. IsSoundOn (world_of V.accepts anchors.now (bounds_of config.now) now) group.now (place it.target) it.told) }
+    ensures justified { IfOk result (λ it. CanBeTold V.accepts group.now (place it.target) it.told) }
+    ensures told { IfSome (U.table upstream.old) (λ t. HoldsTable (world_of V.accepts anchors.now (bounds_of config.now) now) (replies_of t) (C.held caches.old)
+        → AgreesOn (world_of V.accepts anchors.now (bounds_of config.now) now) group.now
+        (record { held = C.held caches.new; asked = U.asked upstream.new; faults = U.faults upstream.new; heard = U.heard upstream.new }) (answered result (λ it. it.told.answer)) (replies_of t)) }
+    ensures same_table { U.table upstream.new ≡ U.table upstream.old }
+{
+    let mut steps = Steps::<L>::begin(blank);
+    validate_with_vc_in_steps(
+        alloc, group, anchors, config, caches, memo, upstream, now, &mut steps,
+    )
+}
+
+/// `validate_with_vc` on the caller's ledger: each check of a signature is one of its steps. Of each set `max_bad_signatures + 1` signatures are
+/// checked at most. A question takes as many sets as its reply can have checked: to the one for a DS set a DS set, a CNAME set and each set of the
+/// authority section, which has no more than 65,535 records (RFC 1035 4.1.1); to the one for a DNSKEY set that set. The group itself is one set
+/// more. So whatever caches and upstream do, and however the call ends, the replies bound the number of checks.
+pub fn validate_with_vc_in_steps<V: Verifier, C: Caches<V>, M: Memo<V>, U: Upstream, L: Ledger>(
+    alloc: Global,
+    group: &Group,
+    anchors: &TrustAnchors,
+    config: &Config,
+    caches: &mut C,
+    memo: &mut M,
+    upstream: &mut U,
+    now: u64,
+    steps: &mut Steps<L>,
+) -> Result<WithContext<V>, NoMemory>
+    ensures call { IsSingleCall (world_of V.accepts anchors.now (bounds_of config.now) now) group.now (U.table upstream.old)
+        (record { held = C.held caches.old; asked = U.asked upstream.old; faults = U.faults upstream.old; heard = U.heard upstream.old })
+        (record { held = C.held caches.new; asked = U.asked upstream.new; faults = U.faults upstream.new; heard = U.heard upstream.new }) (answered result (λ it. it.told.answer)) }
+    ensures target { IfOk result (λ it. place it.target ≡ zone_for (world_of V.accepts anchors.now (bounds_of config.now) now) group.now) }
+    ensures sound { IfOk result (λ it. IsSoundOn (world_of V.accepts anchors.now (bounds_of config.now) now) group.now (place it.target) it.told) }
+    ensures justified { IfOk result (λ it. CanBeTold V.accepts group.now (place it.target) it.told) }
+    ensures told { IfSome (U.table upstream.old) (λ t. HoldsTable (world_of V.accepts anchors.now (bounds_of config.now) now) (replies_of t) (C.held caches.old)
+        → AgreesOn (world_of V.accepts anchors.now (bounds_of config.now) now) group.now
+        (record { held = C.held caches.new; asked = U.asked upstream.new; faults = U.faults upstream.new; heard = U.heard upstream.new }) (answered result (λ it. it.told.answer)) (replies_of t)) }
+    ensures checks { IsSingleCallWithin (world_of V.accepts anchors.now (bounds_of config.now) now) group.now (U.table upstream.old)
+        (record { held = C.held caches.old; asked = U.asked upstream.old; faults = U.faults upstream.old; heard = U.heard upstream.old })
+        (record { held = C.held caches.new; asked = U.asked upstream.new; faults = U.faults upstream.new; heard = U.heard upstream.new }) (answered result (λ it. it.told.answer)) steps.old steps.new }
+    ensures heard { HeardWithin (U.heard upstream.old) (U.heard upstream.new) (config.now.max_bad_signatures + 1) steps.old steps.new }
+    ensures same_table { U.table upstream.new ≡ U.table upstream.old }
+{
+    let setting = Setting {
+        anchors: anchors.as_slice(),
+        config,
+        moment: now,
+    };
+    told_of(alloc, group, &setting, caches, memo, upstream, steps)
+}
+
+/// What is told of a group, and what it takes.
+fn told_of<V: Verifier, C: Caches<V>, M: Memo<V>, U: Upstream, L: Ledger>(
+    alloc: Global,
+    group: &Group,
+    setting: &Setting<'_>,
+    caches: &mut C,
+    memo: &mut M,
+    upstream: &mut U,
+    steps: &mut Steps<L>,
+) -> Result<WithContext<V>, NoMemory>
+    ensures checks { IsSingleCallWithin (world_in V.accepts setting.now) group.now (U.table upstream.old)
+        (record { held = C.held caches.old; asked = U.asked upstream.old; faults = U.faults upstream.old; heard = U.heard upstream.old })
+        (record { held = C.held caches.new; asked = U.asked upstream.new; faults = U.faults upstream.new; heard = U.heard upstream.new }) (answered result (λ it. it.told.answer)) steps.old steps.new }
     ensures target { IfOk result (λ it. place it.target ≡ zone_for (world_in V.accepts setting.now) group.now) }
     ensures sound { IfOk result (λ it. IsSoundOn (world_in V.accepts setting.now) group.now (place it.target) it.told) }
     ensures justified { IfOk result (λ it. CanBeTold V.accepts group.now (place it.target) it.told) }
@@ -98,10 +163,9 @@ fn counted<V: Verifier, C: Caches<V>, M: Memo<V>, U: Upstream, L: Ledger>(
     let Ok(Target { top, zone }) = target_of(alloc, setting.anchors, group) else {
         return Err(NoMemory);
     };
-    let mut steps = Steps::<L>::begin(blank);
     match top {
         Some(top) => walked(
-            alloc, group, setting, top, zone, caches, memo, upstream, &mut steps,
+            alloc, group, setting, top, zone, caches, memo, upstream, steps,
         ),
         None => Ok(without_island(zone)),
     }
@@ -145,9 +209,9 @@ fn walked<V: Verifier, C: Caches<V>, M: Memo<V>, U: Upstream, L: Ledger>(
     requires below { IsAtOrBelow (place zone) (place top) }
     requires way { way_of (world_in V.accepts setting.now) group.now ≡ by_walk (place top) }
     requires target { place zone ≡ target_in group.now (Some (place top)) }
-    ensures call { IsSingleCall (world_in V.accepts setting.now) group.now (U.table upstream.old)
+    ensures checks { IsSingleCallWithin (world_in V.accepts setting.now) group.now (U.table upstream.old)
         (record { held = C.held caches.old; asked = U.asked upstream.old; faults = U.faults upstream.old; heard = U.heard upstream.old })
-        (record { held = C.held caches.new; asked = U.asked upstream.new; faults = U.faults upstream.new; heard = U.heard upstream.new }) (answered result (λ it. it.told.answer)) }
+        (record { held = C.held caches.new; asked = U.asked upstream.new; faults = U.faults upstream.new; heard = U.heard upstream.new }) (answered result (λ it. it.told.answer)) steps.old steps.new }
     ensures target { IfOk result (λ it. place it.target ≡ zone_for (world_in V.accepts setting.now) group.now) }
     ensures sound { IfOk result (λ it. IsSoundOn (world_in V.accepts setting.now) group.now (place it.target) it.told) }
     ensures justified { IfOk result (λ it. CanBeTold V.accepts group.now (place it.target) it.told) }
@@ -178,6 +242,7 @@ fn by_end<V: Verifier, L: Ledger>(
     ensures target { IfOk result (λ it. it.target ≡ target) }
     ensures sound { IfOk result (λ it. CanBeTold V.accepts group.now (arc_value node.now).signer it.told) }
     ensures shown { IfOk result (λ it. IfSome it.told.shown (λ shown. ((arc_value node.now).anchor ≡ Some shown.anchor) × (shown.moment ≡ on_circle setting.now.moment))) }
+    ensures bound { steps.new ≤ steps.old + (setting.now.config.now.max_bad_signatures + 1) }
 {
     let (config, moment) = (setting.config, setting.moment);
     let found = validate_with_node_in_steps::<V, L>(

@@ -9,6 +9,6 @@ mod serving;
 mod turn;
 
 pub use answer::WithContext;
-pub use call::validate_with_vc;
+pub use call::{validate_with_vc, validate_with_vc_in_steps};
 pub use dsec_by_node::{Told, WithNode, validate_with_node, validate_with_node_in_steps};
 pub use group::validated;

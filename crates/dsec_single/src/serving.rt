@@ -1,6 +1,6 @@
 //! A walk served to its end over caches and an upstream (RFC 4035 4.3).
 
-ghost use Rattle.std.specs.Prelude.{◌≡◌, true};
+ghost use Rattle.std.specs.Prelude.{◌≡◌, ℕ, true};
 ghost use Rattle.std.specs.Arc.{arc_value};
 ghost use Rattle.dsec_spec.specs.Names.{Place, place, IsAtOrBelow};
 ghost use Rattle.dsec_nodes.specs.Machine.{done};
@@ -43,11 +43,11 @@ pub(crate) fn serve<V: Verifier, C: Caches<V>, M: Memo<V>, U: Upstream, L: Ledge
     steps: &mut Steps<L>,
     step: Step<V>,
 ) -> Result<Arc<Node<V>>, NoMemory>
-    requires on { (before : Outside) × (top : Place) × (target : Place)
-        × IsOn (world_in V.accepts setting.now) (U.table upstream.old) before (record { held = C.held caches.old; asked = U.asked upstream.old; faults = U.faults upstream.old; heard = U.heard upstream.old }) top target walk.old (step_view step) }
-    ensures ends { (before : Outside) (top target : Place)
-        → IsOn (world_in V.accepts setting.now) (U.table upstream.old) before (record { held = C.held caches.old; asked = U.asked upstream.old; faults = U.faults upstream.old; heard = U.heard upstream.old }) top target walk.old (step_view step)
-        → EndsOn (world_in V.accepts setting.now) (U.table upstream.old) before (record { held = C.held caches.new; asked = U.asked upstream.new; faults = U.faults upstream.new; heard = U.heard upstream.new }) top target result (λ node. arc_value node) }
+    requires on { (before : Outside) × (top : Place) × (target : Place) × (from : ℕ)
+        × IsOn (world_in V.accepts setting.now) (U.table upstream.old) before (record { held = C.held caches.old; asked = U.asked upstream.old; faults = U.faults upstream.old; heard = U.heard upstream.old }) top target walk.old (step_view step) from steps.old }
+    ensures ends { (before : Outside) (top target : Place) (from : ℕ)
+        → IsOn (world_in V.accepts setting.now) (U.table upstream.old) before (record { held = C.held caches.old; asked = U.asked upstream.old; faults = U.faults upstream.old; heard = U.heard upstream.old }) top target walk.old (step_view step) from steps.old
+        → EndsOn (world_in V.accepts setting.now) (U.table upstream.old) before (record { held = C.held caches.new; asked = U.asked upstream.new; faults = U.faults upstream.new; heard = U.heard upstream.new }) top target from steps.new result (λ node. arc_value node) }
     ensures same_table { U.table upstream.new ≡ U.table upstream.old }
 {
     let mut last = step;
@@ -73,7 +73,7 @@ pub(crate) fn node_for<V: Verifier, C: Caches<V>, M: Memo<V>, U: Upstream, L: Le
 ) -> Result<Arc<Node<V>>, NoMemory>
     requires { IsAtOrBelow (place zone) (place top) }
     ensures ends { EndsOn (world_in V.accepts setting.now) (U.table upstream.old) (record { held = C.held caches.old; asked = U.asked upstream.old; faults = U.faults upstream.old; heard = U.heard upstream.old })
-        (record { held = C.held caches.new; asked = U.asked upstream.new; faults = U.faults upstream.new; heard = U.heard upstream.new }) (place top) (place zone) result (λ node. arc_value node) }
+        (record { held = C.held caches.new; asked = U.asked upstream.new; faults = U.faults upstream.new; heard = U.heard upstream.new }) (place top) (place zone) steps.old steps.new result (λ node. arc_value node) }
     ensures same_table { U.table upstream.new ≡ U.table upstream.old }
 {
     let mut walk = Walk::start(alloc, top, zone);

@@ -8,8 +8,9 @@ use Rattle.dsec_single.proofs.ClosingLaws.{its_group, zone_kept, call_kept, soun
 use Rattle.dsec_single.proofs.group.validated.Goals as goal
 
 pub returns-in_default-clause-call : goal.returns-in_default-clause-call
-returns-in_default-clause-call g c = unbegun_call (world_of g.V.Verifier.accepts c.args.anchors.now (bounds_of c.args.config.now) c.args.now) c.args.group.now (g.U.Upstream.table c.args.upstream.now)
-    (record { held = g.C.Caches.held c.args.caches.now; asked = g.U.Upstream.asked c.args.upstream.now; faults = g.U.Upstream.faults c.args.upstream.now; heard = g.U.Upstream.heard c.args.upstream.now })
+returns-in_default-clause-call g c =
+    (unbegun_call (world_of g.V.Verifier.accepts c.args.anchors.now (bounds_of c.args.config.now) c.args.now) c.args.group.now (g.U.Upstream.table c.args.upstream.now)
+    (record { held = g.C.Caches.held c.args.caches.now; asked = g.U.Upstream.asked c.args.upstream.now; faults = g.U.Upstream.faults c.args.upstream.now; heard = g.U.Upstream.heard c.args.upstream.now }) 0).call
 
 pub into_validated-requires : goal.into_validated-requires
 into_validated-requires g c =
