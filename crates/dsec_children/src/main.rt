@@ -3,12 +3,10 @@
 //! before each script; the LF before such a line is not the script's.
 #![tactic(auto)]
 
-mod calls;
 mod scripts;
-mod setting;
 mod shown;
 mod text;
-mod walk;
+mod way;
 
 use crate::scripts::push_scripts;
 use std::io;

@@ -1,13 +1,16 @@
 //! Scripts, one after the other, and the names that their messages ask for.
 
-use crate::setting::Setting;
-use crate::walk::push_way;
+ghost use Rattle.std.specs.Prelude.{IfSome};
+ghost use Rattle.dsec_spec.specs.Names.{IsAtOrBelow, place};
+
+use crate::way::push_way;
 use dsec_anchors::island_owner;
 use dsec_message::Message;
 use dsec_name::{Name, NoMemory};
 use dsec_node::Config;
 use dsec_number::Rtype;
 use dsec_script::{Item, Script, read_script};
+use dsec_walk::Setting;
 use dsec_wire::Questions;
 use std::alloc::Global;
 use std::marker::Brand;
@@ -67,16 +70,51 @@ fn push_item(
     let Some(name) = asked_name(alloc, item) else {
         return Ok(out.extend_from_slice(b"no question\n")?);
     };
-    let Some(top) = island_owner(script.anchors.as_slice(), &name, Rtype::A) else {
-        return Ok(out.extend_from_slice(b"no island\n")?);
-    };
+    match island_of(script, &name) {
+        Some(top) => {
+            let top = top.clone()?;
+            push_from(alloc, out, script, item.seconds, top, name)
+        },
+        None => Ok(out.extend_from_slice(b"no island\n")?),
+    }
+}
+
+/// The island of a name, if an anchor stands at it or above it.
+fn island_of<'a>(script: &'a Script, name: &Name) -> Option<&'a Name>
+    ensures { IfSome result (λ top. IsAtOrBelow (place name.now) (place top.now)) }
+{
+    match island_owner(script.anchors.as_slice(), name, Rtype::A) {
+        Some(top) if name.ends_with(top) => Some(top),
+        _ => None,
+    }
+}
+
+/// Adds the nodes on the way from an island down to a name, at a moment in seconds since 1970.
+fn push_from(
+    alloc: Global,
+    out: &mut Vec<u8>,
+    script: &Script,
+    moment: u64,
+    top: Name,
+    name: Name,
+) -> Result<(), NoMemory>
+    requires below { IsAtOrBelow (place name) (place top) }
+{
     let config = Config::new();
     let setting = Setting {
-        script,
+        anchors: script.anchors.as_slice(),
         config: &config,
-        now: item.seconds,
+        moment,
     };
-    push_way::<Brand>(alloc, out, &setting, top, &name, Blank::new(1))
+    push_way::<Brand>(
+        alloc,
+        out,
+        &script.replies,
+        &setting,
+        top,
+        name,
+        Blank::new(1),
+    )
 }
 
 /// The name that a message asks for; none where it has no question.

@@ -4,8 +4,6 @@ use dsec_link::RecordSet;
 use dsec_name::{Name, NoMemory};
 use dsec_node::{Ground, SignedCause, Standing};
 use dsec_number::Rtype;
-use dsec_sorted::RtypeBitmap;
-use dsec_wire::Data;
 use dsec_word::{push_name, push_number};
 
 /// Adds the owner and type of the set by which that is known, and what it shows of a name without a chain.
@@ -41,28 +39,4 @@ fn ground_word(basis: Ground) -> &'static [u8] {
         Ground::Nsec3Iterates => b" iterations",
         Ground::DsNotSupported => b" not-supported",
     }
-}
-
-/// Whether a set that shows the name within a zone is the name's own NSEC or NSEC3 record, with DNAME: then what is below the name is redirected,
-/// and no node is made there (RFC 5155 8.3, RFC 6672 2.4, RFC 6840 4.1).
-pub(crate) fn redirects_below(name: &Name, set: &RecordSet) -> bool {
-    match set.datas() {
-        [one] => (set.rtype() == Rtype::NSEC3 || set.owner() == name) && lists_dname(one),
-        _ => false,
-    }
-}
-
-/// Whether data are those of an NSEC or NSEC3 record with DNAME.
-fn lists_dname(data: &Data) -> bool {
-    match (data.nsec3(), data.nsec()) {
-        (Some(nsec3), _) => has_dname(nsec3.types),
-        (None, Some(nsec)) => has_dname(nsec.types),
-        (None, None) => false,
-    }
-}
-
-/// Whether a bitmap has the bit of DNAME.
-fn has_dname(types: &[u8]) -> bool {
-    let bitmap = RtypeBitmap { octets: types };
-    bitmap.contains(Rtype::DNAME)
 }
