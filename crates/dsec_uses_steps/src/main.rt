@@ -11,8 +11,9 @@ use dsec_anchors::TrustAnchors;
 use dsec_core::{Input, Step, Validation};
 use dsec_crypto::StandIn;
 use dsec_group::{NoMemo, Steps};
+use dsec_lookup::{held_node, put_node};
 use dsec_message::Message;
-use dsec_node::{Caches, Config, OwnedCaches};
+use dsec_node::{Config, OwnedCaches};
 use event::{Event, read_event};
 use std::alloc::Global;
 use std::marker::Brand;
@@ -24,8 +25,7 @@ const ANCHOR: &str = "example. 3600 IN DNSKEY 257 3 13 AQI=";
 /// The moment at which messages are judged, in seconds since 1970.
 const NOW: u64 = 500;
 
-/// Goes on with a message until it asks a question or is judged. Nodes of zones are at hand here; where they are kept elsewhere, to get and to
-/// put one are events too.
+/// Goes on with a message until it asks a question or is judged.
 fn go_on<L: Ledger>(
     rt: &HostRuntime,
     index: usize,
@@ -36,17 +36,40 @@ fn go_on<L: Ledger>(
 ) -> Result<()> {
     let mut input = input;
     while validation.awaits(&input) {
-        match validation.advance(rt.alloc(), input, &mut NoMemo, steps)? {
-            Step::NodeGet(name) => input = Input::Node(caches.get(&name).map_err(Error::msg)?),
-            Step::NodePut(name, node) => {
-                caches.put(name, &node).map_err(Error::msg)?;
-                input = Input::Stored;
-            }
-            Step::Ask(name, rtype) => return Ok(println!(rt; "{index} asks {name} {rtype}")?),
-            Step::Done(outcome) => return Ok(println!(rt; "{index} is {:?}", outcome.state())?),
+        let step = validation.advance(rt.alloc(), input, &mut NoMemo, steps)?;
+        match at_hand(rt, index, caches, step)? {
+            Some(next) => input = next,
+            None => break,
         }
     }
     Ok(())
+}
+
+/// What answers a step at once. Nodes of zones are at hand here; where they are kept elsewhere, to get and to put one are events too. A question
+/// and the end are written, and nothing answers them here.
+fn at_hand(
+    rt: &HostRuntime,
+    index: usize,
+    caches: &mut OwnedCaches<StandIn>,
+    step: Step<StandIn>,
+) -> Result<Option<Input<StandIn>>> {
+    match step {
+        Step::NodeGet(name) => Ok(Some(Input::Node(held_node(caches, &name)))),
+        Step::NodePut(name, node) => {
+            put_node(caches, name, &node);
+            Ok(Some(Input::Stored))
+        },
+        Step::Ask(name, rtype) => {
+            println!(rt; "{index} asks {name} {rtype}")?;
+            Ok(None)
+        },
+        Step::Done(outcome) => {
+            let state = outcome.state();
+            drop(outcome);
+            println!(rt; "{index} is {state:?}")?;
+            Ok(None)
+        },
+    }
 }
 
 /// A message that is to be judged from the anchor.
@@ -64,10 +87,18 @@ fn taken(
     match event {
         Event::Message(message) => {
             let index = under_way.len();
-            under_way.push(begun(alloc, &message)?)?;
+            put(under_way, begun(alloc, &message)?)?;
             Ok((index, Input::Begin))
         }
         Event::Reply(index, reply) => Ok((index, Input::Reply(reply))),
+    }
+}
+
+/// Puts a message behind the others.
+fn put(under_way: &mut Vec<Validation<StandIn>>, validation: Validation<StandIn>) -> Result<()> {
+    match under_way.push(validation) {
+        Ok(()) => Ok(()),
+        Err(_) => Err(Error::msg("no memory")),
     }
 }
 
