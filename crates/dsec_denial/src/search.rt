@@ -24,8 +24,8 @@ use std::sync::ledger::Ledger;
 
 /// What the NSEC records among the groups show of a name where no DS set stands for it, under the keys of the zone above, which
 /// are trusted by what the caller knows: the first group in order of arrival that decides; else why nothing is shown, by
-/// the last that says so. Groups of class IN with one NSEC record count. A group is checked only where its record bears on the
-/// name, and once.
+/// the last that says so. Groups of class IN with one NSEC record count. For each group of the type the steps of one check are taken at
+/// most.
 pub fn nsec_for_missing_ds<V: Verifier, L: Ledger>(
     alloc: Global,
     groups: &[Group],

@@ -2,13 +2,13 @@
 use Rattle.std.specs.Prelude.{ℕ}
 
 pub record Settings : Type 0 where
-  -- how many nodes a cache of nodes holds
+  -- how many nodes a cache of nodes is to hold, for whoever makes one
   pub max_node_cache : ℕ
-  -- how many iterated hashes are kept (RFC 5155 5)
+  -- how many iterated hashes are to be kept (RFC 5155 5)
   pub max_nsec3_cache : ℕ
-  -- how many answers are kept for signatures of DS and DNSKEY sets
+  -- how many answers are to be kept for signatures of DS and DNSKEY sets
   pub max_isig_cache : ℕ
-  -- how many answers are kept for signatures of all other sets
+  -- how many answers are to be kept for signatures of all other sets
   pub max_usig_cache : ℕ
   -- for how many seconds a node is valid at most
   pub max_validity : ℕ

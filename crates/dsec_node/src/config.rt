@@ -12,8 +12,8 @@ use dsec_group::Limits;
 use std::alloc::AllocError;
 use std::marker::Model;
 
-/// How much validation does at most, how much it keeps, and for how long. Each setting lies between two ends; a value
-/// that doesn't is taken for the end that is nearest.
+/// How much validation does at most, how much it keeps, and for how long. A setter keeps a value between the setting's two
+/// ends: one that lies outside is taken for the end that is nearest.
 #[derive(Copy, Debug)]
 pub struct Config {
     max_node_cache: u64,

@@ -83,14 +83,14 @@ impl<V: Verifier> Node<V> {
         &self.name
     }
 
-    /// The zone that the links lead to.
+    /// The zone that is to have signed the records at the name; of an insecure or bogus node, as they are made here, the name.
     pub fn signer_name(&self) -> &Name
         ensures { place result.now ≡ self.now.signer }
     {
         &self.signer
     }
 
-    /// The anchor that the links start from; none of a bogus node.
+    /// The anchor that the links start from; a node that isn't bogus has one.
     pub fn anchor(&self) -> Option<&Record>
         ensures { option_map (λ one. one.now) result ≡ self.now.anchor }
     {

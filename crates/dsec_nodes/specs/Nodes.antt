@@ -25,7 +25,7 @@ pub record Node : Type 0 where
   pub name : Place
   pub made : ℕ
   pub valid_for : ℕ
-  -- from which anchor the chain leads; none where the node is bogus
+  -- from which anchor the chain leads; a node that isn't bogus has one
   pub anchor : Option Record
   -- the zone that is to have signed the records at the name
   pub signer : Place

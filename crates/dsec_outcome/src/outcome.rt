@@ -28,7 +28,7 @@ pub enum Why<V: Verifier> {
     ByGroups(Vec<JudgedGroup<V>>, Vec<UsedGroup<V>>),
     /// By the signed record that shows that no chain leads to the node's name (RFC 4035 5.2).
     ByCause(Arc<Node<V>>),
-    /// By the links to the zone whose keys were tried, which are the node's; a bogus node has none.
+    /// By the node's links: those to the zone whose keys were tried, if it has any.
     ByLinks(Arc<Node<V>>),
     /// By none of these.
     ByNothing,

@@ -36,8 +36,8 @@ fn one_differs(groups: &[BoundedGroup<'_>]) -> bool
     groups.iter().any(|one| differs(one))
 }
 
-/// The message that the groups of the answer and authority sections make: the header and the questions as they came, for each group its
-/// records, signatures and extra records with their TTLs cut, and the additional section as it came.
+/// The message that the groups of the answer and authority sections make: the identifier, the flags and the questions as they came, for each
+/// group its records, signatures and extra records with their TTLs cut, and the additional section as it came.
 pub fn rebuild_msg(
     alloc: Global,
     message: &Message,

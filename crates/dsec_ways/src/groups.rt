@@ -27,8 +27,8 @@ pub struct GroupTold {
     pub by_node: Option<Told>,
 }
 
-/// What is told of the first group of each message's answer section, in order, where there is one, over one map of nodes. A message that can't be
-/// read is an error, and so is want of memory.
+/// What is told of the first group of each message's answer section, in order, where there is one, over one map of nodes. A message whose questions
+/// or answer section can't be read is an error, and so is want of memory; the sections after it aren't read.
 pub fn first_groups(
     alloc: Global,
     scene: &mut Scene,

@@ -28,7 +28,8 @@ use std::alloc::Global;
 use std::sync::Arc;
 
 impl<V: Verifier> JudgedGroup<V> {
-    /// The zone that is to have signed the group; the root for a group of signatures alone.
+    /// The zone that is to have signed the group; the node's name where it is judged by an insecure or bogus node; the root for a group of
+    /// signatures alone.
     pub fn signer_name(&self, alloc: Global) -> Result<Name, NoMemory>
         ensures { IfOk result (λ name. place name ≡ self.now.signer) }
     {
@@ -39,7 +40,7 @@ impl<V: Verifier> JudgedGroup<V> {
         }
     }
 
-    /// Whether this zone is the one that is to have signed the group.
+    /// Whether `signer_name` is this zone.
     #[tactic(auto, using(crate::proofs::SignerLaws::root_told))]
     pub fn is_signed_by(&self, zone: &Name) -> bool
         ensures { result ≡ same_place self.now.signer (place zone.now) }
