@@ -51,11 +51,16 @@ fn push_headed(alloc: Global, out: &mut Vec<u8>, text: &[u8]) -> Result<(), NoMe
 
 /// Adds the nodes of a script's names.
 fn push_script(alloc: Global, out: &mut Vec<u8>, text: &[u8]) -> Result<(), NoMemory> {
-    let Ok(script) = read_script(alloc, text) else {
-        return Ok(out.extend_from_slice(b"refused\n")?);
-    };
+    match read_script(alloc, text) {
+        Ok(script) => push_items(alloc, out, &script),
+        Err(_) => Ok(out.extend_from_slice(b"refused\n")?),
+    }
+}
+
+/// Adds the nodes of a script's names, message by message.
+fn push_items(alloc: Global, out: &mut Vec<u8>, script: &Script) -> Result<(), NoMemory> {
     for item in script.items.as_slice() {
-        push_item(alloc, out, &script, item)?;
+        push_item(alloc, out, script, item)?;
     }
     Ok(())
 }

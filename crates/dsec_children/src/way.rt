@@ -77,39 +77,42 @@ fn turn<L: Ledger>(
     if !walk.awaits(&input) {
         return Ok(None);
     }
-    let step = walk.advance::<L>(alloc, setting, input, &mut NoMemo, steps)?;
-    push_step(out, &step)?;
-    answer_to(alloc, replies, step)
-}
-
-/// Adds the node of a step, if it is made there: one that is to be kept, or a bogus one, with which the way ends.
-fn push_step(out: &mut Vec<u8>, step: &Step<StandIn>) -> Result<(), NoMemory> {
-    match step {
-        Step::NodePut(_, node) => push_node(out, node),
-        Step::Done(node) if is_bogus(node) => push_node(out, node),
-        Step::NodeGet(_) | Step::Ask(_, _) | Step::Done(_) => Ok(()),
+    match walk.advance::<L>(alloc, setting, input, &mut NoMemo, steps) {
+        Ok(step) => answer_to(alloc, out, replies, step),
+        Err(error) => Err(error),
     }
 }
 
-/// Whether a node is bogus.
-fn is_bogus(node: &Node<StandIn>) -> bool {
-    matches!(node.standing(), Standing::Bogus(_))
-}
-
-/// What answers a step: no node is kept, and the replies are the script's. Nothing answers the end.
+/// What answers a step: no node is kept, and the replies are the script's. Nothing answers the end. A node that is made is added: one that is to
+/// be kept, or a bogus one, with which the way ends.
 fn answer_to(
     alloc: Global,
+    out: &mut Vec<u8>,
     replies: &Replies,
     step: Step<StandIn>,
 ) -> Result<Option<Input<StandIn>>, NoMemory> {
     match step {
         Step::NodeGet(_) => Ok(Some(Input::Node(None))),
-        Step::NodePut(_, _) => Ok(Some(Input::Stored)),
+        Step::NodePut(_, node) => {
+            push_node(out, &node)?;
+            Ok(Some(Input::Stored))
+        },
         Step::Ask(name, rtype) => {
             let reply = reply_to(alloc, replies, &name, rtype)?;
             Ok(Some(Input::Reply(reply)))
         },
-        Step::Done(_) => Ok(None),
+        Step::Done(node) => {
+            push_end(out, &node)?;
+            Ok(None)
+        },
+    }
+}
+
+/// Adds the node with which a way ends, if it is bogus: any other was made before.
+fn push_end(out: &mut Vec<u8>, node: &Node<StandIn>) -> Result<(), NoMemory> {
+    match node.standing() {
+        Standing::Bogus(_) => push_node(out, node),
+        Standing::Apex(_) | Standing::Within(_) | Standing::Insecure(_, _) => Ok(()),
     }
 }
 
