@@ -1,6 +1,5 @@
 //! What comes in: messages to be judged, and replies to their questions.
 
-use anyhow::{Context, Error, Result};
 use dsec_message::Message;
 use dsec_name::Octets;
 use dsec_word::{number, read_hex};
@@ -15,14 +14,24 @@ pub enum Event {
     Reply(usize, Option<Octets>),
 }
 
-/// The event of a line: `message <hex>`, `reply <index> <hex>` or `reply <index> fail`.
-pub fn read_event(alloc: Global, line: &str) -> Result<Event> {
-    let (word, rest) = line.split_once(' ').context("one word")?;
+/// The event of a line: `message <hex>`, `reply <index> <hex>` or `reply <index> fail`. None where the line is no such event.
+pub fn read_event(alloc: Global, line: &str) -> Option<Event> {
+    let (word, rest) = line.split_once(' ')?;
     if word == "message" {
-        let octets = read_hex(alloc, rest.as_bytes()).ok().context("no hex")?;
-        return Ok(Event::Message(Message::from_octets(octets.into_vec()).map_err(Error::msg)?));
+        return Some(Event::Message(read_message(alloc, rest)?));
     }
-    let (index, reply) = rest.split_once(' ').context("two words")?;
-    let index = number(index.as_bytes(), 1_000_000).context("no index")?;
-    Ok(Event::Reply(index as usize, read_hex(alloc, reply.as_bytes()).ok()))
+    let (index, reply) = rest.split_once(' ')?;
+    let index = number(index.as_bytes(), 1_000_000)?;
+    Some(Event::Reply(index as usize, octets_of(alloc, reply)))
+}
+
+/// The message that hex writes, if it is long enough to be one.
+fn read_message(alloc: Global, hex: &str) -> Option<Message> {
+    let octets = octets_of(alloc, hex)?;
+    Message::from_octets(octets.into_vec()).ok()
+}
+
+/// The octets that hex writes, if it is hex.
+fn octets_of(alloc: Global, hex: &str) -> Option<Octets> {
+    read_hex(alloc, hex.as_bytes()).ok()
 }

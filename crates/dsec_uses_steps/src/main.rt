@@ -6,7 +6,7 @@ mod event;
 
 ghost use Rattle.std.specs.Prelude.{◌≡◌, ◌<◌};
 
-use anyhow::{Error, Result};
+use anyhow::{Context, Result};
 use dsec_anchors::TrustAnchors;
 use dsec_core::{Input, Step, Validation};
 use dsec_crypto::StandIn;
@@ -78,28 +78,28 @@ fn begun(alloc: Global, message: &Message) -> Result<Validation<StandIn>> {
     Ok(Validation::start(alloc, anchors, Config::new(), message, NOW)?)
 }
 
-/// To which message an event goes, and as what. A new message is put behind the others.
+/// To which message an event goes, and as what.
 fn taken(
     alloc: Global,
     event: Event,
     under_way: &mut Vec<Validation<StandIn>>,
 ) -> Result<(usize, Input<StandIn>)> {
     match event {
-        Event::Message(message) => {
-            let index = under_way.len();
-            put(under_way, begun(alloc, &message)?)?;
-            Ok((index, Input::Begin))
-        }
+        Event::Message(message) => Ok((put(alloc, &message, under_way)?, Input::Begin)),
         Event::Reply(index, reply) => Ok((index, Input::Reply(reply))),
     }
 }
 
-/// Puts a message behind the others.
-fn put(under_way: &mut Vec<Validation<StandIn>>, validation: Validation<StandIn>) -> Result<()> {
-    match under_way.push(validation) {
-        Ok(()) => Ok(()),
-        Err(_) => Err(Error::msg("no memory")),
-    }
+/// Puts a message behind the others, and gives its index. There is room for it before it begins.
+fn put(
+    alloc: Global,
+    message: &Message,
+    under_way: &mut Vec<Validation<StandIn>>,
+) -> Result<usize> {
+    let index = under_way.len();
+    under_way.reserve(1)?;
+    under_way.push_reserved(begun(alloc, message)?);
+    Ok(index)
 }
 
 /// Takes an event: the message that it is for goes on.
@@ -110,7 +110,7 @@ fn take<L: Ledger>(
     caches: &mut OwnedCaches<StandIn>,
     steps: &mut Steps<L>,
 ) -> Result<()> {
-    let event = read_event(rt.alloc(), line)?;
+    let event = read_event(rt.alloc(), line).context("no event")?;
     let (index, input) = taken(rt.alloc(), event, under_way)?;
     match under_way.get_mut(index) {
         Some(validation) => go_on(rt, index, validation, caches, steps, input),
@@ -118,7 +118,20 @@ fn take<L: Ledger>(
     }
 }
 
-/// The loop. Checks of signatures are counted on the ledger that the blank opens.
+/// Takes each event in turn.
+fn take_all<L: Ledger>(
+    rt: &HostRuntime,
+    under_way: &mut Vec<Validation<StandIn>>,
+    caches: &mut OwnedCaches<StandIn>,
+    steps: &mut Steps<L>,
+) -> Result<()> {
+    for line in rt.lines(rt.alloc()) {
+        take(rt, line?.as_str(), under_way, caches, steps)?;
+    }
+    Ok(())
+}
+
+/// The loop, over messages and nodes of its own. Checks of signatures are counted on the ledger that the blank opens.
 fn run<L: Ledger>(rt: &HostRuntime, blank: Blank) -> Result<()>
     requires name { blank.name ≡ L.name }
     requires parts { blank.parts ≡ L.parts }
@@ -127,10 +140,7 @@ fn run<L: Ledger>(rt: &HostRuntime, blank: Blank) -> Result<()>
     let mut caches = OwnedCaches::new(rt.alloc());
     let mut steps = Steps::<L>::begin(blank);
     let mut under_way = Vec::new(rt.alloc());
-    for line in rt.lines(rt.alloc()) {
-        take(rt, line?.as_str(), &mut under_way, &mut caches, &mut steps)?;
-    }
-    Ok(())
+    take_all(rt, &mut under_way, &mut caches, &mut steps)
 }
 
 fn main(rt: HostRuntime) -> Result<()> {
