@@ -45,8 +45,8 @@ pub struct KeyCheck {
 
 /// Tries the signatures of a group with the keys of the zone, which are trusted by what the caller knows: by
 /// signature and then by key, in order. A pair is tried where the signature names the zone, and the key by
-/// its algorithm and tag; one more pair is tried than `max_bad_signatures`, each in one step, and so with one question to the
-/// verifier at most.
+/// its algorithm and tag, up to the first pair that is good, and at most one more than `max_bad_signatures`; each takes one
+/// step, and so one question to the verifier at most.
 pub fn check_with_keys<V: Verifier, L: Ledger>(
     alloc: Global,
     group: &Group,

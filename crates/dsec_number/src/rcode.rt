@@ -43,7 +43,7 @@ impl Rcode {
         Rcode { number }
     }
 
-    /// The rcode's number, below 2^12.
+    /// The rcode's number; that of a message is below 2^12.
     pub const fn to_int(self) -> u16
         ensures { result ≡ self }
     {
