@@ -43,10 +43,12 @@ impl<'a> RecordsIter<'a> {
         self.rest
     }
 
-    /// The next owner with all its records. It takes one comparison for each.
+    /// The next owner with all its records. It takes one comparison for each. Behind the last there is none, however often it is asked
+    /// for.
     pub fn next(&mut self) -> Option<OwnerRrs<'a>>
         ensures owner { IfSome result (λ it. IsFirstOwner (left_of self.old) it.name.now it.records.now (left_of self.new)) }
         ensures end { IfNone result (left_of self.old ≡ []) }
+        ensures ended { IfNone result (left_of self.new ≡ []) }
     {
         let rest = self.rest;
         let Some((first, _)) = rest.split_first() else {
