@@ -69,7 +69,8 @@ fn counted<V: Verifier, L: Ledger>(
     validate_with_node_in_steps::<V, L>(alloc, group, node, config, memo, now, &mut steps)
 }
 
-/// The same, where its checks of signatures are counted: at most `max_bad_signatures + 1`, each in a step.
+/// The same, where its checks of signatures are counted: at most `max_bad_signatures + 1`, each in a step, and none by a node that tells
+/// nothing.
 pub fn validate_with_node_in_steps<V: Verifier, L: Ledger>(
     alloc: Global,
     group: &Group,
@@ -86,6 +87,7 @@ pub fn validate_with_node_in_steps<V: Verifier, L: Ledger>(
     ensures sound { IfOk result (λ it. CanBeTold V.accepts group.now (arc_value node.now).signer it.told) }
     ensures shown { IfOk result (λ it. IfSome it.told.shown (λ shown. ((arc_value node.now).anchor ≡ Some shown.anchor) × (shown.moment ≡ on_circle now))) }
     ensures bound { steps.new ≤ steps.old + (config.now.max_bad_signatures + 1) }
+    ensures idle { tells (world_of V.accepts [] (bounds_of config.now) now) group.now (arc_value node.now) ≡ false → steps.new ≡ steps.old }
 {
     if tells_of(group, node, now) {
         told_by_node::<V, L>(alloc, group, node, config, memo, now, steps)

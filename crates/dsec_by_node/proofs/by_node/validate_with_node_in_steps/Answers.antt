@@ -1,4 +1,5 @@
 use Rattle.std.proofs.Common.{[], sym, ap, ◌∙◌}
+use Rattle.std.proofs.lemmas.Bool.{false≢true}
 use Rattle.std.specs.Arc.{arc_value}
 use Rattle.dsec_node.specs.Views.{bounds_of, world_of}
 use Rattle.dsec_by_node.specs.Answers.{Told}
@@ -29,6 +30,11 @@ pub returns-then-tells_of-clause-elsewhere : goal.returns-then-tells_of-clause-e
 returns-then-tells_of-clause-elsewhere g c = λ elsewhere. absurd (not_elsewhere g.V.Verifier.accepts (bounds_of c.args.config.now) c.args.now c.args.group.now (arc_value c.args.node.now)
     (ap (tells_of (world_of g.V.Verifier.accepts [] (bounds_of c.args.config.now) c.args.now) c.args.group.now) (sym c.deref.ensures)
     ∙ (sym (c.tells_of.ensures (bounds_of c.args.config.now)) ∙ c.if-tells_of.true)) elsewhere)
+
+pub returns-then-tells_of-clause-idle : goal.returns-then-tells_of-clause-idle
+returns-then-tells_of-clause-idle g c = λ idle. absurd (false≢true (sym idle
+    ∙ (ap (tells_of (world_of g.V.Verifier.accepts [] (bounds_of c.args.config.now) c.args.now) c.args.group.now) (sym c.deref.ensures)
+    ∙ (sym (c.tells_of.ensures (bounds_of c.args.config.now)) ∙ c.if-tells_of.true))))
 
 pub returns-else-tells_of-clause-answer : goal.returns-else-tells_of-clause-answer
 returns-else-tells_of-clause-answer g c = ap (λ (it : Told). it.answer) c.unsecured.ensures ∙ answer_untold g.V.Verifier.accepts (bounds_of c.args.config.now) c.args.now c.args.group.now (arc_value c.args.node.now)
