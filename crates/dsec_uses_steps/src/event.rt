@@ -16,10 +16,15 @@ pub enum Event {
 
 /// The event of a line: `message <hex>`, `reply <index> <hex>` or `reply <index> fail`. None where the line is no such event.
 pub fn read_event(alloc: Global, line: &str) -> Option<Event> {
-    let (word, rest) = line.split_once(' ')?;
-    if word == "message" {
-        return Some(Event::Message(read_message(alloc, rest)?));
+    match line.split_once(' ')? {
+        ("message", hex) => Some(Event::Message(read_message(alloc, hex)?)),
+        ("reply", rest) => read_reply(alloc, rest),
+        _ => None,
     }
+}
+
+/// The reply that an index and hex, or the word for a failure, write.
+fn read_reply(alloc: Global, rest: &str) -> Option<Event> {
     let (index, reply) = rest.split_once(' ')?;
     let index = number(index.as_bytes(), 1_000_000)?;
     Some(Event::Reply(index as usize, octets_of(alloc, reply)))
