@@ -8,7 +8,7 @@ mod step;
 mod validation;
 
 pub use bounds::{all_bounded, bounded};
-pub use dsec_outcome::{Outcome, UsedGroup, Why};
+pub use dsec_outcome::{Outcome, SharedCause, SharedLinks, UsedGroup, Why};
 pub use dsec_walk::Input;
 pub use step::Step;
 pub use validation::Validation;

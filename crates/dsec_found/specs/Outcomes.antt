@@ -1,15 +1,16 @@
 -- What judged groups come to, as the code keeps it (RFC 4033 5).
-use Rattle.std.specs.Prelude.{List, [], ◌∷◌, ◌++◌, Option, Some, None}
-use Rattle.std.specs.Arc.{arc_value}
+use Rattle.std.specs.Prelude.{◌≡◌, List, [], ◌∷◌, ◌++◌, Option, Some, None}
 use Rattle.dsec_group.specs.declared.state.ValidationState.{ValidationState}
 use Rattle.dsec_group.specs.declared.state.ValidationState.TheVariants as states
+use Rattle.dsec_spec.specs.Accepts.{Accepts}
 use Rattle.dsec_spec.specs.Chain.{Link}
 use Rattle.dsec_nodes.specs.Causes.{Cause}
-use Rattle.dsec_nodes.specs.Nodes.{Node, Standing, apex, within, insecure, bogus}
+use Rattle.dsec_nodes.specs.Nodes.{Node, Kept, SignedCause, insecure}
 use Rattle.dsec_nodes.specs.Judging as judging
 use Rattle.dsec_nodes.specs.Judging.{Judged, Finding, is_shown, has_no_set, is_insecure, is_bogus, is_indeterminate, all, one_bogus}
 use Rattle.dsec_nodes.specs.Outcomes as outcomes
 use Rattle.dsec_nodes.specs.Outcomes.{by_cause, by_nothing}
+use Rattle.dsec_node.specs.Views.{signed_cause}
 use Rattle.dsec_found.specs.declared.section.AllJudged.{AllJudged}
 use Rattle.dsec_found.specs.declared.section.AllJudged.TheVariants.{All, OneBogus}
 
@@ -20,16 +21,22 @@ state_view states.Insecure = outcomes.insecure
 state_view states.Bogus = outcomes.bogus
 state_view states.Indeterminate = outcomes.indeterminate
 
--- the signed cause that a node holds, where it holds one
-abbrev pub cause_in : Standing → outcomes.Why
-cause_in (insecure cause signed) = by_cause signed
-cause_in (apex keys) = by_nothing
-cause_in (within last) = by_nothing
-cause_in (bogus cause) = by_nothing
+-- why a message comes to its outcome, by a signed cause that a node holds (RFC 4035 5.2)
+abbrev pub by_held : Option SignedCause → outcomes.Why
+by_held (Some signed) = by_cause signed
+by_held None = by_nothing
 
--- the signed cause of a node, where it holds one
-abbrev pub cause_held : Node → outcomes.Why
-cause_held n = cause_in n.standing
+-- no chain leads to the node's name, and it has the signed record that shows it (RFC 4035 5.2)
+abbrev pub HoldsCause : Node → Type 0
+HoldsCause n = (cause : Option Cause) × (signed : SignedCause) × (n.standing ≡ insecure cause signed)
+
+-- a kept node holds this signed cause (RFC 4035 4.5, 5.2)
+abbrev pub IsKeptCause : Accepts → Option SignedCause → Type 0
+IsKeptCause accepts held = (n : Node) × Kept accepts n × HoldsCause n × (signed_cause n.standing ≡ held)
+
+-- a kept node's links (RFC 4035 4.5)
+abbrev pub AreKeptLinks : Accepts → List Link → Type 0
+AreKeptLinks accepts links = (n : Node) × Kept accepts n × (n.links ≡ links)
 
 -- what shows that an insecure group's zone isn't signed (RFC 4035 5.2)
 abbrev pub insecure_of : Finding → Option outcomes.Why
@@ -42,7 +49,7 @@ insecure_of is_indeterminate = None
 -- what judging a section's groups came to
 abbrev pub section_view : {V : Type 0} → AllJudged V → judging.AllJudged
 section_view (All judged) = all judged.items
-section_view (OneBogus cause node) = one_bogus cause (arc_value node).links
+section_view (OneBogus cause links) = one_bogus cause links
 
 -- groups that are all judged, and one after them (RFC 4033 5)
 abbrev pub and_next : List Judged → Judged → Finding → judging.AllJudged

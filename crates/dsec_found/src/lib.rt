@@ -8,6 +8,7 @@ mod island;
 mod judged;
 mod judging;
 mod section;
+mod shared;
 mod target;
 
 pub use begun::{Begun, begin};
@@ -16,4 +17,5 @@ pub use island::is_above_island;
 pub use judged::JudgedGroup;
 pub use judging::judged_by_node;
 pub use section::{AllJudged, and_next};
+pub use shared::{SharedCause, SharedLinks};
 pub use target::{Target, target_of};

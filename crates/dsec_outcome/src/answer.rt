@@ -2,7 +2,6 @@
 
 ghost use Rattle.std.specs.Prelude.{◌≡◌, ℕ, ◌==◌, ◌&&◌, List, Some, IfOk};
 ghost use Rattle.std.proofs.Math.Bool.{not};
-ghost use Rattle.std.specs.Arc.{arc_value};
 ghost use Rattle.dsec_alias.specs.Following.{AliasEnd as AliasEnds};
 ghost use Rattle.dsec_follow.specs.Ends.{end_told};
 ghost use Rattle.dsec_nodes.specs.Aliases.{Beside, alias_path, reached};
@@ -25,15 +24,14 @@ use crate::outcome::{Outcome, Why};
 use dsec_cause::Cause;
 use dsec_crypto::Verifier;
 use dsec_follow::{AliasEnd, do_cname_dname};
-use dsec_found::{AllJudged, Error, JudgedGroup};
+use dsec_found::{AllJudged, Error, JudgedGroup, SharedLinks};
 use dsec_group::{Limits, Memo, ValidationState};
 use dsec_name::{Name, NoMemory};
-use dsec_node::{Config, Node};
+use dsec_node::Config;
 use dsec_nsec3_calls::get_answer_state;
 use dsec_number::{Rcode, Rtype};
 use dsec_wire::{Question, Record};
 use std::alloc::Global;
-use std::sync::Arc;
 
 /// What a message with this rcode comes to, by what judging the groups of its answer section came to, and then those of its
 /// authority section: the first bogus group decides. So many aliases are followed.
@@ -53,8 +51,8 @@ pub fn on_judged<V: Verifier>(
         (answer_of (judged_comes_to (world_of V.accepts anchors.now (bounds_of config.now) now) most message questions.now (section_view answers.now) (section_view authorities.now))) }
 {
     match (answers, authorities) {
-        (AllJudged::OneBogus(cause, node), _) => Ok(bogus_under(*cause, node)?),
-        (AllJudged::All(_), AllJudged::OneBogus(cause, node)) => Ok(bogus_under(*cause, node)?),
+        (AllJudged::OneBogus(cause, links), _) => Ok(bogus_under(*cause, links)?),
+        (AllJudged::All(_), AllJudged::OneBogus(cause, links)) => Ok(bogus_under(*cause, links)?),
         (AllJudged::All(answers), AllJudged::All(authorities)) => {
             on_questions(
                 alloc,
@@ -71,12 +69,15 @@ pub fn on_judged<V: Verifier>(
     }
 }
 
-/// What a message comes to where a group is bogus for a cause: it is bogus, by the links of the node whose keys were tried with it.
-pub fn bogus_under<V: Verifier>(cause: Cause, node: &Arc<Node<V>>) -> Result<Outcome<V>, NoMemory>
-    ensures { IfOk result (λ outcome. outcome ≡ bogus_by cause (by_links (arc_value node.now).links)) }
+/// What a message comes to where a group is bogus for a cause: it is bogus, by the links to the zone whose keys were tried with it.
+pub fn bogus_under<V: Verifier>(
+    cause: Cause,
+    links: &SharedLinks<V>,
+) -> Result<Outcome<V>, NoMemory>
+    ensures { IfOk result (λ outcome. outcome ≡ bogus_by cause (by_links links.now)) }
 {
-    let node = Arc::try_clone(node)?;
-    Ok(Outcome::new(ValidationState::Bogus, Some(cause), Why::ByLinks(node)))
+    let links = links.clone()?;
+    Ok(Outcome::new(ValidationState::Bogus, Some(cause), Why::ByLinks(links)))
 }
 
 /// What a message with this rcode comes to, none of whose groups is bogus: there has to be one question (RFC 1035 4.1.2). So many

@@ -11,5 +11,6 @@ mod outcome;
 mod used;
 
 pub use answer::{bogus_under, on_judged, on_questions};
+pub use dsec_found::{SharedCause, SharedLinks};
 pub use outcome::{Outcome, Why};
 pub use used::UsedGroup;

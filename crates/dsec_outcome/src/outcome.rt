@@ -12,24 +12,22 @@ ghost use Rattle.dsec_outcome.specs.Outcomes.{unshown_why, why_view};
 use crate::used::UsedGroup;
 use dsec_cause::Cause;
 use dsec_crypto::Verifier;
-use dsec_found::JudgedGroup;
+use dsec_found::{JudgedGroup, SharedCause, SharedLinks};
 use dsec_group::ValidationState;
 use dsec_name::NoMemory;
-use dsec_node::Node;
 use dsec_nsec3_calls::map_maybe_secure;
 use std::alloc::Global;
 use std::marker::Model;
-use std::sync::Arc;
 
-/// Why a state was found. Groups and nodes are shared with those that judging keeps.
+/// Why a state was found. Groups, links and signed records are shared with those that judging keeps.
 #[derive(Drop)]
 pub enum Why<V: Verifier> {
     /// By judged groups, and by the groups that denials beside them use, each in order.
     ByGroups(Vec<JudgedGroup<V>>, Vec<UsedGroup<V>>),
-    /// By the signed record that shows that no chain leads to the node's name (RFC 4035 5.2).
-    ByCause(Arc<Node<V>>),
-    /// By the node's links: those to the zone whose keys were tried, if it has any.
-    ByLinks(Arc<Node<V>>),
+    /// By the signed record that shows that no chain leads on (RFC 4035 5.2).
+    ByCause(SharedCause<V>),
+    /// By the links to the zone whose keys were tried, if there are any.
+    ByLinks(SharedLinks<V>),
     /// By none of these.
     ByNothing,
 }
@@ -172,11 +170,11 @@ fn unshown_by<V: Verifier>(judged: &JudgedGroup<V>) -> Result<Why<V>, NoMemory>
     requires { signature_of judged.now.finding ≡ None }
     ensures { IfOk result (λ why. why_view why ≡ unshown_why judged.now.finding) }
 {
-    if let Some(node) = judged.insecure()? {
-        return Ok(Why::ByCause(node));
+    if let Some(cause) = judged.insecure()? {
+        return Ok(Why::ByCause(cause));
     }
     match judged.bogus()? {
-        Some((_, node)) => Ok(Why::ByLinks(node)),
+        Some((_, links)) => Ok(Why::ByLinks(links)),
         None => Ok(Why::ByNothing),
     }
 }

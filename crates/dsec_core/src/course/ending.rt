@@ -73,7 +73,7 @@ pub(super) fn ended<V: Verifier>(
         return Ok(None);
     }
     match and_next(Vec::new(alloc), judged.clone()?)? {
-        AllJudged::OneBogus(cause, node) => Ok(Some(bogus_under(cause, &node)?)),
+        AllJudged::OneBogus(cause, links) => Ok(Some(bogus_under(cause, &links)?)),
         AllJudged::All(_) => Ok(None),
     }
 }

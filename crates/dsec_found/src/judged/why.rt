@@ -1,7 +1,6 @@
 //! Why a judged group is as it is, and by which links (RFC 4033 5, RFC 4035 5.3).
 
 ghost use Rattle.std.specs.Prelude.{◌≡◌, IfOk, IfSome};
-ghost use Rattle.std.specs.Arc.{arc_value};
 ghost use Rattle.std.specs.Option.{option_map};
 ghost use Rattle.dsec_node.specs.Views.{cause_view};
 ghost use Rattle.dsec_nodes.specs.ByDenial.{expands};
@@ -9,13 +8,14 @@ ghost use Rattle.dsec_nodes.specs.Signing.{is_expanded as expanded};
 ghost use Rattle.dsec_spec.specs.Names.{place, same_place};
 ghost use Rattle.dsec_spec.specs.Numbers.{RRSIG};
 ghost use Rattle.dsec_found.specs.Founds.{StandsBy, finding_by};
-ghost use Rattle.dsec_found.specs.Outcomes.{bogus_of, cause_held, insecure_of};
+ghost use Rattle.dsec_found.specs.Outcomes.{bogus_of, by_held, insecure_of};
 ghost use Rattle.dsec_found.specs.declared.found.Found.TheVariants.{Shown};
 ghost use Rattle.dsec_found.specs.Told.{own_link, signature_of, signed_cause_of, zone_links};
 
 use super::{Basis, JudgedGroup};
 use crate::found::Found;
 use crate::island::copy_of;
+use crate::shared::{SharedCause, SharedLinks};
 use dsec_cause::Cause;
 use dsec_crypto::Verifier;
 use dsec_group::Group;
@@ -25,7 +25,6 @@ use dsec_name::{Name, NoMemory};
 use dsec_node::{Node, SignedCause, link_by_keys};
 use dsec_wire::Record;
 use std::alloc::Global;
-use std::sync::Arc;
 
 impl<V: Verifier> JudgedGroup<V> {
     /// The zone that is to have signed the group; the node's name where it is judged by an insecure or bogus node; the root for a group of
@@ -108,27 +107,27 @@ impl<V: Verifier> JudgedGroup<V> {
         }
     }
 
-    /// The node that shows that no chain leads to its name, of an insecure group.
-    pub fn insecure(&self) -> Result<Option<Arc<Node<V>>>, NoMemory>
-        ensures { IfOk result (λ found. option_map (λ node. cause_held (arc_value node)) found ≡ insecure_of self.now.finding) }
+    /// What `signed_cause` tells, shared with the node.
+    pub fn insecure(&self) -> Result<Option<SharedCause<V>>, NoMemory>
+        ensures { IfOk result (λ found. option_map by_held found ≡ insecure_of self.now.finding) }
     {
         match &self.shared.basis {
             Basis::ByNode(node, Found::Insecure) => {
-                let node = Arc::try_clone(node)?;
-                Ok(Some(node))
+                let cause = SharedCause::of(node)?;
+                Ok(Some(cause))
             }
             _ => Ok(None),
         }
     }
 
-    /// The cause of a bogus group, and the node whose links lead to the zone whose keys were tried.
-    pub fn bogus(&self) -> Result<Option<(Cause, Arc<Node<V>>)>, NoMemory>
-        ensures { IfOk result (λ found. option_map (λ p. (p.0, (arc_value p.1).links)) found ≡ bogus_of self.now.finding) }
+    /// The cause of a bogus group, and the links to the zone whose keys were tried.
+    pub fn bogus(&self) -> Result<Option<(Cause, SharedLinks<V>)>, NoMemory>
+        ensures { IfOk result (λ found. found ≡ bogus_of self.now.finding) }
     {
         match &self.shared.basis {
             Basis::ByNode(node, Found::Bogus(cause)) => {
-                let node = Arc::try_clone(node)?;
-                Ok(Some((*cause, node)))
+                let links = SharedLinks::of(node)?;
+                Ok(Some((*cause, links)))
             }
             _ => Ok(None),
         }
