@@ -2,6 +2,7 @@ use Rattle.std.proofs.Common.{◌≡◌}
 use Rattle.std.specs.Prelude.{⊤}
 use Rattle.dsec_nodes.specs.World.{on_circle}
 use Rattle.dsec_nodes.specs.Outcomes.{secure}
+use Rattle.dsec_nodes.specs.SoundOutcomes.{IsJustified}
 use Rattle.dsec_plain.specs.PlainAnswers.{IsPlainAnswer}
 use Rattle.dsec_node.specs.Views.{bounds_of, world_of}
 use Rattle.dsec_context.specs.Outside.{HoldsTable, WasHeld, replies_of}
@@ -9,6 +10,15 @@ use Rattle.dsec_context.proofs.ComingLaws as coming
 use Rattle.dsec_context.proofs.LeavingLaws as leaving
 use Rattle.dsec_context.proofs.TableLaws as tables
 use Rattle.dsec_context.proofs.validating.validate_in.Goals as goal
+
+pub returns-clause-sound : goal.returns-clause-sound
+returns-clause-sound g c =
+    let j = c.judge_in-judgement.ensures in
+    let w = world_of g.V.Verifier.accepts c.args.anchors.now (bounds_of c.args.config.now) c.args.now in
+    coming.of_verdict (λ v. IsJustified w c.args.config.now.max_cname_dname c.args.message.now v.outcome v.outcome.state) c.args.anchors.now c.args.config.now.max_cname_dname
+    c.args.message.now c.judge_in-judgement.result.answer c.hand_on.result j.sound
+    (coming.comes w c.args.config.now.max_cname_dname (on_circle c.args.now) c.args.message.now c.judge_in-judgement.result.answer c.hand_on.result c.hand_on.new.message
+    c.judge_in-judgement.result.groups j.groups_sound c.hand_on.ensures.handed)
 
 pub returns-clause-told : goal.returns-clause-told
 returns-clause-told g c =
