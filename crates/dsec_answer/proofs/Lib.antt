@@ -7,3 +7,4 @@ pub mod OutcomeLaws
 pub mod SendingLaws
 pub mod Top
 pub mod PieceLaws
+pub mod ShortLaws

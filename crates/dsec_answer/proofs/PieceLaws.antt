@@ -7,9 +7,8 @@ use Rattle.dsec_outside.specs.Sending.{SentBut}
 use Rattle.dsec_outside.proofs.Pieces.{but_front_more, front_of, more_gathered, more_went, none_sent}
 use Rattle.dsec_nodes.specs.Judging.{Judged}
 use Rattle.dsec_nodes.specs.Outcomes.{Used}
-use Rattle.dsec_answer.specs.Texts.{first_lines, group_lines, head_text, outcome_text, rest_text, used_groups_lines}
+use Rattle.dsec_answer.specs.Texts.{group_lines, head_text, outcome_text, rest_text, used_groups_lines}
 use Rattle.dsec_answer.specs.Told.{Outcome}
-use Rattle.dsec_answer.proofs.UsedLines.{used_here}
 
 -- the next piece of what is left was made, behind what was gathered
 pub made_next : (a b : Option (List ℕ)) (whole gathered now piece more left : List ℕ) → SentBut a b whole (gathered ++ left) → left ≡ piece ++ more → now ≡ gathered ++ piece

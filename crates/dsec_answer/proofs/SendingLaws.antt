@@ -28,7 +28,8 @@ use Rattle.dsec_answer.specs.Told.{Outcome}
 use Rattle.dsec_answer.specs.Texts.{outcome_text}
 use Rattle.dsec_answer.specs.Asked.{WerePut, HoldsAmong}
 use Rattle.dsec_answer.specs.Outcomes.{told_by, world_of_script, outcome_of, IsOutcome, IsText, kept_for, AreOutcomes, texts_from}
-use Rattle.dsec_answer.specs.Sending.{ComesOver, Leads, SoFar}
+use Rattle.dsec_answer.specs.Sending.{ComesOver, Leads, NotAll, SoFar}
+use Rattle.dsec_answer.proofs.ShortLaws.{short_wider}
 use Rattle.dsec_answer.proofs.AskedLaws.{alone_asked, none_put}
 use Rattle.dsec_answer.proofs.AnswerLoop.{texts_append, one_text, no_texts}
 use Rattle.dsec_answer.proofs.OutcomeLaws.{is_outcome, none_among, short_outcome, with_header}
@@ -178,6 +179,23 @@ so_far_front_more accepts anchors table items more all moment held before now af
         text_is = refl;
       },
       but_front_more before now after (texts_from 0 h.outcomes) rest _ text (texts_append 0 h.outcomes others.0) h.sent front,
+    )
+
+-- where not all of these outcomes' text went out, not all of the text of all did
+pub so_far_short : (accepts : Accepts) (anchors : List Record) (table : Table) (items more all : List Item) (moment : ℕ) (held : Held) (before now after : Option (List ℕ))
+    (rest : List ℕ) → items ++ more ≡ all → (h : SoFar accepts anchors table items moment held before now rest) → NotAll before after (texts_from 0 h.outcomes)
+    → (text : List ℕ) × IsText accepts anchors table all text × NotAll before after text
+so_far_short accepts anchors table items more all moment held before now after rest e h short =
+    let others = some_outcomes accepts anchors table moment h.kept more in
+    let text = texts_from 0 (h.outcomes ++ others.0) in (
+      text,
+      record {
+        outcomes = h.outcomes ++ others.0;
+        each = subst (λ (xs : List Item). AreOutcomes accepts anchors table 0 [] xs (h.outcomes ++ others.0)) e
+            (both_outcomes accepts anchors table 0 [] items more h.outcomes others.0 moment h.kept h.each others.1);
+        text_is = refl;
+      },
+      short_wider before after (texts_from 0 h.outcomes) _ text (texts_append 0 h.outcomes others.0) short,
     )
 
 -- one more message's text is gathered

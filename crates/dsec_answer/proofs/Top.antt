@@ -2,7 +2,7 @@
 use Rattle.std.proofs.Common.{◌≡◌, ◌↔◌, ℕ, List, [], ◌∷◌, ◌<◌, ◌≤◌, length, get_or, Option, Some, None, Result, Ok, Err, IfSome, IsTrue, map, Bool, true, false, inl, inr, refl, sym, ap, ◌∙◌, subst, arith}
 use Rattle.std.specs.Prelude.{◌⊎◌, nat_lt, bytes_eq}
 use Rattle.std.specs.Bool.{OnFalse}
-use Rattle.std.specs.Io.KnownBytes.{Consumes, IsAtEnd}
+use Rattle.std.specs.Io.KnownBytes.{Consumes, IsAtEnd, Keeps}
 use Rattle.std.proofs.KnownBytes.{Appends-nil, Consumes-whole, Keeps-refl}
 use Rattle.std.proofs.lemmas.Bool.{ltb-false}
 use Rattle.std.proofs.lemmas.Option.{same_Some}
@@ -17,9 +17,11 @@ use Rattle.dsec_outside.specs.Limit.{limit, line_past}
 use Rattle.dsec_script.specs.Script.{script_of}
 use Rattle.dsec_script.proofs.CallerLemmas.{script_of-taken}
 use Rattle.dsec_spec.specs.Accepts.{Accepts}
-use Rattle.dsec_answer.specs.Headline.{Answered, RefusedAt, Refuses, Done, IsUsageRun, IsValidateRun, SentFor, WentOut, nothing, refused, answer}
+use Rattle.dsec_answer.specs.Headline.{Answered, PartFrom, RefusedAt, Refuses, Done, Stopped, IsUsageRun, IsValidateRun, SentFor, WentOut, nothing, refused, answer}
 use Rattle.dsec_answer.specs.Headline as headline
 use Rattle.dsec_answer.specs.Words.{IsValidate}
+use Rattle.dsec_answer.specs.Outcomes.{IsAnswer}
+use Rattle.dsec_answer.specs.Sending.{NotAll}
 use Rattle.dsec_signing.specs.Words.{sign_in}
 use Rattle.dsec_signing.specs.declared.words.SignWords.{SignWords}
 
@@ -40,6 +42,21 @@ within v script h = by (nat_lt limit (length v)) refl
 
 pub done_of : (accepts : Accepts) (left rest before after : Option (List ℕ)) (v : List ℕ) → Consumes left rest v → (length v ≤ limit → IsAtEnd rest) → Answered accepts v before after → Done accepts left rest before after
 done_of accepts left rest before after v c e a = record { content = v; read = c; whole = e (within v a.script a.reads); answered = a }
+
+-- what stopped after a part of the text went out
+stopped_of : (accepts : Accepts) (left rest before after : Option (List ℕ)) (v : List ℕ) → Consumes left rest v → (length v ≤ limit → IsAtEnd rest)
+    → Keeps before after ⊎ PartFrom accepts v before after → Keeps before after ⊎ Stopped accepts left rest before after
+stopped_of accepts left rest before after v c e (inl kept) = inl kept
+stopped_of accepts left rest before after v c e (inr p) = inr (record { content = v; read = c; whole = e (within v p.script p.reads); part = p })
+
+-- where not all of a script's text went out, nothing did or a part
+pub part_of : (accepts : Accepts) (content : List ℕ) (script : Script) (before after : Option (List ℕ)) → script_of content ≡ Ok script
+    → (text : List ℕ) × IsAnswer accepts script text × NotAll before after text → Keeps before after ⊎ PartFrom accepts content before after
+part_of accepts content script before after reads told = by told.2
+  where
+    by : NotAll before after told.0 → Keeps before after ⊎ PartFrom accepts content before after
+    by (inl e) = inl (subst (Keeps before) (sym e) (Keeps-refl before))
+    by (inr left) = inr (record { script = script; reads = reads; text = told.0; answer = told.1; rest = left.0; is_left = left.1; sent = left.2 })
 
 pub told_answer : (accepts : Accepts) (left rest before after : Option (List ℕ)) → Done accepts left rest before after → IfSome left (λ xs. Answered accepts xs before after)
 told_answer accepts left rest before after d = Consumes-whole left rest d.content (λ xs. Answered accepts xs before after) d.read d.whole d.answered
@@ -80,13 +97,15 @@ more_statuses status (inr (inr (inr e))) = inr (inr (inr (inr e)))
 
 -- what was done with the content is what the run did
 pub run_of : (accepts : Accepts) (status : ℕ) (left rest before after : Option (List ℕ)) (v : List ℕ) → Consumes left rest v → (length v ≤ limit → IsAtEnd rest)
-    → (status ≡ 0 → Answered accepts v before after) → (status ≡ 3 → RefusedAt v before after) → SentFor accepts v before after
+    → (status ≡ 0 → Answered accepts v before after) → (status ≡ 3 → RefusedAt v before after)
+    → (status ≡ 6 → Keeps before after ⊎ PartFrom accepts v before after) → SentFor accepts v before after
     → (status ≡ 0) ⊎ ((status ≡ 3) ⊎ ((status ≡ 5) ⊎ (status ≡ 6))) → IsValidateRun accepts status left rest before after
-run_of accepts status left rest before after v c e answers refuses sent statuses = record {
+run_of accepts status left rest before after v c e answers refuses short sent statuses = record {
   done = λ s. done_of accepts left rest before after v c e (answers s);
   told = λ s. told_answer accepts left rest before after (done_of accepts left rest before after v c e (answers s));
   refused = λ s. record { content = v; read = c; refused = refuses s };
   first = λ s. told_refusal left rest before after v c e (refuses s);
+  short = λ s. stopped_of accepts left rest before after v c e (short s);
   front = headline.script v c sent;
   made = made_of accepts left rest before after v c e sent;
   statuses = more_statuses status statuses;
@@ -99,6 +118,7 @@ idle_run accepts status left rest sent (inl e) = record {
   told = λ s. absurd (omega (arith, s, e));
   refused = λ s. absurd (omega (arith, s, e));
   first = λ s. absurd (omega (arith, s, e));
+  short = λ s. inl (Keeps-refl sent);
   front = headline.nothing (Keeps-refl sent);
   made = made_nothing accepts left sent;
   statuses = inr (inr (inl e));
@@ -108,6 +128,7 @@ idle_run accepts status left rest sent (inr e) = record {
   told = λ s. absurd (omega (arith, s, e));
   refused = λ s. absurd (omega (arith, s, e));
   first = λ s. absurd (omega (arith, s, e));
+  short = λ s. inl (Keeps-refl sent);
   front = headline.nothing (Keeps-refl sent);
   made = made_nothing accepts left sent;
   statuses = inr (inr (inr (inr e)));
@@ -139,7 +160,7 @@ never_two accepts status left rest before after run e = by run.statuses
 
 -- no memory to read the words
 pub no_usage : (sent : Option (List ℕ)) → IsUsageRun 6 sent sent
-no_usage sent = record { told = λ s. absurd (omega (arith, s)); front = (0, Appends-nil sent); statuses = inr (inr refl) }
+no_usage sent = record { told = λ s. absurd (omega (arith, s)); short = λ s. Keeps-refl sent; front = (0, Appends-nil sent); statuses = inr (inr refl) }
 
 -- a refusal that was told is the script's
 pub refused_reads : (e : ScriptError) (r : Refused) (read : Result Script ScriptError) → e ≡ errors.Refused r → OnFalse (wants_memory e) (read ≡ Err e) → read ≡ Err (errors.Refused r)

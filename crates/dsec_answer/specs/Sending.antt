@@ -1,5 +1,5 @@
 -- How far the texts of a script's outcomes have gone out, in code.
-use Rattle.std.specs.Prelude.{◌≡◌, ℕ, List, [], ◌∷◌, ◌++◌, Option}
+use Rattle.std.specs.Prelude.{◌≡◌, ◌≢◌, ◌⊎◌, ℕ, List, [], ◌∷◌, ◌++◌, Option}
 use Rattle.dsec_spec.specs.Records.{Record}
 use Rattle.dsec_spec.specs.Accepts.{Accepts}
 use Rattle.dsec_spec.specs.Outside.{Table}
@@ -32,3 +32,11 @@ pub record SoFar (accepts : Accepts) (anchors : List Record) (table : Table) (it
   pub among : HoldsAmong kept held
   pub each : Leads accepts anchors table 0 [] items outcomes moment kept
   pub sent : SentBut before after (texts_from 0 outcomes) rest
+
+-- nothing went out, or of this text all but a rest that isn't empty
+abbrev pub NotAll : Option (List ℕ) → Option (List ℕ) → List ℕ → Type 0
+NotAll before after text = (after ≡ before) ⊎ ((rest : List ℕ) × (rest ≢ []) × SentBut before after text rest)
+
+-- where something was gathered something still is; and nothing went out, or something is gathered
+abbrev pub HoldsBack : Option (List ℕ) → Option (List ℕ) → List ℕ → List ℕ → Type 0
+HoldsBack before after old new = (old ≢ [] → new ≢ []) × ((after ≡ before) ⊎ (new ≢ []))

@@ -11,7 +11,7 @@ ghost use Rattle.dsec_outside.specs.Faults.{CountsWrites};
 ghost use Rattle.dsec_context.specs.Outside.{replies_of, HoldsTable};
 ghost use Rattle.dsec_answer.specs.Asked.{HoldsAmong};
 ghost use Rattle.dsec_answer.specs.Outcomes.{IsText, kept_for, world_of_script};
-ghost use Rattle.dsec_answer.specs.Sending.{ComesOver};
+ghost use Rattle.dsec_answer.specs.Sending.{ComesOver, NotAll};
 
 use crate::outcome::{Outcome, Unjudged};
 use crate::sending::send_outcome;
@@ -95,6 +95,7 @@ pub fn judge_all<V: Verifier, K: Sink>(
     ensures counts { CountsWrites (K.faults sink.old) (K.faults sink.new) result }
     ensures sent { OnOk result ((text : List ℕ) × IsText V.accepts context.old.anchors upstream.old.replies items.items text × Appends (K.written sink.old) (K.written sink.new) text) }
     ensures front { (text : List ℕ) × IsText V.accepts context.old.anchors upstream.old.replies items.items text × SentFront (K.written sink.old) (K.written sink.new) text }
+    ensures memory { IsErrOf result Halt.Memory → (text : List ℕ) × IsText V.accepts context.old.anchors upstream.old.replies items.items text × NotAll (K.written sink.old) (K.written sink.new) text }
 {
     let mut gathered = Vec::new(alloc);
     let mut index = 0u64;

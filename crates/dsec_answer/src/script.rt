@@ -1,12 +1,13 @@
 //! Scripts judged, or the first refused line of one named.
 
 ghost use Rattle.std.specs.Prelude.{◌≡◌, ◌≤◌, ◌⊎◌, ℕ, List, IfOk, OnOk, IsErrOf};
-ghost use Rattle.std.specs.Io.KnownBytes.{Appends};
+ghost use Rattle.std.specs.Io.KnownBytes.{Appends, Keeps};
 ghost use Rattle.dsec_spec.specs.Outside.{Rose, SentFront};
 ghost use Rattle.dsec_outside.specs.Faults.{CountsWrites};
 ghost use Rattle.dsec_outside.specs.Statuses.{counted_at};
-ghost use Rattle.dsec_answer.specs.Headline.{Answered, RefusedAt, SentFor};
+ghost use Rattle.dsec_answer.specs.Headline.{Answered, PartFrom, RefusedAt, SentFor};
 ghost use Rattle.dsec_answer.specs.Outcomes.{IsAnswer};
+ghost use Rattle.dsec_answer.specs.Sending.{NotAll};
 ghost use Rattle.dsec_answer.specs.Words.{refused_text, word_text};
 ghost use Rattle.dsec_script.specs.Place.{wants_memory};
 ghost use Rattle.dsec_script.specs.Script.{script_of};
@@ -32,6 +33,7 @@ fn judge_script<V: Verifier, K: Sink>(
     ensures counts { CountsWrites (K.faults sink.old) (K.faults sink.new) result }
     ensures sent { OnOk result ((text : List ℕ) × IsAnswer V.accepts script text × Appends (K.written sink.old) (K.written sink.new) text) }
     ensures front { (text : List ℕ) × IsAnswer V.accepts script text × SentFront (K.written sink.old) (K.written sink.new) text }
+    ensures memory { IsErrOf result Halt.Memory → (text : List ℕ) × IsAnswer V.accepts script text × NotAll (K.written sink.old) (K.written sink.new) text }
 {
     let anchors = TrustAnchors::from_vec(script.anchors.into_vec());
     let mut context = ValidationContext::<V>::new(alloc, anchors);
@@ -84,6 +86,7 @@ fn refuse<K: Sink>(alloc: Global, refused: Refused, sink: &mut K) -> Result<(), 
     ensures counts { CountsWrites (K.faults sink.old) (K.faults sink.new) result }
     ensures sent { OnOk result (Appends (K.written sink.old) (K.written sink.new) (refused_text refused)) }
     ensures front { SentFront (K.written sink.old) (K.written sink.new) (refused_text refused) }
+    ensures memory { IsErrOf result Halt.Memory → Keeps (K.written sink.old) (K.written sink.new) }
 {
     let out = refusal(alloc, refused)?;
     send(sink, &out)
@@ -105,6 +108,7 @@ pub fn answer<V: Verifier, K: Sink>(alloc: Global, content: Vec<u8>, sink: &mut 
     ensures done { result ≡ 0 → Answered V.accepts content.items (K.written sink.old) (K.written sink.new) }
     ensures refused { result ≡ 3 → RefusedAt content.items (K.written sink.old) (K.written sink.new) }
     ensures front { SentFor V.accepts content.items (K.written sink.old) (K.written sink.new) }
+    ensures memory { result ≡ 6 → Keeps (K.written sink.old) (K.written sink.new) ⊎ PartFrom V.accepts content.items (K.written sink.old) (K.written sink.new) }
     ensures statuses { (result ≡ 0) ⊎ ((result ≡ 3) ⊎ ((result ≡ 5) ⊎ (result ≡ 6))) }
 {
     match read_once(alloc, content) {

@@ -1,10 +1,12 @@
-//! The text of an outcome, which goes out in blocks while it is made, so that a long one is never held whole.
+//! The text of an outcome, which goes out in blocks while it is made, so that a long one is never held whole. Its last octet is held back
+//! until nothing is left to be made: where memory is wanted not all of it has gone out.
 
 ghost use Rattle.std.specs.Prelude.{◌≡◌, ◌≤◌, ◌++◌, [], ℕ, IfNone, IfSome, OnOk, IsErrOf};
 ghost use Rattle.std.specs.List.{flat_map};
 ghost use Rattle.dsec_spec.specs.Outside.{Rose, SentFront};
 ghost use Rattle.dsec_outside.specs.Faults.{CountsWrites};
 ghost use Rattle.dsec_outside.specs.Sending.{SentBut};
+ghost use Rattle.dsec_answer.specs.Sending.{HoldsBack, NotAll};
 ghost use Rattle.dsec_answer.specs.Texts.{group_lines, outcome_text, rest_text, used_groups_lines};
 
 use crate::outcome::Outcome;
@@ -14,7 +16,7 @@ use dsec_context::{UsedGroup, Why};
 use dsec_crypto::Verifier;
 use dsec_found::JudgedGroup;
 use dsec_group::ValidationState;
-use dsec_outside::{Halt, Sink, send_block};
+use dsec_outside::{BLOCK, Halt, Sink, send};
 use std::alloc::Global;
 
 /// Sends what is written for the outcome of the message of an index, behind what was gathered: whole blocks go out, and what is left of it
@@ -31,9 +33,11 @@ pub(crate) fn send_text<V: Verifier, K: Sink>(
     ensures counts { CountsWrites (K.faults sink.old) (K.faults sink.new) result }
     ensures sent { OnOk result (SentBut (K.written sink.old) (K.written sink.new) (gathered.old.items ++ outcome_text index outcome.now) gathered.new.items) }
     ensures front { SentFront (K.written sink.old) (K.written sink.new) (gathered.old.items ++ outcome_text index outcome.now) }
+    ensures memory { IsErrOf result Halt.Memory → NotAll (K.written sink.old) (K.written sink.new) (gathered.old.items ++ outcome_text index outcome.now) }
+    ensures back { OnOk result (HoldsBack (K.written sink.old) (K.written sink.new) gathered.old.items gathered.new.items) }
 {
     push_head(gathered, index, outcome)?;
-    send_block(sink, gathered)?;
+    send_front(sink, gathered)?;
     match shown_groups(outcome) {
         Some((judged, used)) => send_shown(alloc, sink, gathered, index, judged, used),
         None => Ok(()),
@@ -53,6 +57,8 @@ pub(crate) fn send_outcome<V: Verifier, K: Sink>(
     ensures counts { CountsWrites (K.faults sink.old) (K.faults sink.new) result }
     ensures sent { OnOk result (SentBut (K.written sink.old) (K.written sink.new) (gathered.old.items ++ outcome_text index outcome) gathered.new.items) }
     ensures front { SentFront (K.written sink.old) (K.written sink.new) (gathered.old.items ++ outcome_text index outcome) }
+    ensures memory { IsErrOf result Halt.Memory → NotAll (K.written sink.old) (K.written sink.new) (gathered.old.items ++ outcome_text index outcome) }
+    ensures back { OnOk result (HoldsBack (K.written sink.old) (K.written sink.new) gathered.old.items gathered.new.items) }
 {
     send_text(alloc, sink, gathered, index, &outcome)
 }
@@ -86,6 +92,8 @@ fn send_shown<V: Verifier, K: Sink>(
     ensures counts { CountsWrites (K.faults sink.old) (K.faults sink.new) result }
     ensures sent { OnOk result (SentBut (K.written sink.old) (K.written sink.new) (gathered.old.items ++ (flat_map (λ j. group_lines index j) judged.now ++ used_groups_lines index [] used.now)) gathered.new.items) }
     ensures front { SentFront (K.written sink.old) (K.written sink.new) (gathered.old.items ++ (flat_map (λ j. group_lines index j) judged.now ++ used_groups_lines index [] used.now)) }
+    ensures memory { IsErrOf result Halt.Memory → NotAll (K.written sink.old) (K.written sink.new) (gathered.old.items ++ (flat_map (λ j. group_lines index j) judged.now ++ used_groups_lines index [] used.now)) }
+    ensures back { OnOk result (HoldsBack (K.written sink.old) (K.written sink.new) gathered.old.items gathered.new.items) }
 {
     send_groups(alloc, sink, gathered, index, judged)?;
     send_used_groups(alloc, sink, gathered, index, used)
@@ -104,10 +112,12 @@ fn send_groups<V: Verifier, K: Sink>(
     ensures counts { CountsWrites (K.faults sink.old) (K.faults sink.new) result }
     ensures sent { OnOk result (SentBut (K.written sink.old) (K.written sink.new) (gathered.old.items ++ flat_map (λ j. group_lines index j) judged.now) gathered.new.items) }
     ensures front { SentFront (K.written sink.old) (K.written sink.new) (gathered.old.items ++ flat_map (λ j. group_lines index j) judged.now) }
+    ensures memory { IsErrOf result Halt.Memory → NotAll (K.written sink.old) (K.written sink.new) (gathered.old.items ++ flat_map (λ j. group_lines index j) judged.now) }
+    ensures back { OnOk result (HoldsBack (K.written sink.old) (K.written sink.new) gathered.old.items gathered.new.items) }
 {
     for place in 0..judged.len() {
         push_group(alloc, gathered, index, &judged[place])?;
-        send_block(sink, gathered)?;
+        send_front(sink, gathered)?;
     }
     Ok(())
 }
@@ -125,10 +135,34 @@ fn send_used_groups<V: Verifier, K: Sink>(
     ensures counts { CountsWrites (K.faults sink.old) (K.faults sink.new) result }
     ensures sent { OnOk result (SentBut (K.written sink.old) (K.written sink.new) (gathered.old.items ++ used_groups_lines index [] used.now) gathered.new.items) }
     ensures front { SentFront (K.written sink.old) (K.written sink.new) (gathered.old.items ++ used_groups_lines index [] used.now) }
+    ensures memory { IsErrOf result Halt.Memory → NotAll (K.written sink.old) (K.written sink.new) (gathered.old.items ++ used_groups_lines index [] used.now) }
+    ensures back { OnOk result (HoldsBack (K.written sink.old) (K.written sink.new) gathered.old.items gathered.new.items) }
 {
     for place in 0..used.len() {
         push_first(alloc, gathered, index, &used[..place], &used[place])?;
-        send_block(sink, gathered)?;
+        send_front(sink, gathered)?;
     }
+    Ok(())
+}
+
+/// Sends what was gathered but for its last octet, once that is a block, and else keeps it.
+fn send_front<K: Sink>(sink: &mut K, gathered: &mut Vec<u8>) -> Result<(), Halt>
+    ensures later { K.faults sink.old ≤ K.faults sink.new }
+    ensures write { IsErrOf result Halt.Write → Rose (K.faults sink.old) (K.faults sink.new) }
+    ensures counts { CountsWrites (K.faults sink.old) (K.faults sink.new) result }
+    ensures only { IsErrOf result Halt.Memory → ⊥ }
+    ensures sent { OnOk result (SentBut (K.written sink.old) (K.written sink.new) gathered.old.items gathered.new.items) }
+    ensures front { SentFront (K.written sink.old) (K.written sink.new) gathered.old.items }
+    ensures back { OnOk result (HoldsBack (K.written sink.old) (K.written sink.new) gathered.old.items gathered.new.items) }
+{
+    if gathered.len() < BLOCK {
+        return Ok(());
+    }
+    let Some(last) = gathered.pop() else {
+        return Ok(());
+    };
+    send(sink, gathered)?;
+    gathered.clear();
+    gathered.push_reserved(last);
     Ok(())
 }

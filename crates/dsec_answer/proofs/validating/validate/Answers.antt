@@ -4,4 +4,4 @@ use Rattle.dsec_answer.proofs.validating.validate.Goals as goal
 pub returns-in-Ok-clause-run : goal.returns-in-Ok-clause-run
 returns-in-Ok-clause-run g c =
     run_of g.V.Verifier.accepts _ (g.S.Source.left c.args.source.now) (g.S.Source.left c.read_all.new.source) (g.K.Sink.written c.args.sink.now) (g.K.Sink.written c.answer.new.sink) c.in-Ok.content.items
-    c.in-Ok.ensures.taken c.in-Ok.ensures.whole c.answer.ensures.done c.answer.ensures.refused c.answer.ensures.front c.answer.ensures.statuses
+    c.in-Ok.ensures.taken c.in-Ok.ensures.whole c.answer.ensures.done c.answer.ensures.refused c.answer.ensures.memory c.answer.ensures.front c.answer.ensures.statuses
