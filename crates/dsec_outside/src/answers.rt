@@ -1,7 +1,7 @@
 //! Upstreams in memory: one over a table, one that never fails, and one whose calls of given numbers fail.
 
 ghost use Rattle.std.specs.Prelude.{◌≡◌, ◌≤◌, ◌⊎◌, None, Some, Contains, IfOk, IsErrOf};
-ghost use Rattle.dsec_spec.specs.Outside.{HasNoReply, IsReplyOf, Rose, risen};
+ghost use Rattle.dsec_spec.specs.Outside.{HasNoReply, IsReplyOf, Rose, asked_of, risen};
 ghost use Rattle.dsec_outside.specs.Faults.{CountsFailure};
 ghost use Rattle.dsec_outside.specs.Hearing.{Notes};
 
@@ -46,7 +46,17 @@ impl Upstream for TableUpstream {
 
     ghost heard = { λ _. None };
 
-    fn ask(&mut self, alloc: Global, name: &Name, rtype: Rtype) -> Result<Vec<u8>, AskError> {
+    fn ask(&mut self, alloc: Global, name: &Name, rtype: Rtype) -> Result<Vec<u8>, AskError>
+        ensures told { asked_of self.old.replies name.now rtype ≡ None → IsErrOf result AskError.Failed }
+        ensures same_table { Some self.new.replies ≡ Some self.old.replies }
+        ensures reply { IfOk result (λ reply. IsReplyOf (Some self.old.replies) name.now rtype reply.items) }
+        ensures no_reply { IsErrOf result AskError.Failed → HasNoReply (Some self.old.replies) name.now rtype }
+        ensures later { self.old.faults ≤ self.new.faults }
+        ensures failed { IsErrOf result AskError.Failed → Rose self.old.faults self.new.faults }
+        ensures counts { CountsFailure self.old.faults self.new.faults result }
+        ensures counted { self.new.asked ≡ risen self.old.asked }
+        ensures noted { Notes None None name.now rtype result }
+    {
         self.asked = self.asked.saturating_add(1);
         if let Some(reply) = self.replies.reply(name, rtype) {
             return Ok(reply.to_vec(alloc)?);

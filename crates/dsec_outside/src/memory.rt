@@ -1,6 +1,6 @@
 //! Sources and sinks in memory: those that never fail by themselves, and those whose calls of given numbers fail.
 
-ghost use Rattle.std.specs.Prelude.{◌≡◌, ◌<◌, ◌≤◌, ◌↔◌, ◌⊎◌, ◌||◌, [], true, Some, Contains, IfOk, IsErr, length, min};
+ghost use Rattle.std.specs.Prelude.{◌≡◌, ◌<◌, ◌≤◌, ◌+◌, ◌↔◌, ◌⊎◌, ◌||◌, [], true, Some, Ok, Contains, IfOk, IsErr, IsOk, OnErr, length, min, vec_capacity, vec_len};
 ghost use Rattle.std.specs.Io.{ReadsAtMost};
 ghost use Rattle.std.specs.Io.KnownBytes.{ReadConsumes, WriteAppends};
 ghost use Rattle.dsec_spec.specs.Outside.{HasCause, risen};
@@ -27,7 +27,14 @@ impl<'a> Source for OctetsSource<'a> {
     // No read fails, so none can be blamed that is behind the end.
     ghost ended = { λ _. true };
 
-    fn read(&mut self, buffer: &mut [u8]) -> Result<usize, Failed> {
+    fn read(&mut self, buffer: &mut [u8]) -> Result<usize, Failed>
+        ensures count { result ≡ Ok (min (length self.old.rest.now) (length buffer.old)) }
+        ensures bound { ReadsAtMost result buffer.new }
+        ensures octets { ReadConsumes (Some self.old.rest.now) (Some self.new.rest.now) result buffer.new }
+        ensures cause { HasCause 0 0 result }
+        ensures counts { CountsFault 0 0 result }
+        ensures end { true ≡ (true || tells_end result buffer.new) }
+    {
         self.rest.read(buffer).map_err(|_| Failed)
     }
 }
@@ -60,6 +67,8 @@ impl<'a> Source for FailingSource<'a> {
         ensures cause { HasCause self.old.faults self.new.faults result }
         ensures counts { CountsFault self.old.faults self.new.faults result }
         ensures end { self.new.ended ≡ (self.old.ended || tells_end result buffer.new) }
+        ensures count { IfOk result (λ count. count ≡ min (length self.old.rest.now) (length buffer.old)) }
+        ensures untouched { OnErr result (buffer.new ≡ buffer.old) }
         ensures as_listed { IsErr result ↔ Contains self.old.failing.now self.old.calls }
         ensures counted { self.new.calls ≡ risen self.old.calls }
         ensures same_list { self.new.failing.now ≡ self.old.failing.now }
@@ -106,6 +115,7 @@ impl Sink for OctetsSink {
 
     fn write(&mut self, octets: &[u8]) -> Result<usize, Failed>
         ensures whole { IfOk result (λ count. count ≡ length octets.now) }
+        ensures fits { vec_len self.old.octets + length octets.now ≤ vec_capacity self.old.octets → IsOk result }
         ensures octets { WriteAppends (Some self.old.octets.items) (Some self.new.octets.items) result octets.now }
         ensures cause { HasCause self.old.faults self.new.faults result }
         ensures counts { CountsFault self.old.faults self.new.faults result }
@@ -146,6 +156,8 @@ impl<'a> Sink for FailingSink<'a> {
         ensures cause { HasCause self.old.faults self.new.faults result }
         ensures counts { CountsFault self.old.faults self.new.faults result }
         ensures as_listed { Contains self.old.failing.now self.old.calls ⊎ (self.old.piece ≡ 0) → IsErr result }
+        ensures fits { (Contains self.old.failing.now self.old.calls → ⊥) → 0 < self.old.piece
+            → vec_len self.old.octets + min (length octets.now) self.old.piece ≤ vec_capacity self.old.octets → IsOk result }
         ensures counted { self.new.calls ≡ risen self.old.calls }
         ensures same_list { self.new.failing.now ≡ self.old.failing.now }
         ensures same_piece { self.new.piece ≡ self.old.piece }
