@@ -1,0 +1,106 @@
+//! A zone, signed by its own key.
+
+ghost use Rattle.std.specs.Prelude.{◌≡◌, ◌∷◌, [], IfOk, OnOk};
+ghost use Rattle.dsec_rrsig.specs.Asks.{AsksRefusal};
+ghost use Rattle.dsec_rrsig.specs.Failures.{CountsRefusal};
+ghost use Rattle.dsec_rrsig.specs.Keys.{stand_in_signs};
+ghost use Rattle.dsec_rrsig.specs.Signers.{signer_of};
+ghost use Rattle.dsec_sign.specs.ZoneSigning.{SignsZone, zone_period};
+ghost use Rattle.dsec_spec.specs.Signatures.{IsSignature};
+ghost use Rattle.dsec_uses_signer.specs.Whole.{SaysZone, SignsKey, SignsText, SignsWhole};
+
+use crate::device::Device;
+use crate::keys::{OwnKey, own_key};
+use anyhow::{Context, Error, Result, ensure};
+use dsec_name::Name;
+use dsec_number::Timestamp;
+use dsec_sign::{SignableZoneInPlace, SigningConfig, SigningError, SigningKey, sign_rrset};
+use dsec_signing::read_zone;
+use dsec_sorted::{DenialConfig, Rrset, SortedRecords, is_of_one_class};
+use dsec_wire::Record;
+use std::alloc::Global;
+use std::slice;
+
+/// Adds to a zone its NSEC records, and a signature by the key of each set that is to be signed but its keys, and nothing else (RFC 4035 2).
+fn sign(
+    alloc: Global,
+    apex: &Name,
+    zone: &mut SortedRecords,
+    config: &SigningConfig,
+    key: &mut SigningKey<Device>,
+) -> Result<()>
+    ensures signed { OnOk result (SignsZone stand_in_signs config.now (signer_of (λ device. device.key) key.old ∷ []) apex.now zone.old zone.old zone.new) }
+    ensures kept { signer_of (λ device. device.key) key.new ≡ signer_of (λ device. device.key) key.old }
+    ensures flags { key.new.flags ≡ key.old.flags }
+    ensures faultless { OnOk result (key.new.inner.faults ≡ key.old.inner.faults) }
+{
+    ensure!(is_of_one_class(zone.as_slice()), "several classes");
+    let signed = SignableZoneInPlace::sign_zone(zone, alloc, apex, config, slice::from_mut(key));
+    signed.map_err(Error::msg)
+}
+
+/// Adds to a zone the signature over the record of its key by that key.
+fn sign_key(
+    alloc: Global,
+    zone: &mut SortedRecords,
+    config: &SigningConfig,
+    own: &Record,
+    key: &mut SigningKey<Device>,
+) -> Result<()>
+    ensures signed { OnOk result (SignsKey (zone_period config.now) own.now (signer_of (λ device. device.key) key.old) zone.old zone.new) }
+    ensures kept { signer_of (λ device. device.key) key.new ≡ signer_of (λ device. device.key) key.old }
+    ensures flags { key.new.flags ≡ key.old.flags }
+{
+    let signature = key_signature(alloc, config, own, key).map_err(Error::msg)?;
+    zone.extend(vec![in alloc; signature]?).map_err(Error::msg)?;
+    Ok(())
+}
+
+/// The signature over the record of a zone's key by that key.
+fn key_signature(
+    alloc: Global,
+    config: &SigningConfig,
+    own: &Record,
+    key: &mut SigningKey<Device>,
+) -> Result<Record, SigningError>
+    ensures signed { IfOk result (λ signature. IsSignature stand_in_signs (zone_period config.now) (own.now ∷ [], signer_of (λ device. device.key) key.old) signature) }
+    ensures kept { signer_of (λ device. device.key) key.new ≡ signer_of (λ device. device.key) key.old }
+    ensures flags { key.new.flags ≡ key.old.flags }
+    ensures counts { CountsRefusal key.old.inner.faults key.new.inner.faults result }
+    ensures asks { AsksRefusal key.old.inner.asked key.new.inner.asked result }
+{
+    let set = Rrset::new_from_owned(slice::from_ref(own))?;
+    sign_rrset(alloc, key, &set, config.inception, config.expiration)
+}
+
+/// Signs a zone by its own key, the set of the key too.
+#[tactic(auto, using(crate::proofs::WholeLaws::signed_whole))]
+fn sign_whole(alloc: Global, zone: &mut SortedRecords) -> Result<()>
+    ensures { OnOk result (SignsWhole zone.old zone.new) }
+{
+    let OwnKey { record, mut key } = own_key(zone.as_slice())?;
+    let (inception, expiration) = (Timestamp::from_int(0), Timestamp::from_int(1000));
+    let config = SigningConfig::new(DenialConfig::Nsec, inception, expiration);
+    sign(alloc, record.owner(), zone, &config, &mut key)?;
+    sign_key(alloc, zone, &config, &record, &mut key)?;
+    Ok(())
+}
+
+/// The records of a zone text, in canonical order, of duplicates the first.
+fn zone_of(alloc: Global, text: &[u8]) -> Result<SortedRecords>
+    ensures { IfOk result (λ zone. SaysZone text.now zone) }
+{
+    let records = read_zone(alloc, text).ok().context("no zone text")?;
+    let mut zone = SortedRecords::new(alloc);
+    zone.extend(records).map_err(Error::msg)?;
+    Ok(zone)
+}
+
+/// The zone of a text, signed.
+pub fn signed_zone(alloc: Global, text: &[u8]) -> Result<SortedRecords>
+    ensures { IfOk result (λ made. SignsText text.now made) }
+{
+    let mut zone = zone_of(alloc, text)?;
+    sign_whole(alloc, &mut zone)?;
+    Ok(zone)
+}
