@@ -6,6 +6,7 @@ use Rattle.dsec_spec.specs.Outside.{SentFront}
 use Rattle.dsec_spec.specs.Records.{Record, key_of}
 use Rattle.dsec_spec.specs.Signatures.{IsSignature, Period, Signer}
 use Rattle.dsec_spec.specs.SignedZones.{IsUnion}
+use Rattle.dsec_record_text.specs.Parts.{SentPart}
 use Rattle.dsec_record_text.specs.RecordText.{records_text}
 use Rattle.dsec_record_text.specs.TextBack.{ReadsAs}
 use Rattle.dsec_rrsig.specs.Keys.{stand_in_signs}
@@ -28,7 +29,7 @@ pub record IsOwnKey (zone : List Record) (own : Record) (by : Signer) : Type 0 w
   pub owner : by.owner ≡ own.owner
   pub key : key_of own.rdata ≡ Some by.key
 
--- by NSEC, from the first second of all to the thousandth
+-- by NSEC, with signatures that count from the moment 0 to the moment 1000 (RFC 4034 3.1.5)
 abbrev pub config : SigningConfig
 config = record { denial = configs.Nsec; inception = 0; expiration = 1000 }
 
@@ -72,3 +73,9 @@ pub record WritesFront (text : List ℕ) (before after : Option (List ℕ)) : Ty
   pub made : List Record
   pub signs : SignsText text made
   pub sent : SentFront before after (records_text made)
+
+-- a front of it, and not all
+pub record WritesPart (text : List ℕ) (before after : Option (List ℕ)) : Type 0 where
+  pub made : List Record
+  pub signs : SignsText text made
+  pub sent : SentPart before after (records_text made)

@@ -6,6 +6,7 @@ ghost use Rattle.dsec_rrsig.specs.Failures.{CountsRefusal};
 ghost use Rattle.dsec_rrsig.specs.Keys.{stand_in_signs};
 ghost use Rattle.dsec_rrsig.specs.Signers.{signer_of};
 ghost use Rattle.dsec_sign.specs.ZoneSigning.{SignsZone, zone_period};
+ghost use Rattle.dsec_spec.specs.Outside.{risen};
 ghost use Rattle.dsec_spec.specs.Signatures.{IsSignature};
 ghost use Rattle.dsec_uses_signer.specs.Whole.{SaysZone, SignsKey, SignsText, SignsWhole};
 
@@ -50,6 +51,8 @@ fn sign_key(
     ensures signed { OnOk result (SignsKey (zone_period config.now) own.now (signer_of (λ device. device.key) key.old) zone.old zone.new) }
     ensures kept { signer_of (λ device. device.key) key.new ≡ signer_of (λ device. device.key) key.old }
     ensures flags { key.new.flags ≡ key.old.flags }
+    ensures faultless { OnOk result (key.new.inner.faults ≡ key.old.inner.faults) }
+    ensures asks { OnOk result (key.new.inner.asked ≡ risen key.old.inner.asked) }
 {
     let signature = key_signature(alloc, config, own, key).map_err(Error::msg)?;
     zone.extend(vec![in alloc; signature]?).map_err(Error::msg)?;

@@ -1,12 +1,13 @@
 //! A signed zone, written.
 
-ghost use Rattle.std.specs.Prelude.{◌⊎◌, OnErr, OnOk};
+ghost use Rattle.std.specs.Prelude.{◌≤◌, ◌⊎◌, OnErr, OnOk};
 ghost use Rattle.std.specs.Io.KnownBytes.{Keeps};
-ghost use Rattle.dsec_uses_signer.specs.Whole.{WritesFront, WritesSigned};
+ghost use Rattle.dsec_spec.specs.Outside.{Rose};
+ghost use Rattle.dsec_uses_signer.specs.Whole.{WritesFront, WritesPart, WritesSigned};
 
 use crate::signing::signed_zone;
-use anyhow::{Context, Result};
-use dsec_outside::Sink;
+use anyhow::{Result, bail};
+use dsec_outside::{Halt, Sink};
 use dsec_record_text::send_records;
 use std::alloc::Global;
 
@@ -14,8 +15,13 @@ use std::alloc::Global;
 pub fn write_signed<K: Sink>(alloc: Global, text: &[u8], sink: &mut K) -> Result<()>
     ensures sent { OnOk result (WritesSigned text.now (K.written sink.old) (K.written sink.new)) }
     ensures front { OnErr result (Keeps (K.written sink.old) (K.written sink.new) ⊎ WritesFront text.now (K.written sink.old) (K.written sink.new)) }
+    ensures failed { OnErr result (Keeps (K.written sink.old) (K.written sink.new) ⊎ (Rose (K.faults sink.old) (K.faults sink.new) ⊎ WritesPart text.now (K.written sink.old) (K.written sink.new))) }
+    ensures later { K.faults sink.old ≤ K.faults sink.new }
 {
     let zone = signed_zone(alloc, text)?;
-    let sent = send_records(alloc, zone.as_slice(), sink);
-    sent.ok().context("no room, or no memory")
+    match send_records(alloc, zone.as_slice(), sink) {
+        Ok(()) => Ok(()),
+        Err(Halt::Write) => bail!("a write failed"),
+        Err(Halt::Memory) => bail!("out of memory"),
+    }
 }
