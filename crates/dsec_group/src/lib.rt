@@ -29,6 +29,6 @@ pub use memo::{Memo, NoMemo};
 pub use sections::{GroupedSections, read_groups};
 pub use seed::{FEW_RECORDS, Seed, SeededHasher};
 pub use set::{GroupSet, groups};
-pub use state::ValidationState;
+pub use state::{ValidationState, law_of_equal_states};
 pub use steps::{Step, Steps};
 pub use tries::{Tries, try_all};
