@@ -1,6 +1,6 @@
 //! The key of a set that a DS record speaks of (RFC 4035 5.2).
 
-ghost use Rattle.std.specs.Prelude.{◌≡◌, map};
+ghost use Rattle.std.specs.Prelude.{◌≡◌, ◌↔◌, IsTrue, map};
 ghost use Rattle.dsec_spec.specs.KeySearch.{first_key, is_named, is_spoken_of};
 ghost use Rattle.dsec_spec.specs.Numbers.{DNSKEY};
 ghost use Rattle.dsec_wire.specs.DataViews.{ds_view};
@@ -33,6 +33,13 @@ pub enum KeyTrial {
     Other,
     /// It has the record's algorithm and tag, and may not be tried any more.
     Excess,
+}
+
+/// `==` on what comes of a search is equality, of indexes as well.
+pub fn law_of_equal_searches(search: KeySearch, other: KeySearch) -> bool
+    ensures { IsTrue result ↔ (search ≡ other) }
+{
+    search == other
 }
 
 /// The first key of the owner that the DS record speaks of, among the DNSKEY records in order. Only those with the

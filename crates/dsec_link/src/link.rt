@@ -205,3 +205,10 @@ impl Links {
         self.items
     }
 }
+
+/// `==` on kinds of links is equality.
+pub fn law_of_equal_kinds(kind: LinkKind, other: LinkKind) -> bool
+    ensures { IsTrue result ↔ (kind ≡ other) }
+{
+    kind == other
+}
