@@ -7,6 +7,7 @@ ghost use Rattle.dsec_wire.specs.TypedData.{data_of};
 use crate::data::Data;
 use dsec_name::Name;
 use dsec_number::{Class, Rtype, Ttl};
+use std::alloc::AllocError;
 use std::marker::Model;
 
 /// A resource record (RFC 1035 3.2.1).
@@ -79,7 +80,7 @@ impl Record {
 }
 
 /// A question (RFC 1035 4.1.2).
-#[derive(Clone, Drop)]
+#[derive(Drop)]
 pub struct Question {
     qname: Name,
     qtype: Rtype,
@@ -92,6 +93,21 @@ impl Model for Question {
     ghost Value = { messages.Question };
 
     ghost view = { λ it. record { name = it.qname; rtype = it.qtype; class = it.qclass } };
+}
+
+impl Clone for Question {
+    ghost use Rattle.std.specs.Prelude.{◌≡◌};
+
+    ghost is_clone = { λ old new. new ≡ old };
+
+    fn clone(&self) -> Result<Question, AllocError> {
+        let qname = self.qname.clone()?;
+        Ok(Question {
+            qname,
+            qtype: self.qtype,
+            qclass: self.qclass,
+        })
+    }
 }
 
 impl Question {
