@@ -5,11 +5,12 @@ use Rattle.dsec_spec.specs.Groups.{Group}
 use Rattle.dsec_nodes.specs.World.{World}
 use Rattle.dsec_nodes.specs.Machine.{Walking, Step, node_get, node_put, ask, done, Input, started, advanced}
 use Rattle.dsec_nodes.specs.Judging.{Finding, is_shown, has_no_set, is_insecure, is_bogus, is_indeterminate, Judged, by_node, target_of}
+use Rattle.dsec_nodes.specs.Nodes.{Node}
 use Rattle.dsec_nodes.specs.Outcomes.{Outcome}
-use Rattle.dsec_course.specs.Course.{Waiting, to_begin, for_walk, for_nothing, Course, CourseStep, end_with, Way, at_once, by_walk, way_of}
+use Rattle.dsec_course.specs.Course.{Waiting, for_walk, for_nothing, Course, CourseStep, get_node, put_node, ask_for, end_with, Way, at_once, by_walk, way_of}
 use Rattle.dsec_course.specs.Advancing.{waiting, with_judged, with_walk, setting_out, by_way, going_on, by_found, by_step, by_waiting, course_advanced}
 use Rattle.dsec_course.proofs.GroupLaws.{going_first}
-use Rattle.dsec_core.specs.Progress.{ended_by}
+use Rattle.dsec_core.specs.Progress.{arrived_at, ended_by, judging, said_of}
 
 -- judging goes on with given groups, whatever was left and waited for
 pub going_same : (w : World) (groups : List Group) (c : Course) (left : List Group) (waits : Waiting)
@@ -44,6 +45,13 @@ found_ends w c (is_shown links last signature) = refl
 found_ends w c has_no_set = refl
 found_ends w c (is_insecure cause signed) = refl
 found_ends w c is_indeterminate = refl
+
+-- so that a message ends by the group that was judged last, where that is bogus
+pub bogus_ends : (w : World) (c d after : Course) (j : Judged) (o : Outcome) → ended_by j.finding ≡ Some o → d ≡ with_judged c j → after ≡ waiting d d.left for_nothing
+    → (after, end_with (Ok o)) ≡ judging w c j
+bogus_ends w c d after j o e f h =
+    ap (λ (x : Course). (x, end_with (Ok o))) (h ∙ ap (λ (x : Course). waiting x x.left for_nothing) f)
+    ∙ (ap (by_ended w (with_judged c j)) (sym e) ∙ sym (found_ends w (with_judged c j) j.finding))
 
 -- the first of the groups that are left is passed: judging goes on with the others
 pub one_passed : (w : World) (group : Group) (later : List Group) (c after : Course) → c.left ≡ group ∷ later → after.left ≡ later
@@ -82,16 +90,27 @@ step_same w c waits group s (done n) = by (by_node w group n).finding
     by (is_insecure cause signed) = going_same w d.left d d.left waits
     by is_indeterminate = going_same w d.left d d.left waits
 
--- the step after an input, where the message waited to begin
-pub begins_so : (w : World) (c : Course) (waits : Waiting) (i : Input) (p : Course × CourseStep) → c.waits ≡ to_begin
-    → p ≡ going_on w c.left (waiting c c.left waits) → p ≡ course_advanced w c i
-begins_so w c waits i p e h = h ∙ (going_same w c.left c c.left waits ∙ ap (by_waiting w c i) (sym e))
+-- what is said of a step of the walk that is waited for is what comes of it
+pub said_so : (w : World) (c : Course) (group : Group) (s : Walking) (x : Step) → c.waits ≡ for_walk group s → said_of w c x ≡ by_step w c group s x
+said_so w c group s (node_get name) e = ap (λ (i : Waiting). (waiting c c.left i, get_node name)) e
+said_so w c group s (node_put name n) e = ap (λ (i : Waiting). (waiting c c.left i, put_node name n)) e
+said_so w c group s (ask name rtype) e = ap (λ (i : Waiting). (waiting c c.left i, ask_for name rtype)) e
+said_so w c group s (done n) e = ap (arrived_at w c n) e
 
--- or waited for a walk
-pub walks_so : (w : World) (c : Course) (waits : Waiting) (i : Input) (p : Course × CourseStep) (group : Group) (s : Walking) → c.waits ≡ for_walk group s
-    → p ≡ by_step w (waiting c c.left waits) group (advanced w s i).0 (advanced w s i).1 → p ≡ course_advanced w c i
-walks_so w c waits i p group s e h =
-    h ∙ (step_same w c waits group (advanced w s i).0 (advanced w s i).1 ∙ ap (by_waiting w c i) (sym e))
+-- also where nothing is waited for any more, and the walk is kept
+pub arrives_so : (w : World) (c d : Course) (n : Node) (waits : Waiting) (p : Course × CourseStep) (group : Group) (s : Walking) → c.waits ≡ for_walk group s
+    → d ≡ with_walk (waiting c c.left waits) s → p ≡ judging w d (by_node w group n) → p ≡ arrived_at w c n c.waits
+arrives_so w c d n waits p group s e f h =
+    h ∙ (ap (λ (x : Course). judging w x (by_node w group n)) f ∙ (step_same w c waits group s (done n) ∙ ap (arrived_at w c n) (sym e)))
+
+-- the step after an input, where the message waited for a walk, which has come so far by a step and is waited for then
+pub walks_so : (w : World) (c d : Course) (i : Input) (p : Course × CourseStep) (group : Group) (s t : Walking) (x : Step) → c.waits ≡ for_walk group s
+    → d ≡ waiting c c.left (for_walk group t) → (t, x) ≡ advanced w s i → p ≡ said_of w d x → p ≡ course_advanced w c i
+walks_so w c d i p group s t x e f m h =
+    h ∙ (said_so w d group t x (ap (λ (y : Course). y.waits) f)
+    ∙ (ap (λ (y : Course). by_step w y group t x) f
+    ∙ (step_same w c (for_walk group t) group t x
+    ∙ (ap (λ (q : Walking × Step). by_step w c group q.0 q.1) m ∙ ap (by_waiting w c i) (sym e)))))
 
 -- what holds of a value where there is one goes over to what follows from it
 pub if_there : {A E : Type 0} (r : Result A E) (P Q : A → Type 0) → ((a : A) → P a → Q a) → IfOk r P → IfOk r Q

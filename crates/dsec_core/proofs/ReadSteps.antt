@@ -9,11 +9,10 @@ use Rattle.dsec_spec.specs.Messages.{Question, questions_of, answers_of, authori
 use Rattle.dsec_spec.specs.Records.{Record}
 use Rattle.dsec_spec.specs.Groups.{Group, groups_of}
 use Rattle.dsec_spec.specs.Redirection.{has_too_many, moved, staying_from}
-use Rattle.dsec_nodes.specs.Outcomes.{Outcome, by_nothing, bogus_by}
 use Rattle.dsec_nodes.specs.Alone.{Refusal, sections_of}
-use Rattle.dsec_course.specs.Course.{Waiting, to_begin, to_end, Course}
+use Rattle.dsec_course.specs.Course.{Waiting, to_begin, Course}
 use Rattle.dsec_course.specs.Advancing.{beginning, begun, begun_by, begun_with}
-use Rattle.dsec_core.specs.Progress.{MovesOrEnds, OpensWith, read_as}
+use Rattle.dsec_core.specs.Progress.{MovesOrEnds, OpensWith, first_wait, read_as}
 use Rattle.dsec_cause.specs.declared.cause.Cause.{Cause}
 use Rattle.dsec_cause.specs.declared.cause.Cause.TheVariants.{TooManyUnsignedCnames}
 use Rattle.dsec_course.proofs.BeginningLaws.{unreadable_refused}
@@ -113,11 +112,10 @@ moves_or_ends anchors most before after cause c m =
         begins (Some after) (moved_if false f ∙ ap (λ (gs : List Group). Some gs) (sym (h ∙ ap (λ (o : Option (List Group)). unwrap_or o before) (moved_if false f))))
 
 -- a message that ends at its beginning
-pub ends_so : (anchors : List Record) (most : ℕ) (before after authorities : List Group) (cause : Cause) (left : List Group) (o : Outcome) → MovesOrEnds anchors most before after (Some cause)
-    → left ≡ [] → o ≡ bogus_by cause by_nothing → OpensWith anchors most before authorities 0 left (to_end o)
-ends_so anchors most before after authorities cause left o h ls os = λ message s is others.
-    h message s is ∙ ap (λ (c : Course). Ok c)
-    (ap (λ (x : Outcome). beginning most message s.0 0 [] (to_end x)) (sym os) ∙ ap (λ (l : List Group). beginning most message s.0 0 l (to_end o)) (sym ls))
+pub ends_so : (anchors : List Record) (most : ℕ) (before after authorities : List Group) (cause : Cause) (left : List Group) → MovesOrEnds anchors most before after (Some cause)
+    → left ≡ [] → OpensWith anchors most before authorities 0 left (first_wait (Some cause))
+ends_so anchors most before after authorities cause left h ls = λ message s is others.
+    h message s is ∙ ap (λ (l : List Group). Ok (beginning most message s.0 0 l (first_wait (Some cause)))) (sym ls)
 
 -- one that begins
 pub begins_so : (anchors : List Record) (most : ℕ) (before after authorities : List Group) (count : ℕ) (left : List Group) → MovesOrEnds anchors most before after None

@@ -3,6 +3,7 @@ use Rattle.std.specs.Prelude.{Ok, Err}
 use Rattle.std.specs.Arc.{arc_value}
 use Rattle.dsec_spec.specs.Names.{place}
 use Rattle.dsec_nodes.specs.Alone.{not_one_question}
+use Rattle.dsec_nodes.specs.Outcomes.{bogus_by, by_nothing}
 use Rattle.dsec_course.specs.Course as courses
 use Rattle.dsec_core.specs.declared.step.Step.{Step}
 use Rattle.dsec_core.specs.declared.step.Step.TheVariants.{NodeGet, NodePut, Ask, Done}
@@ -26,6 +27,6 @@ next_view Refuses = courses.end_with (Err not_one_question)
 -- what a message waits for, case by case
 abbrev pub waits_view : {V : Type 0} → Waits V → courses.Waiting
 waits_view ToBegin = courses.to_begin
-waits_view (ToEnd outcome) = courses.to_end outcome
+waits_view (ToEnd cause) = courses.to_end (bogus_by cause by_nothing)
 waits_view (ForWalk group walk) = courses.for_walk group walk
 waits_view ForNothing = courses.for_nothing

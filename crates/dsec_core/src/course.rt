@@ -16,6 +16,7 @@ mod reading;
 mod walks;
 
 use crate::step::{Next, Step};
+use dsec_cause::Cause;
 use dsec_crypto::Verifier;
 use dsec_found::JudgedGroup;
 use dsec_group::{Group, Memo, Steps};
@@ -36,8 +37,8 @@ use std::sync::ledger::Ledger;
 pub(crate) enum Waits<V: Verifier> {
     /// To begin.
     ToBegin,
-    /// To end with an outcome that was known when it was read.
-    ToEnd(Outcome<V>),
+    /// To end as bogus, for a cause that was known when it was read.
+    ToEnd(Cause),
     /// For a walk to the zone that is to have signed a group.
     ForWalk(Group, Walk<V>),
     /// For nothing.
@@ -89,11 +90,16 @@ impl<V: Verifier> Course<V> {
         ensures bound { steps.new ≤ steps.old + most_checked_at (world_in V.accepts setting.now) self.old.waits (input_view input) * (setting.now.config.now.max_bad_signatures + 1) }
     {
         rely_on(setting, &input);
-        match mem::replace(&mut self.waits, Waits::ForNothing) {
+        match &mut self.waits {
             Waits::ToBegin => self.go_on::<L>(alloc, setting, memo, steps),
-            Waits::ToEnd(outcome) => Ok(Next::Says(Step::Done(outcome))),
-            Waits::ForWalk(group, walk) => {
-                self.walked::<L>(alloc, setting, group, walk, input, memo, steps)
+            Waits::ToEnd(cause) => {
+                let outcome = Outcome::bogus(*cause);
+                self.wait_for(Waits::ForNothing);
+                Ok(Next::Says(Step::Done(outcome)))
+            }
+            Waits::ForWalk(_, walk) => {
+                let step = walk.advance::<L>(alloc, setting, input, memo, steps)?;
+                self.stepped::<L>(alloc, setting, step, memo, steps)
             }
             Waits::ForNothing => unreachable!(),
         }
@@ -129,7 +135,7 @@ impl<V: Verifier> Course<V> {
     fn wait_for(&mut self, waits: Waits<V>)
         ensures { self.new ≡ waiting self.old self.old.left (waits_view waits) }
     {
-        self.waits = waits;
+        drop(mem::replace(&mut self.waits, waits));
     }
 
     /// Lets go of all that was judged and is still to be.

@@ -10,8 +10,8 @@ ghost use Rattle.dsec_core.specs.Views.{next_view};
 use super::{Course, Waits};
 use crate::step::{Next, Step};
 use dsec_crypto::Verifier;
-use dsec_found::{AllJudged, Error, JudgedGroup, and_next};
-use dsec_group::{Memo, ValidationState};
+use dsec_found::{Error, JudgedGroup};
+use dsec_group::Memo;
 use dsec_name::NoMemory;
 use dsec_outcome::{Outcome, bogus_under, on_questions};
 use dsec_walk::Setting;
@@ -63,17 +63,11 @@ impl<V: Verifier> Course<V> {
 }
 
 /// What the message comes to by a judged group, if that is bogus.
-pub(super) fn ended<V: Verifier>(
-    alloc: Global,
-    judged: &JudgedGroup<V>,
-) -> Result<Option<Outcome<V>>, NoMemory>
+pub(super) fn ended<V: Verifier>(judged: &JudgedGroup<V>) -> Result<Option<Outcome<V>>, NoMemory>
     ensures { IfOk result (λ outcome. outcome ≡ ended_by judged.now.finding) }
 {
-    if judged.state() != ValidationState::Bogus {
-        return Ok(None);
-    }
-    match and_next(Vec::new(alloc), judged.clone()?)? {
-        AllJudged::OneBogus(cause, links) => Ok(Some(bogus_under(cause, &links)?)),
-        AllJudged::All(_) => Ok(None),
+    match judged.bogus()? {
+        Some((cause, links)) => Ok(Some(bogus_under(cause, &links)?)),
+        None => Ok(None),
     }
 }

@@ -1,14 +1,16 @@
 //! A message read: its groups, which are still to be judged (RFC 1035 4.1, RFC 6672 3.1).
 
-ghost use Rattle.std.specs.Prelude.{◌≡◌, ◌++◌, IfOk, OnOk, Some, Ok};
+ghost use Rattle.std.specs.Prelude.{◌≡◌, ◌++◌, ℕ, List, IfOk, OnOk, Some, Ok};
 ghost use Rattle.dsec_spec.specs.Messages.{rcode_of};
+ghost use Rattle.dsec_spec.specs.Groups as grouping;
 ghost use Rattle.dsec_spec.specs.Reading.{Gives};
+ghost use Rattle.dsec_spec.specs.Records as records;
 ghost use Rattle.dsec_course.specs.Advancing.{beginning as beginning_of, begun as begun_of, begun_by};
 ghost use Rattle.dsec_found.specs.Errors.{wants_memory};
 ghost use Rattle.dsec_group.specs.Reading.{in_groups};
 ghost use Rattle.dsec_group.specs.declared.seed.Seed.{Seed};
 ghost use Rattle.dsec_message.specs.declared.sections.Sections.{Sections};
-ghost use Rattle.dsec_core.specs.Progress.{MovesOrEnds, OpensWith, read_as};
+ghost use Rattle.dsec_core.specs.Progress.{MovesOrEnds, OpensWith, first_wait, read_as};
 ghost use Rattle.dsec_core.specs.Views.{waits_view};
 
 use super::{Course, Waits};
@@ -19,7 +21,6 @@ use dsec_group::{Group, GroupSet, GroupedSections, read_groups};
 use dsec_message::Message;
 use dsec_name::NoMemory;
 use dsec_number::Rcode;
-use dsec_outcome::Outcome;
 use dsec_wire::{Question, Record};
 use std::alloc::Global;
 use std::collections::VecDeque;
@@ -33,9 +34,11 @@ pub(crate) fn begun<V: Verifier>(
 ) -> Result<Course<V>, Error>
     ensures { Gives wants_memory (λ course. course) result (read_as (begun_of anchors.now most message.now)) }
 {
+    // Copied before there is anything to let go of.
+    let octets = octets_of(alloc, message)?;
     let (sections, at) = read_groups(alloc, message)?;
     let rcode = message.rcode_before(alloc, at)?;
-    Ok(by_groups(alloc, anchors, most, message, rcode, sections)?)
+    Ok(by_groups(alloc, anchors, most, octets, rcode, sections)?)
 }
 
 /// The same by the groups of the sections.
@@ -43,58 +46,63 @@ fn by_groups<V: Verifier>(
     alloc: Global,
     anchors: &[Record],
     most: u8,
-    message: &Message,
+    message: Vec<u8>,
     rcode: Rcode,
     groups: GroupedSections,
 ) -> Result<Course<V>, NoMemory>
-    requires { rcode_of message.now ≡ Some rcode }
+    requires { rcode_of message.items ≡ Some rcode }
     ensures { (seed : Seed) (sections : Sections) → groups ≡ in_groups seed sections
-        → IfOk result (λ course. Ok course ≡ begun_by anchors.now most message.now (Some (sections.question, sections.answer, sections.authority))) }
+        → IfOk result (λ course. Ok course ≡ begun_by anchors.now most message.items (Some (sections.question, sections.answer, sections.authority))) }
 {
+    let mut groups = groups;
+    let ends = moved_or_ended(anchors, most, &mut groups.answer)?;
     let GroupedSections {
         question,
         answer,
         authority,
     } = groups;
-    let opening = opened_by(alloc, anchors, most, answer, authority)?;
-    Ok(beginning(alloc, most, message, rcode, question.into_vec(), opening)?)
+    let opening = opened_by(alloc, ends, answer, authority)?;
+    Ok(beginning(alloc, most, message, rcode, question.into_vec(), opening))
 }
 
 /// What a course begins with.
 #[derive(Drop)]
-struct Opening<V: Verifier> {
+struct Opening {
     /// The groups that are to be judged, in order.
     left: Vec<Group>,
     /// How many of them are the answer section's.
     answers: usize,
-    /// What is waited for.
-    waits: Waits<V>,
+    /// Why it ends at once, where it does.
+    ends: Option<Cause>,
 }
 
-/// What a course begins with by the groups of its sections. Where there are too many bare CNAME records to move, it ends at once.
-fn opened_by<V: Verifier>(
+/// What a course begins with by the groups of its sections, whose bare CNAME records were moved; or it ends at once, for a cause.
+fn opened_by(
     alloc: Global,
-    anchors: &[Record],
-    most: u8,
+    ends: Option<Cause>,
     answers: GroupSet,
     authorities: GroupSet,
-) -> Result<Opening<V>, NoMemory>
-    ensures { IfOk result (λ it. OpensWith anchors.now most answers.groups authorities.groups it.answers it.left.items (waits_view it.waits)) }
+) -> Result<Opening, NoMemory>
+    ensures { (anchors : List records.Record) (most : ℕ) (before : List grouping.Group) → MovesOrEnds anchors most before answers.groups ends
+        → IfOk result (λ it. OpensWith anchors most before authorities.groups it.answers it.left.items (first_wait it.ends)) }
 {
-    let mut answers = answers;
-    match moved_or_ended(anchors, most, &mut answers)? {
-        Some(cause) => Ok(Opening {
-            left: Vec::new(alloc),
-            answers: 0,
-            waits: Waits::ToEnd(Outcome::bogus(cause)),
-        }),
+    match ends {
+        Some(cause) => {
+            drop(answers);
+            drop(authorities);
+            Ok(Opening {
+                left: Vec::new(alloc),
+                answers: 0,
+                ends: Some(cause),
+            })
+        }
         None => {
             let count = answers.len();
             let left = in_order(answers, authorities)?;
             Ok(Opening {
                 left,
                 answers: count,
-                waits: Waits::ToBegin,
+                ends: None,
             })
         }
     }
@@ -117,16 +125,15 @@ fn moved_or_ended(
 fn beginning<V: Verifier>(
     alloc: Global,
     most: u8,
-    message: &Message,
+    message: Vec<u8>,
     rcode: Rcode,
     questions: Vec<Question>,
-    opening: Opening<V>,
-) -> Result<Course<V>, NoMemory>
-    requires { rcode_of message.now ≡ Some rcode }
-    ensures { IfOk result (λ course. course ≡ beginning_of most message.now questions.items opening.answers opening.left.items (waits_view opening.waits)) }
+    opening: Opening,
+) -> Course<V>
+    requires { rcode_of message.items ≡ Some rcode }
+    ensures { result ≡ beginning_of most message.items questions.items opening.answers opening.left.items (first_wait opening.ends) }
 {
-    let message = octets_of(alloc, message)?;
-    Ok(Course {
+    Course {
         message,
         rcode,
         questions,
@@ -135,8 +142,18 @@ fn beginning<V: Verifier>(
         left: VecDeque::from_vec(opening.left),
         judged: Vec::new(alloc),
         walks: Vec::new(alloc),
-        waits: opening.waits,
-    })
+        waits: first_wait_by(opening.ends),
+    }
+}
+
+/// What a message waits for first: to begin, or to end, for this cause.
+fn first_wait_by<V: Verifier>(ends: Option<Cause>) -> Waits<V>
+    ensures { waits_view result ≡ first_wait ends }
+{
+    match ends {
+        Some(cause) => Waits::ToEnd(cause),
+        None => Waits::ToBegin,
+    }
 }
 
 /// The groups of both sections, in order.
