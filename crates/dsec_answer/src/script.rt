@@ -1,8 +1,8 @@
 //! Scripts judged, or the first refused line of one named.
 
-ghost use Rattle.std.specs.Prelude.{◌≡◌, ◌≤◌, ◌⊎◌, ℕ, List, IfOk, OnOk, IsErrOf};
+ghost use Rattle.std.specs.Prelude.{◌≡◌, ◌⊎◌, ℕ, List, IfOk, OnOk, IsErrOf};
 ghost use Rattle.std.specs.Io.KnownBytes.{Appends, Keeps};
-ghost use Rattle.dsec_spec.specs.Outside.{Rose, SentFront};
+ghost use Rattle.dsec_spec.specs.Outside.{SentFront};
 ghost use Rattle.dsec_outside.specs.Faults.{CountsWrites};
 ghost use Rattle.dsec_outside.specs.Statuses.{counted_at};
 ghost use Rattle.dsec_answer.specs.Headline.{Answered, PartFrom, RefusedAt, SentFor};
@@ -28,8 +28,6 @@ fn judge_script<V: Verifier, K: Sink>(
     script: Script,
     sink: &mut K,
 ) -> Result<(), Halt>
-    ensures later { K.faults sink.old ≤ K.faults sink.new }
-    ensures write { IsErrOf result Halt.Write → Rose (K.faults sink.old) (K.faults sink.new) }
     ensures counts { CountsWrites (K.faults sink.old) (K.faults sink.new) result }
     ensures sent { OnOk result ((text : List ℕ) × IsAnswer V.accepts script text × Appends (K.written sink.old) (K.written sink.new) text) }
     ensures front { (text : List ℕ) × IsAnswer V.accepts script text × SentFront (K.written sink.old) (K.written sink.new) text }
@@ -81,8 +79,6 @@ fn refusal(alloc: Global, refused: Refused) -> Result<Vec<u8>, NoMemory>
 
 /// Names a refused line.
 fn refuse<K: Sink>(alloc: Global, refused: Refused, sink: &mut K) -> Result<(), Halt>
-    ensures later { K.faults sink.old ≤ K.faults sink.new }
-    ensures write { IsErrOf result Halt.Write → Rose (K.faults sink.old) (K.faults sink.new) }
     ensures counts { CountsWrites (K.faults sink.old) (K.faults sink.new) result }
     ensures sent { OnOk result (Appends (K.written sink.old) (K.written sink.new) (refused_text refused)) }
     ensures front { SentFront (K.written sink.old) (K.written sink.new) (refused_text refused) }
@@ -102,8 +98,6 @@ fn read_once(alloc: Global, content: Vec<u8>) -> Result<Script, ScriptError>
 /// Judges the messages of a script and writes their outcomes, or names its first refused line; and gives the status. The
 /// content is let go before the messages are judged.
 pub fn answer<V: Verifier, K: Sink>(alloc: Global, content: Vec<u8>, sink: &mut K) -> u8
-    ensures later { K.faults sink.old ≤ K.faults sink.new }
-    ensures write { result ≡ 5 → Rose (K.faults sink.old) (K.faults sink.new) }
     ensures counts { K.faults sink.new ≡ counted_at 5 result (K.faults sink.old) }
     ensures done { result ≡ 0 → Answered V.accepts content.items (K.written sink.old) (K.written sink.new) }
     ensures refused { result ≡ 3 → RefusedAt content.items (K.written sink.old) (K.written sink.new) }

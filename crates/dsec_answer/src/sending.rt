@@ -1,9 +1,9 @@
 //! The text of an outcome, which goes out in blocks while it is made, so that a long one is never held whole. Its last octet is held back
 //! until nothing is left to be made: where memory is wanted not all of it has gone out.
 
-ghost use Rattle.std.specs.Prelude.{◌≡◌, ◌≤◌, ◌++◌, [], ℕ, IfNone, IfSome, OnOk, IsErrOf};
+ghost use Rattle.std.specs.Prelude.{◌≡◌, ◌++◌, [], ℕ, IfNone, IfSome, OnOk, IsErrOf};
 ghost use Rattle.std.specs.List.{flat_map};
-ghost use Rattle.dsec_spec.specs.Outside.{Rose, SentFront};
+ghost use Rattle.dsec_spec.specs.Outside.{SentFront};
 ghost use Rattle.dsec_outside.specs.Faults.{CountsWrites};
 ghost use Rattle.dsec_outside.specs.Sending.{SentBut};
 ghost use Rattle.dsec_answer.specs.Sending.{HoldsBack, NotAll};
@@ -28,8 +28,6 @@ pub(crate) fn send_text<V: Verifier, K: Sink>(
     index: u64,
     outcome: &Outcome<V>,
 ) -> Result<(), Halt>
-    ensures later { K.faults sink.old ≤ K.faults sink.new }
-    ensures write { IsErrOf result Halt.Write → Rose (K.faults sink.old) (K.faults sink.new) }
     ensures counts { CountsWrites (K.faults sink.old) (K.faults sink.new) result }
     ensures sent { OnOk result (SentBut (K.written sink.old) (K.written sink.new) (gathered.old.items ++ outcome_text index outcome.now) gathered.new.items) }
     ensures front { SentFront (K.written sink.old) (K.written sink.new) (gathered.old.items ++ outcome_text index outcome.now) }
@@ -52,8 +50,6 @@ pub(crate) fn send_outcome<V: Verifier, K: Sink>(
     index: u64,
     outcome: Outcome<V>,
 ) -> Result<(), Halt>
-    ensures later { K.faults sink.old ≤ K.faults sink.new }
-    ensures write { IsErrOf result Halt.Write → Rose (K.faults sink.old) (K.faults sink.new) }
     ensures counts { CountsWrites (K.faults sink.old) (K.faults sink.new) result }
     ensures sent { OnOk result (SentBut (K.written sink.old) (K.written sink.new) (gathered.old.items ++ outcome_text index outcome) gathered.new.items) }
     ensures front { SentFront (K.written sink.old) (K.written sink.new) (gathered.old.items ++ outcome_text index outcome) }
@@ -87,8 +83,6 @@ fn send_shown<V: Verifier, K: Sink>(
     judged: &[JudgedGroup<V>],
     used: &[UsedGroup<V>],
 ) -> Result<(), Halt>
-    ensures later { K.faults sink.old ≤ K.faults sink.new }
-    ensures write { IsErrOf result Halt.Write → Rose (K.faults sink.old) (K.faults sink.new) }
     ensures counts { CountsWrites (K.faults sink.old) (K.faults sink.new) result }
     ensures sent { OnOk result (SentBut (K.written sink.old) (K.written sink.new) (gathered.old.items ++ (flat_map (λ j. group_lines index j) judged.now ++ used_groups_lines index [] used.now)) gathered.new.items) }
     ensures front { SentFront (K.written sink.old) (K.written sink.new) (gathered.old.items ++ (flat_map (λ j. group_lines index j) judged.now ++ used_groups_lines index [] used.now)) }
@@ -107,8 +101,6 @@ fn send_groups<V: Verifier, K: Sink>(
     index: u64,
     judged: &[JudgedGroup<V>],
 ) -> Result<(), Halt>
-    ensures later { K.faults sink.old ≤ K.faults sink.new }
-    ensures write { IsErrOf result Halt.Write → Rose (K.faults sink.old) (K.faults sink.new) }
     ensures counts { CountsWrites (K.faults sink.old) (K.faults sink.new) result }
     ensures sent { OnOk result (SentBut (K.written sink.old) (K.written sink.new) (gathered.old.items ++ flat_map (λ j. group_lines index j) judged.now) gathered.new.items) }
     ensures front { SentFront (K.written sink.old) (K.written sink.new) (gathered.old.items ++ flat_map (λ j. group_lines index j) judged.now) }
@@ -130,8 +122,6 @@ fn send_used_groups<V: Verifier, K: Sink>(
     index: u64,
     used: &[UsedGroup<V>],
 ) -> Result<(), Halt>
-    ensures later { K.faults sink.old ≤ K.faults sink.new }
-    ensures write { IsErrOf result Halt.Write → Rose (K.faults sink.old) (K.faults sink.new) }
     ensures counts { CountsWrites (K.faults sink.old) (K.faults sink.new) result }
     ensures sent { OnOk result (SentBut (K.written sink.old) (K.written sink.new) (gathered.old.items ++ used_groups_lines index [] used.now) gathered.new.items) }
     ensures front { SentFront (K.written sink.old) (K.written sink.new) (gathered.old.items ++ used_groups_lines index [] used.now) }
@@ -147,8 +137,6 @@ fn send_used_groups<V: Verifier, K: Sink>(
 
 /// Sends what was gathered but for its last octet, once that is a block, and else keeps it.
 fn send_front<K: Sink>(sink: &mut K, gathered: &mut Vec<u8>) -> Result<(), Halt>
-    ensures later { K.faults sink.old ≤ K.faults sink.new }
-    ensures write { IsErrOf result Halt.Write → Rose (K.faults sink.old) (K.faults sink.new) }
     ensures counts { CountsWrites (K.faults sink.old) (K.faults sink.new) result }
     ensures only { IsErrOf result Halt.Memory → ⊥ }
     ensures sent { OnOk result (SentBut (K.written sink.old) (K.written sink.new) gathered.old.items gathered.new.items) }
