@@ -32,8 +32,8 @@ use std::sync::ledger::Ledger;
 pub struct KeyCheck {
     /// Secure where a signature is good, and bogus where none is.
     pub state: ValidationState,
-    /// The owner's rightmost labels, where the signature counts fewer than the owner has, so that the records are a
-    /// wildcard's expansion (RFC 4035 5.3.4).
+    /// The owner's rightmost labels, where the signature counts fewer than the owner has: the records are a wildcard's expansion, or stand
+    /// at the wildcard's own name, whose `*` no signature counts (RFC 4035 5.3.4).
     pub closest_encloser: Option<Name>,
     /// Why no signature is good.
     pub cause: Option<Cause>,

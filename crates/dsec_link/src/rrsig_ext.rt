@@ -38,7 +38,7 @@ pub trait RrsigExt {
         ensures kept { OnErr result (records.new ≡ records.old) };
 
     /// The closest encloser of a wildcard's expansion: the owner's rightmost labels, where the signature counts fewer
-    /// than the owner has (RFC 4035 5.3.4).
+    /// than the owner has (RFC 4035 5.3.4). At the wildcard's own name too, whose `*` no signature counts: that is no expansion.
     fn wildcard_closest_encloser(
         &self,
         alloc: Global,
