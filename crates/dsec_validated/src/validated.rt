@@ -156,7 +156,7 @@ impl<V: Verifier> ValidatedGroup<V> {
         &self.signer
     }
 
-    /// The closest encloser, where the group is Secure as a wildcard's expansion, or at the wildcard's own name (RFC 4035 5.3.4).
+    /// The closest encloser, where the group is Secure as a wildcard's expansion (RFC 4035 5.3.4).
     pub fn closest_encloser(&self) -> Option<&Name>
         ensures { option_map (λ name. name.now) result ≡ self.now.closest_encloser }
     {
