@@ -24,8 +24,7 @@ pub struct GroupedSections {
     pub authority: GroupSet,
 }
 
-/// The questions of a message and the groups of its answer and authority sections, hashed by the message's own seed, and the place
-/// after them.
+/// The questions of a message and the groups of its answer and authority sections, hashed by the message's own seed, and the place after them.
 pub fn read_groups(
     alloc: Global,
     message: &Message,
