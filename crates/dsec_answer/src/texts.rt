@@ -147,7 +147,7 @@ pub(crate) fn push_group<V: Verifier>(
 {
     let last = judged.last_link(alloc)?;
     match (judged.links(), last) {
-        (Some(links), Some(last)) => push_shown(out, index, links.as_slice(), &last),
+        (Some(links), Some(last)) => push_shown(out, index, links, &last),
         _ => Ok(()),
     }
 }

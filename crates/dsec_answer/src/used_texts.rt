@@ -50,7 +50,7 @@ fn push_used_group<V: Verifier>(
 {
     let last = judged.last_link(alloc)?;
     match (judged.links(), last) {
-        (Some(links), Some(last)) => push_chain(alloc, out, index, links.as_slice(), &last),
+        (Some(links), Some(last)) => push_chain(alloc, out, index, links, &last),
         _ => Ok(()),
     }
 }

@@ -10,14 +10,14 @@ use Rattle.dsec_group.specs.Checks.{IsCheck, cause_of}
 use Rattle.dsec_group.specs.declared.check.KeyCheck.{KeyCheck}
 use Rattle.dsec_nodes.specs.Causes.{Cause}
 use Rattle.dsec_nodes.specs.World.{World, Bounds}
-use Rattle.dsec_nodes.specs.Nodes.{Node, Standing, apex, within, insecure, bogus}
+use Rattle.dsec_nodes.specs.Nodes.{Node, Standing, IsBogus, apex, within, insecure, bogus}
 use Rattle.dsec_nodes.specs.Signing.{keys_of, under_keys}
 use Rattle.dsec_nodes.specs.Walk.{held_keys}
 use Rattle.dsec_nodes.specs.Judging.{Finding, is_bogus, Judged, found_by, found_at}
 use Rattle.dsec_node.specs.Views.{world_of}
 use Rattle.dsec_spec.specs.Accepts.{Accepts}
 use Rattle.dsec_found.specs.declared.found.Found.{Found}
-use Rattle.dsec_found.specs.declared.found.Found.TheVariants.{Shown, Insecure, Bogus}
+use Rattle.dsec_found.specs.declared.found.Found.TheVariants.{Shown, Insecure, Bogus, AtBogus}
 use Rattle.dsec_found.specs.Founds.{IsPairAt, ComesTo, StandsBy, by_pair, finding_by}
 
 -- a check that says indexes found a pair there
@@ -61,13 +61,15 @@ zone_found w group n keys found e comes = by found comes ∙ sym (ap (found_at w
     by (Shown i j) c = pair_found group n (held_keys n.standing) keys i j c.0 (ap held_keys e) c.2 ∙ ap (found_by group n keys) (sym c.1)
     by Insecure c = absurd c
     by (Bogus cause) c = refused group n keys cause (under_keys w n.signer keys group) c
+    by (AtBogus cause) c = absurd c
 
 -- and the zone's node has it
 pub zone_stands : (w : World) (group : Group) (n : Node) (keys : List (List ℕ)) (found : Found) → n.standing ≡ apex keys → ComesTo group (keys_of keys) found (under_keys w n.signer keys group)
     → StandsBy group n found
 zone_stands w group n keys (Shown i j) e c = (c.0, subst (λ (ks : List (List ℕ)). IsPairAt group (keys_of ks) i j c.0) (sym (ap held_keys e)) c.2)
 zone_stands w group n keys Insecure e c = absurd c
-zone_stands w group n keys (Bogus cause) e c = tt
+zone_stands w group n keys (Bogus cause) e c = ap IsBogus e
+zone_stands w group n keys (AtBogus cause) e c = absurd c
 
 -- what follows from an answer follows from what it is told of
 pub if_ok : {A E : Type 0} {P Q : A → Type 0} (r : Result A E) → ((a : A) → P a → Q a) → IfOk r P → IfOk r Q

@@ -1,5 +1,5 @@
 -- What is found of a group, as the code keeps it: a node, and a signature and a key by their indexes (RFC 4033 5, RFC 4035 5.3).
-use Rattle.std.specs.Prelude.{◌≡◌, ℕ, List, [], slice_get, Option, Some, None}
+use Rattle.std.specs.Prelude.{◌≡◌, ℕ, false, List, [], slice_get, Option, Some, None}
 use Rattle.std.specs.Arc.{arc_value}
 use Rattle.dsec_spec.specs.Names.{Place, place}
 use Rattle.dsec_spec.specs.Records.{Record, Key}
@@ -7,12 +7,12 @@ use Rattle.dsec_spec.specs.Groups.{Group}
 use Rattle.dsec_spec.specs.Trying.{Tried, good, nothing}
 use Rattle.dsec_group.specs.Checks.{cause_of}
 use Rattle.dsec_nodes.specs.Causes.{Cause}
-use Rattle.dsec_nodes.specs.Nodes.{Node, Standing, SignedCause, apex, within, insecure, bogus}
+use Rattle.dsec_nodes.specs.Nodes.{Node, Standing, IsBogus, SignedCause, apex, within, insecure, bogus}
 use Rattle.dsec_nodes.specs.Signing.{keys_of}
 use Rattle.dsec_nodes.specs.Walk.{held_keys}
 use Rattle.dsec_nodes.specs.Judging.{Finding, has_no_set, is_insecure, is_bogus, is_indeterminate, Judged, found_by}
 use Rattle.dsec_found.specs.declared.found.Found.{Found}
-use Rattle.dsec_found.specs.declared.found.Found.TheVariants.{Shown, Insecure, Bogus}
+use Rattle.dsec_found.specs.declared.found.Found.TheVariants.{Shown, Insecure, Bogus, AtBogus}
 use Rattle.dsec_found.specs.declared.judged.Basis.{Basis}
 use Rattle.dsec_found.specs.declared.judged.Basis.TheVariants.{NoSet, NoAnchor, ByNode}
 
@@ -26,6 +26,7 @@ abbrev pub ComesTo : Group → List Key → Found → Tried (Record × Key) → 
 ComesTo group keys (Shown signature key) tried = (p : Record × Key) × (tried ≡ good p) × IsPairAt group keys signature key p
 ComesTo group keys Insecure tried = ⊥
 ComesTo group keys (Bogus cause) tried = cause_of tried ≡ Some cause
+ComesTo group keys (AtBogus cause) tried = ⊥
 
 -- what is found where a pair is good; without one no signature is
 abbrev pub by_pair : Group → Node → List (List ℕ) → Option Record → Option Key → Finding
@@ -46,12 +47,15 @@ finding_by group n (Shown signature key) =
     by_pair group n (held_keys n.standing) (slice_get group.signatures signature) (slice_get (keys_of (held_keys n.standing)) key)
 finding_by group n Insecure = by_insecure n.standing
 finding_by group n (Bogus cause) = is_bogus cause n.links
+finding_by group n (AtBogus cause) = is_bogus cause []
 
--- the node has what was found by it: the good pair, or the signed record that shows that no chain leads to its name
+-- the node has what was found by it: the good pair, or the signed record that shows that no chain leads to its name; where the group isn't to be
+-- relied on, the node is
 abbrev pub StandsBy : Group → Node → Found → Type 0
 StandsBy group n (Shown signature key) = (p : Record × Key) × IsPairAt group (keys_of (held_keys n.standing)) signature key p
 StandsBy group n Insecure = (cause : Option Cause) × (signed : SignedCause) × (n.standing ≡ insecure cause signed)
-StandsBy group n (Bogus cause) = Unit {0}
+StandsBy group n (Bogus cause) = IsBogus n.standing ≡ false
+StandsBy group n (AtBogus cause) = Unit {0}
 
 -- what is found of a group
 abbrev pub finding_of : {V : Type 0} → Group → Basis V → Finding

@@ -25,8 +25,10 @@ pub(crate) enum Found {
     Shown(usize, usize),
     /// No chain leads to the node's name.
     Insecure,
-    /// The group isn't to be relied on, and why.
+    /// The node is to be relied on and the group isn't, and why.
     Bogus(Cause),
+    /// The node isn't to be relied on, and why.
+    AtBogus(Cause),
 }
 
 /// What is found of a group by a node, at a moment in seconds since 1970.
@@ -57,7 +59,7 @@ pub(crate) fn found_by_node<V: Verifier, L: Ledger>(
         ),
         Standing::Within(_) => Ok(Found::Bogus(Cause::NoSignature)),
         Standing::Insecure(_, _) => Ok(Found::Insecure),
-        Standing::Bogus(cause) => Ok(Found::Bogus(*cause)),
+        Standing::Bogus(cause) => Ok(Found::AtBogus(*cause)),
     }
 }
 

@@ -94,7 +94,7 @@ impl<V: Verifier> JudgedGroup<V> {
             Basis::NoAnchor(_) => ValidationState::Indeterminate,
             Basis::ByNode(_, Found::Shown(_, _)) => ValidationState::Secure,
             Basis::ByNode(_, Found::Insecure) => ValidationState::Insecure,
-            Basis::ByNode(_, Found::Bogus(_)) => ValidationState::Bogus,
+            Basis::ByNode(_, Found::Bogus(_) | Found::AtBogus(_)) => ValidationState::Bogus,
         }
     }
 
@@ -107,7 +107,7 @@ impl<V: Verifier> JudgedGroup<V> {
             Basis::NoAnchor(_) => Some(Cause::NoTrustAnchor),
             Basis::ByNode(_, Found::Shown(_, _)) => None,
             Basis::ByNode(node, Found::Insecure) => node.extended_error(),
-            Basis::ByNode(_, Found::Bogus(cause)) => Some(*cause),
+            Basis::ByNode(_, Found::Bogus(cause) | Found::AtBogus(cause)) => Some(*cause),
         }
     }
 }

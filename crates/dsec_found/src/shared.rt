@@ -1,12 +1,13 @@
 //! What a judged group shares of its node: the signed record by which no chain leads on, or the links (RFC 4033 5, RFC 4035 5.2).
 
-ghost use Rattle.std.specs.Prelude.{◌≡◌, IfOk, Some};
+ghost use Rattle.std.specs.Prelude.{◌≡◌, [], IfOk, Some, false};
 ghost use Rattle.std.specs.Arc.{arc_value};
 ghost use Rattle.dsec_node.specs.Views.{cause_view, signed_cause};
+ghost use Rattle.dsec_nodes.specs.Nodes.{IsBogus};
 ghost use Rattle.dsec_found.specs.Outcomes.{AreKeptLinks, HoldsCause, IsKeptCause};
 
 use dsec_crypto::Verifier;
-use dsec_link::Links;
+use dsec_link::Link;
 use dsec_name::NoMemory;
 use dsec_node::{Node, SignedCause, Standing};
 use std::alloc::AllocError;
@@ -66,20 +67,31 @@ impl<V: Verifier> SharedCause<V> {
     }
 }
 
-/// The links to the zone whose keys were tried, shared with the zone's node; of a bogus node there may be none.
+/// A zone whose keys were tried, by its node.
+#[derive(Drop)]
+enum TriedZone<V: Verifier> {
+    /// None: the node that was found is bogus.
+    NoZone,
+    /// This one, whose node isn't bogus.
+    Zone(Arc<Node<V>>),
+}
+
+/// The links to the zone whose keys were tried, shared with the zone's node; none where that is bogus.
 #[derive(Drop)]
 pub struct SharedLinks<V: Verifier> {
-    node: Arc<Node<V>>,
+    zone: TriedZone<V>,
 }
 
 impl<V: Verifier> Model for SharedLinks<V> {
     ghost use Rattle.std.specs.Prelude.{List};
-    ghost use Rattle.std.specs.Arc.{arc_value};
     ghost use Rattle.dsec_spec.specs.Chain.{Link};
+    ghost use Rattle.dsec_found.specs.Outcomes.{IsReliedOn, tried_links};
 
     ghost Value = { List Link };
 
-    ghost view = { λ it. (arc_value it.node).links };
+    ghost view = { λ it. tried_links it.zone };
+
+    ghost invariant = { λ it. IsReliedOn it.zone };
 }
 
 impl<V: Verifier> Clone for SharedLinks<V> {
@@ -88,25 +100,43 @@ impl<V: Verifier> Clone for SharedLinks<V> {
     ghost is_clone = { λ old new. new ≡ old };
 
     fn clone(&self) -> Result<SharedLinks<V>, AllocError> {
-        let node = Arc::try_clone(&self.node)?;
-        Ok(SharedLinks { node })
+        let zone = match &self.zone {
+            TriedZone::NoZone => TriedZone::NoZone,
+            TriedZone::Zone(node) => TriedZone::Zone(Arc::try_clone(node)?),
+        };
+        Ok(SharedLinks { zone })
     }
 }
 
 impl<V: Verifier> SharedLinks<V> {
-    /// The links of a node.
+    /// No links.
+    pub(crate) fn none() -> SharedLinks<V>
+        ensures { result ≡ [] }
+    {
+        SharedLinks {
+            zone: TriedZone::NoZone,
+        }
+    }
+
+    /// The links of a node that isn't bogus.
     pub(crate) fn of(node: &Arc<Node<V>>) -> Result<SharedLinks<V>, NoMemory>
+        requires { IsBogus (arc_value node.now).standing ≡ false }
         ensures { IfOk result (λ it. it ≡ (arc_value node.now).links) }
     {
         let node = Arc::try_clone(node)?;
-        Ok(SharedLinks { node })
+        Ok(SharedLinks {
+            zone: TriedZone::Zone(node),
+        })
     }
 
     /// The links, from the anchor's on.
-    pub fn links(&self) -> &Links
+    pub fn links(&self) -> &[Link]
         ensures value { result.now ≡ self.now }
         ensures kept { AreKeptLinks V.accepts self.now }
     {
-        self.node.chain()
+        match &self.zone {
+            TriedZone::NoZone => &[],
+            TriedZone::Zone(node) => node.chain().as_slice(),
+        }
     }
 }

@@ -39,12 +39,13 @@ found_by group n keys nothing = is_bogus NoSignature n.links
 found_by group n keys all_bad = is_bogus BadSignature n.links
 found_by group n keys too_many_bad = is_bogus TooManyBadSignatures n.links
 
--- what is found of a group by the node of the zone that is to have signed it; below a name within a zone there are no keys (RFC 4033 5)
+-- what is found of a group by the node of the zone that is to have signed it; below a name within a zone there are no keys, and no keys are tried
+-- by a bogus node (RFC 4033 5)
 abbrev pub found_at : World → Group → Node → Standing → Finding
 found_at w group n (apex keys) = found_by group n keys (under_keys w n.signer keys group)
 found_at w group n (within last) = is_bogus NoSignature n.links
 found_at w group n (insecure cause signed) = is_insecure cause signed
-found_at w group n (bogus cause) = is_bogus cause n.links
+found_at w group n (bogus cause) = is_bogus cause []
 
 -- a group, judged by a node (RFC 4035 4.3)
 abbrev pub by_node : World → Group → Node → Judged

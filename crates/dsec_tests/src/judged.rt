@@ -47,7 +47,7 @@ fn is_shown<V: Verifier>(alloc: Global, judged: &JudgedGroup<V>) -> bool {
     let Some(links) = judged.links() else {
         return false;
     };
-    let [first] = links.as_slice() else {
+    let [first] = links else {
         return false;
     };
     match judged.last_link(alloc) {

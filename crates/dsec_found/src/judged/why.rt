@@ -20,7 +20,7 @@ use dsec_cause::Cause;
 use dsec_crypto::Verifier;
 use dsec_group::Group;
 use dsec_keys::KeyList;
-use dsec_link::{Link, LinkKind, Links};
+use dsec_link::{Link, LinkKind};
 use dsec_name::{Name, NoMemory};
 use dsec_node::{Node, SignedCause, link_by_keys};
 use dsec_wire::Record;
@@ -51,13 +51,14 @@ impl<V: Verifier> JudgedGroup<V> {
         }
     }
 
-    /// The links to the zone whose keys were tried with the group.
-    pub fn links(&self) -> Option<&Links>
+    /// The links to the zone whose keys were tried with the group; none of a group whose zone is bogus.
+    pub fn links(&self) -> Option<&[Link]>
         ensures { option_map (λ links. links.now) result ≡ zone_links self.now.finding }
     {
         match &self.shared.basis {
-            Basis::ByNode(node, Found::Shown(_, _)) => Some(node.chain()),
-            Basis::ByNode(node, Found::Bogus(_)) => Some(node.chain()),
+            Basis::ByNode(node, Found::Shown(_, _)) => Some(node.chain().as_slice()),
+            Basis::ByNode(node, Found::Bogus(_)) => Some(node.chain().as_slice()),
+            Basis::ByNode(_, Found::AtBogus(_)) => Some(&[]),
             _ => None,
         }
     }
@@ -120,7 +121,7 @@ impl<V: Verifier> JudgedGroup<V> {
         }
     }
 
-    /// The cause of a bogus group, and the links to the zone whose keys were tried.
+    /// The cause of a bogus group, and the links to the zone whose keys were tried, or none where that is bogus.
     pub fn bogus(&self) -> Result<Option<(Cause, SharedLinks<V>)>, NoMemory>
         ensures { IfOk result (λ found. found ≡ bogus_of self.now.finding) }
     {
@@ -129,6 +130,7 @@ impl<V: Verifier> JudgedGroup<V> {
                 let links = SharedLinks::of(node)?;
                 Ok(Some((*cause, links)))
             }
+            Basis::ByNode(_, Found::AtBogus(cause)) => Ok(Some((*cause, SharedLinks::none()))),
             _ => Ok(None),
         }
     }
