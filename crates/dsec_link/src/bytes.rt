@@ -1,6 +1,6 @@
 //! The octets that a signature is over (RFC 4034 3.1.8.1).
 
-ghost use Rattle.std.specs.Prelude.{◌≡◌, ◌++◌, IfOk, OnOk, drop, map};
+ghost use Rattle.std.specs.Prelude.{◌≡◌, ◌++◌, IfOk, OnErr, OnOk, drop, length, map, take};
 ghost use Rattle.std.specs.Int.{to_be_bytes, w16};
 ghost use Rattle.std.specs.List.{flat_map};
 ghost use Rattle.dsec_spec.specs.Names.{canonical_octets};
@@ -96,9 +96,10 @@ pub(crate) fn front_of(
     Ok(out)
 }
 
-/// Adds the RRSIG's data up to the signature.
+/// Adds the RRSIG's data up to the signature. Where memory is wanting, a part of it may be there.
 pub fn push_head(out: &mut Vec<u8>, rrsig: &Rrsig<'_>) -> Result<(), NoMemory>
-    ensures { OnOk result (out.new.items ≡ out.old.items ++ head_octets (rrsig_view rrsig.now)) }
+    ensures ok { OnOk result (out.new.items ≡ out.old.items ++ head_octets (rrsig_view rrsig.now)) }
+    ensures err { OnErr result (take (length out.old.items) out.new.items ≡ out.old.items) }
 {
     push_fixed(out, rrsig)?;
     rrsig.signer_name.compose_canonical(out)
@@ -132,9 +133,10 @@ fn push_front(out: &mut Vec<u8>, front: &[u8], size: usize) -> Result<(), NoMemo
     Ok(())
 }
 
-/// Adds the 18 octets before the signer's name (RFC 4034 3.1).
+/// Adds the 18 octets before the signer's name (RFC 4034 3.1). Where memory is wanting, a part of it may be there.
 pub fn push_fixed(out: &mut Vec<u8>, rrsig: &Rrsig<'_>) -> Result<(), NoMemory>
-    ensures { OnOk result (out.new.items ≡ out.old.items ++ fixed_octets (rrsig_view rrsig.now)) }
+    ensures ok { OnOk result (out.new.items ≡ out.old.items ++ fixed_octets (rrsig_view rrsig.now)) }
+    ensures err { OnErr result (take (length out.old.items) out.new.items ≡ out.old.items) }
 {
     out.extend_from_slice(&rrsig.type_covered.to_int().to_be_bytes())?;
     out.extend_from_slice(&[rrsig.algorithm.to_int(), rrsig.labels])?;

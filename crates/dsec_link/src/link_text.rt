@@ -1,6 +1,6 @@
 //! The line of a link.
 
-ghost use Rattle.std.specs.Prelude.{◌≡◌, ◌++◌, ◌∷◌, OnOk};
+ghost use Rattle.std.specs.Prelude.{◌≡◌, ◌++◌, ◌∷◌, OnErr, OnOk};
 ghost use Rattle.std.specs.List.{flat_map};
 ghost use Rattle.std.specs.Option.{option_map};
 ghost use Rattle.hex.specs.Hex.{encode_lower};
@@ -15,11 +15,15 @@ use dsec_word::{push_hex, push_name, push_number};
 
 /// Adds the line of a link.
 pub fn push_link(out: &mut Vec<u8>, index: u64, link: &Link) -> Result<(), NoMemory>
-    ensures { OnOk result (out.new.items ≡ out.old.items ++ link_line index link.now) }
+    ensures ok { OnOk result (out.new.items ≡ out.old.items ++ link_line index link.now) }
+    ensures err { OnErr result (out.new.items ≡ out.old.items) }
 {
-    push_head(out, index, link)?;
-    push_data(out, link)?;
-    out.push(b'\n')?;
+    // A line that is begun and not ended isn't left in `out`.
+    let mut line = Vec::new(*out.allocator());
+    push_head(&mut line, index, link)?;
+    push_data(&mut line, link)?;
+    line.push(b'\n')?;
+    out.extend_from_slice(&line)?;
     Ok(())
 }
 

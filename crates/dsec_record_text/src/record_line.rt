@@ -1,6 +1,6 @@
 //! The line of a record in zone text.
 
-ghost use Rattle.std.specs.Prelude.{◌≡◌, ◌++◌, ℕ, List, OnOk};
+ghost use Rattle.std.specs.Prelude.{◌≡◌, ◌++◌, ℕ, List, OnErr, OnOk};
 ghost use Rattle.dsec_name.specs.NameDisplay.{name_text};
 ghost use Rattle.dsec_record_text.specs.RecordText.{line_data, line_head, record_line};
 
@@ -10,10 +10,15 @@ use dsec_word::{push_hex, push_name, push_number};
 
 /// Adds the line of a record: its class and type by number, its data in the generic form (RFC 3597 5).
 pub fn push_record_line(out: &mut Vec<u8>, it: &Record) -> Result<(), NoMemory>
-    ensures { OnOk result (out.new.items ≡ out.old.items ++ record_line it.now) }
+    ensures ok { OnOk result (out.new.items ≡ out.old.items ++ record_line it.now) }
+    ensures err { OnErr result (out.new.items ≡ out.old.items) }
 {
-    push_name(out, it.owner())?;
-    push_rest(out, it)
+    // A line that is begun and not ended isn't left in `out`.
+    let mut line = Vec::new(*out.allocator());
+    push_name(&mut line, it.owner())?;
+    push_rest(&mut line, it)?;
+    out.extend_from_slice(&line)?;
+    Ok(())
 }
 
 /// The same, where the owner's text is at hand.

@@ -1,6 +1,6 @@
 //! Type bitmaps, read and written (RFC 4034 4.1.2).
 
-ghost use Rattle.std.specs.Prelude.{◌≡◌, ◌≢◌, ◌≤◌, ◌<◌, ◌/◌, ◌-◌, ◌+◌, ◌*◌, ℕ, length, nat_eq, slice_index, true, false, if◌then◌else◌, All, Any, OnOk};
+ghost use Rattle.std.specs.Prelude.{◌≡◌, ◌≢◌, ◌≤◌, ◌<◌, ◌/◌, ◌-◌, ◌+◌, ◌*◌, ℕ, length, nat_eq, slice_index, true, false, if◌then◌else◌, All, Any, OnErr, OnOk, take};
 ghost use Rattle.std.specs.List.{list_any};
 ghost use Rattle.dsec_spec.specs.TypeBitmaps.{bit_of, has_type};
 ghost use Rattle.dsec_sorted.specs.Written.{AddsBitmap};
@@ -12,9 +12,10 @@ use dsec_number::Rtype;
 const WINDOWS: u16 = 256;
 
 /// Adds the bitmap that has exactly these types, in any order and also several times. It takes a pass over the types for each window
-/// that has one.
+/// that has one. Where memory is wanting, a part of it may be there.
 pub fn push_bitmap(out: &mut Vec<u8>, types: &[Rtype]) -> Result<(), NoMemory>
-    ensures { OnOk result (AddsBitmap out.old.items out.new.items types.now) }
+    ensures ok { OnOk result (AddsBitmap out.old.items out.new.items types.now) }
+    ensures err { OnErr result (take (length out.old.items) out.new.items ≡ out.old.items) }
 {
     let mut from: u16 = 0;
     let mut window = least_window(types, from);

@@ -9,7 +9,7 @@ use Rattle.dsec_chain.proofs.nsec.nsec_record.Goals as goal
 
 pub new-rdata-requires : goal.new-rdata-requires
 new-rdata-requires c =
-    let adds = c.in_ok-push_bitmap.ensures in
+    let adds = c.in_ok-push_bitmap.ensures.ok in
     let next = c.args.next.now in
     let octets : c.new.result ≡ wire_octets next ++ adds.bitmap =
     c.new.ensures ∙ (adds.is ∙ ap (λ (x : List ℕ). x ++ adds.bitmap) (c.in_ok-compose.ensures.ok ∙ ap (λ (x : List ℕ). x ++ wire_octets next) c.new-octets.ensures.items)) in
@@ -17,7 +17,7 @@ new-rdata-requires c =
 
 pub returns : goal.returns
 returns c =
-    let adds = c.in_ok-push_bitmap.ensures in
+    let adds = c.in_ok-push_bitmap.ensures.ok in
     let next = c.args.next.now in
     let octets : c.new.result ≡ wire_octets next ++ adds.bitmap =
     c.new.ensures ∙ (adds.is ∙ ap (λ (x : List ℕ). x ++ adds.bitmap) (c.in_ok-compose.ensures.ok ∙ ap (λ (x : List ℕ). x ++ wire_octets next) c.new-octets.ensures.items)) in

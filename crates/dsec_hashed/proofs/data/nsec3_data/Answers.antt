@@ -9,7 +9,7 @@ new-requires-2 c =
     let config = c.args.config.now in
     let how = hashing_of config in
     let next = c.args.next.now in
-    let adds = c.in_ok-push_bitmap.ensures in
+    let adds = c.in_ok-push_bitmap.ensures.ok in
     let octets : c.new.result ≡ nsec3_octets (record { hashing = how; next_owner = next; types = adds.bitmap }) =
     c.new.ensures ∙ (adds.is ∙ (ap (λ (x : List ℕ). x ++ adds.bitmap) (c.in_ok-extend_from_slice.ensures.items ∙ ap (λ (x : List ℕ). x ++ next) (c.in_ok-push.ensures.items ∙ ap (λ (x : List ℕ). x ++ 20 ∷ [])
     (c.in_ok-push_hashing.ensures.octets ∙ (ap (λ (x : List ℕ). x ++ hashing_octets (record { hash_algorithm = 1; flags = c.flags_of.result; iterations = config.iterations; salt = config.salt })) c.new-octets.ensures.items
@@ -21,7 +21,7 @@ returns c =
     let config = c.args.config.now in
     let how = hashing_of config in
     let next = c.args.next.now in
-    let adds = c.in_ok-push_bitmap.ensures in
+    let adds = c.in_ok-push_bitmap.ensures.ok in
     let octets : c.new.result ≡ nsec3_octets (record { hashing = how; next_owner = next; types = adds.bitmap }) =
     c.new.ensures ∙ (adds.is ∙ (ap (λ (x : List ℕ). x ++ adds.bitmap) (c.in_ok-extend_from_slice.ensures.items ∙ ap (λ (x : List ℕ). x ++ next) (c.in_ok-push.ensures.items ∙ ap (λ (x : List ℕ). x ++ 20 ∷ [])
     (c.in_ok-push_hashing.ensures.octets ∙ (ap (λ (x : List ℕ). x ++ hashing_octets (record { hash_algorithm = 1; flags = c.flags_of.result; iterations = config.iterations; salt = config.salt })) c.new-octets.ensures.items

@@ -8,5 +8,5 @@ use Rattle.dsec_rrsig.proofs.message.rrsig_data.Goals as goal
 pub new-requires-2 : goal.new-requires-2
 new-requires-2 c =
     let octets : c.new.result ≡ fixed_octets (rrsig_view c.args.rrsig.now) ++ wire_octets c.args.signer.now ++ c.args.signature.now =
-    rw (c.new.ensures, c.in_ok-extend_from_slice.ensures.items, c.in_ok-compose.ensures.ok, c.in_ok-push_fixed.ensures, c.in_ok-octets.ensures.items) (simp append_assoc) in
+    rw (c.new.ensures, c.in_ok-extend_from_slice.ensures.items, c.in_ok-compose.ensures.ok, c.in_ok-push_fixed.ensures.ok, c.in_ok-octets.ensures.items) (simp append_assoc) in
     rw octets (rrsig_readable (rrsig_view c.args.rrsig.now) c.args.signer.now c.args.signature.now c.compose.ensures.name c.requires)

@@ -21,7 +21,7 @@ loop-window-preserved c =
       encoded = rw new (window_added old was c.args.types.now bits c.loop-window.from w n c.window_bits-bits.ensures.bits c.used-size.ensures.fits c.window_bits-bits.ensures.len c.used-size.ensures.rest c.used-size.ensures.last i.least found.0 found.1 i.encoded);
     }
 
-pub returns : goal.returns
-returns c =
+pub returns-clause-ok : goal.returns-clause-ok
+returns-clause-ok c =
     let i = c.loop-window.invariant in
     all_encoded c.args.out.now.items c.loop-window.out.items c.args.types.now c.loop-window.from c.loop-window.window i.bounds.0 (let h = c.loop-window-test.false in omega arith) i.least i.encoded
