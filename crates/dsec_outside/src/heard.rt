@@ -68,6 +68,7 @@ impl<U: Upstream> Upstream for HearingUpstream<U> {
         ensures noted { Notes (Some (map entry_of self.old.heard.items)) (Some (map entry_of self.new.heard.items)) name.now rtype result }
         ensures inner_asked { IsErrOf result AskError.NoMemory ⊎ (U.asked self.new.inner ≡ risen (U.asked self.old.inner)) }
         ensures inner_once { (U.asked self.new.inner ≡ U.asked self.old.inner) ⊎ (U.asked self.new.inner ≡ risen (U.asked self.old.inner)) }
+        ensures inner_noted { IsErrOf result AskError.NoMemory ⊎ Notes (U.heard self.old.inner) (U.heard self.new.inner) name.now rtype result }
     {
         self.asked = self.asked.saturating_add(1);
         let name_heard = name_copy(name)?;
