@@ -45,7 +45,8 @@ cause_of nothing = Some NoSignature
 cause_of all_bad = Some BadSignature
 cause_of too_many_bad = Some TooManyBadSignatures
 
--- the owner's rightmost labels that the signature counts, where the owner has more: the closest encloser of a wildcard's expansion (RFC 4035 5.3.4)
+-- the owner's rightmost labels that the signature counts, where the owner has more: of an expansion its closest encloser, of a wildcard's own set
+-- what the wildcard stands below (RFC 4035 5.3.4)
 abbrev pub encloser_by : Labels → Option Rrsig → Option Labels
 encloser_by owner (Some sig) = encloser_of sig.labels owner
 encloser_by owner None = None
