@@ -2,6 +2,7 @@
 #![tactic(auto)]
 
 mod command;
+mod compared;
 mod judging;
 mod outcome;
 mod script;
@@ -11,6 +12,7 @@ mod used_texts;
 mod validating;
 
 pub use command::{run, run_by};
+pub use compared::law_of_equal_unjudged;
 pub use dsec_context::{Error, ValidationContext, Verdict, Why, validate_in};
 pub use outcome::{Outcome, Unjudged};
 pub use texts::text;

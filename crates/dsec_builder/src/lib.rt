@@ -3,6 +3,7 @@
 
 mod builder;
 mod building;
+mod compared;
 mod error;
 mod items;
 mod laws;
@@ -10,6 +11,7 @@ mod octets;
 mod sections;
 
 pub use builder::{MessageBuilder, QuestionBuilder};
+pub use compared::law_of_equal_push_errors;
 pub use error::PushError;
 pub use laws::law_of_built_messages;
 pub use sections::{AdditionalBuilder, AnswerBuilder, AuthorityBuilder};

@@ -1,6 +1,7 @@
 //! Digests for DNSSEC, and who says that a signature is good.
 #![tactic(auto)]
 
+mod compared;
 mod digest;
 mod error;
 mod iterated;
@@ -8,6 +9,10 @@ mod stand_in;
 mod table;
 mod verifier;
 
+pub use compared::{
+    law_of_equal_algorithm_errors, law_of_equal_digest_types, law_of_equal_digests,
+    law_of_equal_dnskey_errors,
+};
 pub use digest::{Digest, DigestBuilder, DigestType};
 pub use error::{AlgorithmError, FromDnskeyError};
 pub use iterated::ih;

@@ -3,6 +3,7 @@
 
 mod bearing;
 mod both;
+mod compared;
 mod decision;
 mod expansion;
 mod finding;
@@ -16,6 +17,7 @@ mod reading;
 mod search;
 
 pub use both::denials_for_missing_ds;
+pub use compared::{law_of_equal_ds_findings, law_of_equal_signed_places};
 pub use expansion::is_expanded;
 pub use finding::{DsFinding, SignedAt};
 pub use hashed_search::nsec3_for_missing_ds;

@@ -2,6 +2,7 @@
 #![tactic(auto)]
 
 mod begun;
+mod compared;
 mod error;
 mod found;
 mod island;
@@ -12,6 +13,7 @@ mod shared;
 mod target;
 
 pub use begun::{Begun, begin};
+pub use compared::law_of_equal_errors;
 pub use error::Error;
 pub use island::is_above_island;
 pub use judged::JudgedGroup;

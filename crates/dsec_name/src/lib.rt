@@ -2,6 +2,7 @@
 #![tactic(auto)]
 
 mod compare;
+mod compared;
 mod display;
 mod error;
 mod label;
@@ -14,6 +15,7 @@ mod parts;
 mod push_name;
 mod text;
 
+pub use compared::{law_of_equal_name_errors, law_of_equal_push_name_errors, law_of_equal_wants};
 pub use error::{NameError, NoMemory};
 pub use laws::{law_of_display, law_of_equality, law_of_text, law_of_wire};
 pub use name::Name;

@@ -3,6 +3,7 @@
 
 mod answer;
 mod answers;
+mod compared;
 mod encloser;
 mod missing;
 mod nodata;
@@ -17,6 +18,7 @@ mod used;
 
 pub use answer::Answer;
 pub use answers::{nsec_closer_answer, nsec_name_answer, nsec_type_answer};
+pub use compared::law_of_equal_nsec_states;
 pub use dsec_found::JudgedGroup;
 pub use encloser::star_closest_encloser;
 pub use missing::nsec_for_not_exists;

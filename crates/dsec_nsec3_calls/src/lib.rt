@@ -5,6 +5,7 @@
 mod answer;
 mod asked;
 mod by_record;
+mod compared;
 mod conclusion;
 mod covering;
 mod gone;
@@ -22,6 +23,7 @@ mod types;
 mod walk;
 mod wildcard;
 
+pub use compared::{law_of_equal_nsec3_cover_states, law_of_equal_nsec3_states};
 pub use conclusion::{Conclusion, closer_denied, denied_at};
 pub use covering::nsec3_for_not_exists_no_ce;
 pub use dsec_negative::{Used, get_answer_state, get_soa_state, map_maybe_secure};

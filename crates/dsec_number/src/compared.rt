@@ -4,7 +4,10 @@ ghost use Rattle.std.specs.Prelude.{◌≡◌, ◌↔◌, IsTrue};
 ghost use Rattle.std.specs.Ordering.{nat_cmp};
 
 use crate::algorithm::{DigestAlgorithm, Nsec3HashAlgorithm, SecurityAlgorithm};
+use crate::class::Class;
+use crate::error::UnknownWord;
 use crate::rcode::Rcode;
+use crate::rtype::Rtype;
 use crate::serial::Serial;
 use crate::timestamp::Timestamp;
 use crate::ttl::Ttl;
@@ -22,6 +25,34 @@ pub fn law_of_ordered_ttls(ttl: Ttl, other: Ttl) -> Ordering
     ensures { result ≡ nat_cmp ttl other }
 {
     ttl.cmp(&other)
+}
+
+/// `==` on types is equality.
+pub fn law_of_equal_types(rtype: Rtype, other: Rtype) -> bool
+    ensures { IsTrue result ↔ (rtype ≡ other) }
+{
+    rtype == other
+}
+
+/// The order of types is that of their numbers.
+pub fn law_of_ordered_types(rtype: Rtype, other: Rtype) -> Ordering
+    ensures { result ≡ nat_cmp rtype other }
+{
+    rtype.cmp(&other)
+}
+
+/// `==` on classes is equality.
+pub fn law_of_equal_classes(class: Class, other: Class) -> bool
+    ensures { IsTrue result ↔ (class ≡ other) }
+{
+    class == other
+}
+
+/// The order of classes is that of their numbers.
+pub fn law_of_ordered_classes(class: Class, other: Class) -> Ordering
+    ensures { result ≡ nat_cmp class other }
+{
+    class.cmp(&other)
 }
 
 /// `==` on rcodes is equality.
@@ -92,4 +123,11 @@ pub fn law_of_ordered_hashes(hash: Nsec3HashAlgorithm, other: Nsec3HashAlgorithm
     ensures { result ≡ nat_cmp hash other }
 {
     hash.cmp(&other)
+}
+
+/// `==` on errors of words is equality.
+pub fn law_of_equal_unknown_words(error: UnknownWord, other: UnknownWord) -> bool
+    ensures { IsTrue result ↔ (error ≡ other) }
+{
+    error == other
 }

@@ -18,9 +18,11 @@ mod word;
 pub use algorithm::{DigestAlgorithm, Nsec3HashAlgorithm, SecurityAlgorithm};
 pub use class::Class;
 pub use compared::{
-    law_of_equal_algorithms, law_of_equal_digests, law_of_equal_hashes, law_of_equal_rcodes,
-    law_of_equal_serials, law_of_equal_timestamps, law_of_equal_ttls, law_of_ordered_algorithms,
-    law_of_ordered_digests, law_of_ordered_hashes, law_of_ordered_rcodes, law_of_ordered_ttls,
+    law_of_equal_algorithms, law_of_equal_classes, law_of_equal_digests, law_of_equal_hashes,
+    law_of_equal_rcodes, law_of_equal_serials, law_of_equal_timestamps, law_of_equal_ttls,
+    law_of_equal_types, law_of_equal_unknown_words, law_of_ordered_algorithms,
+    law_of_ordered_classes, law_of_ordered_digests, law_of_ordered_hashes, law_of_ordered_rcodes,
+    law_of_ordered_ttls, law_of_ordered_types,
 };
 pub use error::UnknownWord;
 pub use laws::{law_of_classes, law_of_types};

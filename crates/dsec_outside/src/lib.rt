@@ -3,6 +3,7 @@
 #![tactic(auto)]
 
 mod answers;
+mod compared;
 mod heard;
 mod limit;
 mod memory;
@@ -16,6 +17,9 @@ mod upstream;
 mod whole;
 
 pub use answers::{FailingUpstream, FixedUpstream, TableUpstream};
+pub use compared::{
+    law_of_equal_ask_errors, law_of_equal_failures, law_of_equal_halts, law_of_equal_stops,
+};
 pub use heard::{Heard, HearingUpstream};
 pub use limit::line_past;
 pub use memory::{FailingSink, FailingSource, OctetsSink, OctetsSource};

@@ -4,6 +4,7 @@
 mod answers;
 mod authorities;
 mod bounded;
+mod compared;
 mod cut;
 mod error;
 mod kept;
@@ -12,6 +13,7 @@ mod rewriting;
 mod writing;
 
 pub use bounded::{BoundedGroup, adjusted_ttl};
+pub use compared::law_of_equal_rewrite_errors;
 pub use error::RewriteError;
 pub use laws::{law_of_cut_sets, law_of_cut_ttls, law_of_second_rewriting};
 pub use rewriting::{is_due, rebuild_msg, rewrite};

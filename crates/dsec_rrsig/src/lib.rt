@@ -1,6 +1,7 @@
 //! Keys to sign by, and the signature of one set (RFC 4034 3, RFC 4035 2.2).
 #![tactic(auto)]
 
+mod compared;
 mod config;
 mod error;
 mod message;
@@ -11,6 +12,9 @@ mod sorted_set;
 mod stand_in_key;
 mod unsorted_set;
 
+pub use compared::{
+    law_of_equal_rrsig_configs, law_of_equal_sign_errors, law_of_equal_signing_errors,
+};
 pub use config::GenerateRrsigConfig;
 pub use error::{SignError, SigningError};
 pub use rrset::{sign_rrset, sign_sorted_rrset_in};

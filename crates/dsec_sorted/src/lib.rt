@@ -2,6 +2,7 @@
 #![tactic(auto)]
 
 mod bitmap;
+mod compared;
 mod config;
 mod hash;
 mod order;
@@ -11,6 +12,9 @@ mod rrset;
 mod sorted;
 
 pub use bitmap::push_bitmap;
+pub use compared::{
+    law_of_equal_owner_hash_errors, law_of_equal_rrset_errors, law_of_equal_salt_errors,
+};
 pub use config::{DenialConfig, Nsec3Config};
 pub use hash::{Nsec3Salt, Nsec3SaltError, OwnerHash, OwnerHashError};
 pub use order::{canonical_cmp, is_of_one_class, is_sorted_canonical};

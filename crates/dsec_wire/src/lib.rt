@@ -2,6 +2,7 @@
 #![tactic(auto)]
 
 mod canonical;
+mod compared;
 mod data;
 mod data_reading;
 mod dnskey;
@@ -22,6 +23,7 @@ mod signed_octets;
 mod soa;
 mod target;
 
+pub use compared::{law_of_equal_items, law_of_equal_message_errors, law_of_equal_tails};
 pub use data::Data;
 pub use dnskey::Dnskey;
 pub use ds::Ds;

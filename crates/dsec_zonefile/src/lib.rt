@@ -2,6 +2,7 @@
 #![tactic(auto)]
 
 mod address;
+mod compared;
 mod control;
 mod data;
 mod entry;
@@ -15,6 +16,7 @@ mod step;
 mod word;
 mod zonefile;
 
+pub use compared::{law_of_equal_inplace_errors, law_of_equal_zonefile_errors};
 pub use entry::Entry;
 pub use error::{InplaceError, ZonefileError};
 pub use zonefile::Zonefile;
