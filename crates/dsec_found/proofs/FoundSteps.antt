@@ -10,7 +10,7 @@ use Rattle.dsec_group.specs.Checks.{IsCheck, cause_of}
 use Rattle.dsec_group.specs.declared.check.KeyCheck.{KeyCheck}
 use Rattle.dsec_nodes.specs.Causes.{Cause}
 use Rattle.dsec_nodes.specs.World.{World, Bounds}
-use Rattle.dsec_nodes.specs.Nodes.{Node, Standing, IsBogus, apex, within, insecure, bogus}
+use Rattle.dsec_nodes.specs.Nodes.{Node, Standing, apex, within, insecure, bogus}
 use Rattle.dsec_nodes.specs.Signing.{keys_of, under_keys}
 use Rattle.dsec_nodes.specs.Walk.{held_keys}
 use Rattle.dsec_nodes.specs.Judging.{Finding, is_bogus, Judged, found_by, found_at}
@@ -18,7 +18,7 @@ use Rattle.dsec_node.specs.Views.{world_of}
 use Rattle.dsec_spec.specs.Accepts.{Accepts}
 use Rattle.dsec_found.specs.declared.found.Found.{Found}
 use Rattle.dsec_found.specs.declared.found.Found.TheVariants.{Shown, Insecure, Bogus, AtBogus}
-use Rattle.dsec_found.specs.Founds.{IsPairAt, ComesTo, StandsBy, by_pair, finding_by}
+use Rattle.dsec_found.specs.Founds.{LeadsToKeys, IsPairAt, ComesTo, StandsBy, by_pair, finding_by}
 
 -- a check that says indexes found a pair there
 pub good_pair : (group : Group) (keys : List Key) (check : KeyCheck) (i j : ℕ) (t : Tried (Record × Key)) → IsCheck group keys check t → check.signature ≡ Some i → check.key ≡ Some j
@@ -68,7 +68,7 @@ pub zone_stands : (w : World) (group : Group) (n : Node) (keys : List (List ℕ)
     → StandsBy group n found
 zone_stands w group n keys (Shown i j) e c = (c.0, subst (λ (ks : List (List ℕ)). IsPairAt group (keys_of ks) i j c.0) (sym (ap held_keys e)) c.2)
 zone_stands w group n keys Insecure e c = absurd c
-zone_stands w group n keys (Bogus cause) e c = ap IsBogus e
+zone_stands w group n keys (Bogus cause) e c = ap LeadsToKeys e
 zone_stands w group n keys (AtBogus cause) e c = absurd c
 
 -- what follows from an answer follows from what it is told of

@@ -1,5 +1,5 @@
 -- What is found of a group, as the code keeps it: a node, and a signature and a key by their indexes (RFC 4033 5, RFC 4035 5.3).
-use Rattle.std.specs.Prelude.{◌≡◌, ℕ, false, List, [], slice_get, Option, Some, None}
+use Rattle.std.specs.Prelude.{◌≡◌, ℕ, Bool, true, false, List, [], slice_get, Option, Some, None}
 use Rattle.std.specs.Arc.{arc_value}
 use Rattle.dsec_spec.specs.Names.{Place, place}
 use Rattle.dsec_spec.specs.Records.{Record, Key}
@@ -7,7 +7,7 @@ use Rattle.dsec_spec.specs.Groups.{Group}
 use Rattle.dsec_spec.specs.Trying.{Tried, good, nothing}
 use Rattle.dsec_group.specs.Checks.{cause_of}
 use Rattle.dsec_nodes.specs.Causes.{Cause}
-use Rattle.dsec_nodes.specs.Nodes.{Node, Standing, IsBogus, SignedCause, apex, within, insecure, bogus}
+use Rattle.dsec_nodes.specs.Nodes.{Node, Standing, SignedCause, apex, within, insecure, bogus}
 use Rattle.dsec_nodes.specs.Signing.{keys_of}
 use Rattle.dsec_nodes.specs.Walk.{held_keys}
 use Rattle.dsec_nodes.specs.Judging.{Finding, has_no_set, is_insecure, is_bogus, is_indeterminate, Judged, found_by}
@@ -49,12 +49,19 @@ finding_by group n Insecure = by_insecure n.standing
 finding_by group n (Bogus cause) = is_bogus cause n.links
 finding_by group n (AtBogus cause) = is_bogus cause []
 
--- the node has what was found by it: the good pair, or the signed record that shows that no chain leads to its name; where the group isn't to be
--- relied on, the node is
+-- the links of a node with this standing lead to a zone's keys: the zone begins at its name, or the name is within it (RFC 4033 5)
+abbrev pub LeadsToKeys : Standing → Bool
+LeadsToKeys (apex keys) = true
+LeadsToKeys (within last) = true
+LeadsToKeys (insecure cause signed) = false
+LeadsToKeys (bogus cause) = false
+
+-- the node has what was found by it: the good pair; the signed record that shows that no chain leads to its name; or, where the group isn't to be
+-- relied on and the node is, links to a zone's keys
 abbrev pub StandsBy : Group → Node → Found → Type 0
 StandsBy group n (Shown signature key) = (p : Record × Key) × IsPairAt group (keys_of (held_keys n.standing)) signature key p
 StandsBy group n Insecure = (cause : Option Cause) × (signed : SignedCause) × (n.standing ≡ insecure cause signed)
-StandsBy group n (Bogus cause) = IsBogus n.standing ≡ false
+StandsBy group n (Bogus cause) = LeadsToKeys n.standing ≡ true
 StandsBy group n (AtBogus cause) = Unit {0}
 
 -- what is found of a group

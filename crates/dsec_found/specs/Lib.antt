@@ -1,5 +1,6 @@
 pub mod Errors
 pub mod Founds
 pub mod Told
+pub mod Tried
 pub mod Outcomes
 pub mod Begun

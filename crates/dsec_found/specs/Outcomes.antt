@@ -1,21 +1,19 @@
 -- What judged groups come to, as the code keeps it (RFC 4033 5).
-use Rattle.std.specs.Prelude.{◌≡◌, ◌⊎◌, false, List, [], ◌∷◌, ◌++◌, Option, Some, None}
-use Rattle.std.specs.Arc.{arc_value}
+use Rattle.std.specs.Prelude.{◌≡◌, ◌⊎◌, true, List, [], ◌∷◌, ◌++◌, Option, Some, None}
 use Rattle.dsec_group.specs.declared.state.ValidationState.{ValidationState}
 use Rattle.dsec_group.specs.declared.state.ValidationState.TheVariants as states
 use Rattle.dsec_spec.specs.Accepts.{Accepts}
 use Rattle.dsec_spec.specs.Chain.{Link}
 use Rattle.dsec_nodes.specs.Causes.{Cause}
-use Rattle.dsec_nodes.specs.Nodes.{Node, Kept, IsBogus, SignedCause, insecure}
+use Rattle.dsec_nodes.specs.Nodes.{Node, Kept, SignedCause, insecure}
 use Rattle.dsec_nodes.specs.Judging as judging
 use Rattle.dsec_nodes.specs.Judging.{Judged, Finding, is_shown, has_no_set, is_insecure, is_bogus, is_indeterminate, all, one_bogus}
 use Rattle.dsec_nodes.specs.Outcomes as outcomes
 use Rattle.dsec_nodes.specs.Outcomes.{by_cause, by_nothing}
 use Rattle.dsec_node.specs.Views.{signed_cause}
+use Rattle.dsec_found.specs.Founds.{LeadsToKeys}
 use Rattle.dsec_found.specs.declared.section.AllJudged.{AllJudged}
 use Rattle.dsec_found.specs.declared.section.AllJudged.TheVariants.{All, OneBogus}
-use Rattle.dsec_found.specs.declared.shared.TriedZone.{TriedZone}
-use Rattle.dsec_found.specs.declared.shared.TriedZone.TheVariants.{NoZone, Zone}
 
 -- a status
 abbrev pub state_view : ValidationState → outcomes.State
@@ -37,19 +35,9 @@ HoldsCause n = (cause : Option Cause) × (signed : SignedCause) × (n.standing �
 abbrev pub IsKeptCause : Accepts → Option SignedCause → Type 0
 IsKeptCause accepts held = (n : Node) × Kept accepts n × HoldsCause n × (signed_cause n.standing ≡ held)
 
--- a kept node's links, which isn't bogus, or none (RFC 4035 4.5)
+-- the links to a zone's keys that a kept node has, or none (RFC 4035 4.5)
 abbrev pub AreKeptLinks : Accepts → List Link → Type 0
-AreKeptLinks accepts links = (links ≡ []) ⊎ ((n : Node) × Kept accepts n × (IsBogus n.standing ≡ false) × (n.links ≡ links))
-
--- the links to the zone whose keys were tried (RFC 4033 2, authentication chain)
-abbrev pub tried_links : {V : Type 0} → TriedZone V → List Link
-tried_links NoZone = []
-tried_links (Zone node) = (arc_value node).links
-
--- that zone's node is to be relied on (RFC 4033 5)
-abbrev pub IsReliedOn : {V : Type 0} → TriedZone V → Type 0
-IsReliedOn NoZone = Unit {0}
-IsReliedOn (Zone node) = IsBogus (arc_value node).standing ≡ false
+AreKeptLinks accepts links = (links ≡ []) ⊎ ((n : Node) × Kept accepts n × (LeadsToKeys n.standing ≡ true) × (n.links ≡ links))
 
 -- what shows that an insecure group's zone isn't signed (RFC 4035 5.2)
 abbrev pub insecure_of : Finding → Option outcomes.Why
@@ -72,7 +60,7 @@ and_next js j has_no_set = all (js ++ j ∷ [])
 and_next js j (is_insecure cause signed) = all (js ++ j ∷ [])
 and_next js j is_indeterminate = all (js ++ j ∷ [])
 
--- a bogus group's cause, and the links to the zone whose keys were tried
+-- a bogus group's cause, and the links to the zone whose keys were tried, or none
 abbrev pub bogus_of : Finding → Option (Cause × List Link)
 bogus_of (is_bogus cause links) = Some (cause, links)
 bogus_of (is_shown links last signature) = None

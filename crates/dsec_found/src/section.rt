@@ -14,7 +14,8 @@ use dsec_name::NoMemory;
 pub enum AllJudged<V: Verifier> {
     /// All are judged, in order, and none is bogus.
     All(Vec<JudgedGroup<V>>),
-    /// One is bogus, and why, with the links to the zone whose keys were tried with it. Those after it aren't judged.
+    /// One is bogus, and why, with the links to the zone whose keys were tried with it, or none where its node is bogus. Those after it
+    /// aren't judged.
     OneBogus(Cause, SharedLinks<V>),
 }
 

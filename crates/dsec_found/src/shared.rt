@@ -1,9 +1,9 @@
 //! What a judged group shares of its node: the signed record by which no chain leads on, or the links (RFC 4033 5, RFC 4035 5.2).
 
-ghost use Rattle.std.specs.Prelude.{◌≡◌, [], IfOk, Some, false};
+ghost use Rattle.std.specs.Prelude.{◌≡◌, [], IfOk, Some, true};
 ghost use Rattle.std.specs.Arc.{arc_value};
 ghost use Rattle.dsec_node.specs.Views.{cause_view, signed_cause};
-ghost use Rattle.dsec_nodes.specs.Nodes.{IsBogus};
+ghost use Rattle.dsec_found.specs.Founds.{LeadsToKeys};
 ghost use Rattle.dsec_found.specs.Outcomes.{AreKeptLinks, HoldsCause, IsKeptCause};
 
 use dsec_crypto::Verifier;
@@ -72,11 +72,11 @@ impl<V: Verifier> SharedCause<V> {
 enum TriedZone<V: Verifier> {
     /// None: the node that was found is bogus.
     NoZone,
-    /// This one, whose node isn't bogus.
+    /// That of this node, which stands at the zone's apex or within it.
     Zone(Arc<Node<V>>),
 }
 
-/// The links to the zone whose keys were tried, shared with the zone's node; none where that is bogus.
+/// The links to the zone whose keys were tried, shared with the zone's node; none where the node that was found is bogus.
 #[derive(Drop)]
 pub struct SharedLinks<V: Verifier> {
     zone: TriedZone<V>,
@@ -85,13 +85,13 @@ pub struct SharedLinks<V: Verifier> {
 impl<V: Verifier> Model for SharedLinks<V> {
     ghost use Rattle.std.specs.Prelude.{List};
     ghost use Rattle.dsec_spec.specs.Chain.{Link};
-    ghost use Rattle.dsec_found.specs.Outcomes.{IsReliedOn, tried_links};
+    ghost use Rattle.dsec_found.specs.Tried.{HasKeys, tried_links};
 
     ghost Value = { List Link };
 
     ghost view = { λ it. tried_links it.zone };
 
-    ghost invariant = { λ it. IsReliedOn it.zone };
+    ghost invariant = { λ it. HasKeys it.zone };
 }
 
 impl<V: Verifier> Clone for SharedLinks<V> {
@@ -118,9 +118,9 @@ impl<V: Verifier> SharedLinks<V> {
         }
     }
 
-    /// The links of a node that isn't bogus.
+    /// The links of a node that lead to a zone's keys.
     pub(crate) fn of(node: &Arc<Node<V>>) -> Result<SharedLinks<V>, NoMemory>
-        requires { IsBogus (arc_value node.now).standing ≡ false }
+        requires { LeadsToKeys (arc_value node.now).standing ≡ true }
         ensures { IfOk result (λ it. it ≡ (arc_value node.now).links) }
     {
         let node = Arc::try_clone(node)?;

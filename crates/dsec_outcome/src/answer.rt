@@ -69,7 +69,7 @@ pub fn on_judged<V: Verifier>(
     }
 }
 
-/// What a message comes to where a group is bogus for a cause: it is bogus, by the links to the zone whose keys were tried with it.
+/// What a message comes to where a group is bogus for a cause: it is bogus, by the links to the zone whose keys were tried with it, or none.
 pub fn bogus_under<V: Verifier>(
     cause: Cause,
     links: &SharedLinks<V>,
