@@ -1,5 +1,5 @@
 -- How many questions a message takes, and which nodes it puts, by the call that judged it; and how many by a table alone.
-use Rattle.std.proofs.Common.{◌≡◌, ◌⊎◌, ◌≤◌, ℕ, List, [], ◌++◌, length, Option, Some, IfOk, Result, Ok, Err, inl, inr, refl, subst}
+use Rattle.std.proofs.Common.{◌≡◌, ◌⊎◌, ◌≤◌, ℕ, List, [], ◌++◌, length, Option, Some, IfOk, Result, Ok, Err, inl, inr, refl, ap, ◌∙◌, subst}
 use Rattle.std.specs.Prelude.{Contains}
 use Rattle.dsec_spec.specs.Accepts.{Accepts}
 use Rattle.dsec_spec.specs.Outside.{Table}
@@ -8,11 +8,12 @@ use Rattle.dsec_nodes.specs.Nodes.{Node}
 use Rattle.dsec_nodes.specs.Outcomes.{Outcome}
 use Rattle.dsec_nodes.specs.Alone.{Refusal, alone}
 use Rattle.dsec_node.specs.Caches.{Held}
-use Rattle.dsec_course.specs.Course.{Course, asked_in}
+use Rattle.dsec_course.specs.Course.{Course, asked_in, end_with}
 use Rattle.dsec_course.specs.Advancing.{begun}
 use Rattle.dsec_course.specs.Hearing.{first_run, after_heard}
 use Rattle.dsec_spec.proofs.Members.{in_front, in_back}
 use Rattle.dsec_course.proofs.BeginningLaws.{refused_alone}
+use Rattle.dsec_course.proofs.RunLaws.{ends_from_nothing}
 use Rattle.dsec_found.specs.declared.error.Error.{Error}
 use Rattle.dsec_context.specs.Verdicts.{Verdict}
 use Rattle.dsec_context.specs.Outside.{Outside, WasHeld, HoldsMore, replies_of}
@@ -33,10 +34,10 @@ was_among accepts kept o held e among n h = let x = subst (λ (y : Option Held).
 module _ (w : World) (most : ℕ) (message : List ℕ) (table : Table) (before after : Outside) (held : Held) (kept : List Node) (is : before.held ≡ Some held) (among : HoldsAmong kept held) where
   -- the questions of judging
   judged_asked : (j : Judgement) → IsJudging w most message (Some table) before after j
-      → IfOk j.answer (λ v. WereAsked w most message (replies_of table) kept v.questions)
+      → IfOk j.answer (λ v. WereAsked w most message (replies_of table) kept v.outcome v.questions)
   judged_asked j h = by j.answer refl
     where
-      by : (x : Result Verdict Error) → j.answer ≡ x → IfOk x (λ v. WereAsked w most message (replies_of table) kept v.questions)
+      by : (x : Result Verdict Error) → j.answer ≡ x → IfOk x (λ v. WereAsked w most message (replies_of table) kept v.outcome v.questions)
       by (Err e) f = tt
       by (Ok v) f =
           let so = subst (λ (x : Result Verdict Error). IsAnswer w most message h.call.asked x) f h.call.so in
@@ -54,6 +55,7 @@ module _ (w : World) (most : ℕ) (message : List ℕ) (table : Table) (before a
               are = heard.are;
               puts_are = refl;
             };
+            ends = heard.ends;
           }
 
   -- and its puts
@@ -84,9 +86,9 @@ module _ (w : World) (most : ℕ) (message : List ℕ) (table : Table) (before a
 
   -- The questions of a call
   pub call_asked : (left : List ℕ) (answer : Result Verdict Error) → IsHandling w most message (Some table) before after answer left
-      → IfOk answer (λ v. WereAsked w most message (replies_of table) kept v.questions)
+      → IfOk answer (λ v. WereAsked w most message (replies_of table) kept v.outcome v.questions)
   call_asked left answer h =
-      of_verdict (λ (v : Verdict). WereAsked w most message (replies_of table) kept v.questions) w.anchors most message h.judgement.answer answer
+      of_verdict (λ (v : Verdict). WereAsked w most message (replies_of table) kept v.outcome v.questions) w.anchors most message h.judgement.answer answer
       (judged_asked h.judgement h.judging)
       (comes w most _ message h.judgement.answer answer left h.judgement.groups (groups_sound w most message (Some table) before after h.judgement h.judging) h.handed)
 
@@ -96,16 +98,16 @@ module _ (w : World) (most : ℕ) (message : List ℕ) (table : Table) (before a
   call_put left answer now e h = judged_put now e h.judgement h.judging
 
 -- By a table alone a message with an outcome takes some number of questions, over any nodes that are kept
-pub record TakesSome (w : World) (most : ℕ) (replies : Replies) (message : List ℕ) (kept : List Node) : Type 0 where
+pub record TakesSome (w : World) (most : ℕ) (replies : Replies) (message : List ℕ) (kept : List Node) (o : Outcome) : Type 0 where
   pub number : ℕ
-  pub asked : WereAsked w most message replies kept number
+  pub asked : WereAsked w most message replies kept o number
   pub few : number ≤ most_questions w.anchors most message
 
 pub alone_asked : (w : World) (most : ℕ) (replies : Replies) (message : List ℕ) (kept : List Node) (o : Outcome) → alone w most replies message ≡ Ok o
-    → TakesSome w most replies message kept
+    → TakesSome w most replies message kept o
 alone_asked w most replies message kept o e = by (begun w.anchors most message) refl
   where
-    by : (x : Result Course Refusal) → begun w.anchors most message ≡ x → TakesSome w most replies message kept
+    by : (x : Result Course Refusal) → begun w.anchors most message ≡ x → TakesSome w most replies message kept o
     by (Err r) f = absurd (two_ways (alone w most replies message) (refused_alone w most replies message r f) e)
       where
         two_ways : (x : Result Outcome Refusal) → x ≡ Err r → x ≡ Ok o → ⊥
@@ -129,6 +131,7 @@ alone_asked w most replies message kept o e = by (begun w.anchors most message) 
               are = refl;
               puts_are = refl;
             };
+            ends = h.ends ∙ ap (λ (x : Result Outcome Refusal). end_with x) (ends_from_nothing w most message c h.inputs h.end f h.heard h.ends replies h.asked ∙ e);
           };
           few = heard_few w most message NoNode asked puts (λ n x. absurd x)
               (record { course = c; begins = f; inputs = h.inputs; heard = h.heard; are = refl; puts_are = refl });

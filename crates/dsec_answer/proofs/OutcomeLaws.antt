@@ -95,7 +95,7 @@ pub is_outcome : (accepts : Accepts) (anchors : List Record) (table : Table) (ke
     → outcome_of accepts anchors table item.seconds item.octets ≡ Some (without_questions outcome)
     → IfOk outcome (λ v. IsJustified (world_of_script accepts anchors item.seconds) default_settings.max_cname_dname item.octets v.outcome v.outcome.state)
     → IfOk outcome (λ v. v.questions ≤ most_questions anchors default_settings.max_cname_dname item.octets)
-    → IfOk outcome (λ v. WereAsked (world_of_script accepts anchors item.seconds) default_settings.max_cname_dname item.octets (replies_of table) kept v.questions)
+    → IfOk outcome (λ v. WereAsked (world_of_script accepts anchors item.seconds) default_settings.max_cname_dname item.octets (replies_of table) kept v.outcome v.questions)
     → WerePut (world_of_script accepts anchors item.seconds) default_settings.max_cname_dname item.octets (replies_of table) kept puts
     → IsOutcome accepts anchors table kept puts item outcome
 is_outcome accepts anchors table kept puts item outcome e j f a p = record { exact = e; sound = j; complete = secure_by; few = f; asked = a; put = p }
@@ -184,7 +184,7 @@ pub record IsItemHandled (w : World) (most : ℕ) (message : List ℕ) (table : 
   pub by_table : IsByTable w most message after answer left (replies_of table)
   pub sound : IfOk answer (λ v. IsJustified w most message v.outcome v.outcome.state)
   pub few : IfOk answer (λ v. v.questions ≤ most_questions w.anchors most message)
-  pub asked : (kept : List Node) → HoldsAmong kept held → IfOk answer (λ v. WereAsked w most message (replies_of table) kept v.questions)
+  pub asked : (kept : List Node) → HoldsAmong kept held → IfOk answer (λ v. WereAsked w most message (replies_of table) kept v.outcome v.questions)
   pub put : (kept : List Node) → HoldsAmong kept held → (puts : List Node) × WerePut w most message (replies_of table) kept puts × HoldsAmong (kept ++ puts) now
   pub now_is : after.held ≡ Some now
 
@@ -201,7 +201,7 @@ item_judged accepts anchors config table item message left held after now answer
         is_outcome accepts anchors table kept put.0 item outcome (told ∙ exact outcome f)
             (told_verdict (λ v. IsJustified w most item.octets v.outcome v.outcome.state) answer outcome f called.sound)
             (told_verdict (λ v. v.questions ≤ most_questions w.anchors most item.octets) answer outcome f called.few)
-            (told_verdict (λ v. WereAsked w most item.octets (replies_of table) kept v.questions) answer outcome f (called.asked kept among))
+            (told_verdict (λ v. WereAsked w most item.octets (replies_of table) kept v.outcome v.questions) answer outcome f (called.asked kept among))
             put.1,
         put.2,
       );

@@ -60,14 +60,14 @@ IsSecureOutcome anchors message (Err _) = ⊥
 
 -- What the outcome of a message is: exactly what the recursion answers, its state, its cause and why; it is justified; it is Secure where the
 -- message is an ordinary reply from the zone at the anchor, if it can be rewritten; it took no more questions than a message of its groups may, and
--- just those that judging it a step at a time takes over the nodes that are kept, which lessen them; and so were these put (RFC 4033 5,
--- RFC 4035 4.3, 4.5, 5)
+-- just those that judging it a step at a time to its end takes over nodes among those that are kept, which lessen them, and those that it puts
+-- itself; and so were these put (RFC 4033 5, RFC 4035 4.3, 4.5, 5)
 pub record IsOutcome (accepts : Accepts) (anchors : List Record) (table : Table) (kept puts : List Node) (item : Item) (outcome : Outcome) : Type 0 where
   pub exact : outcome_of accepts anchors table item.seconds item.octets ≡ Some (without_questions outcome)
   pub sound : IfOk outcome (λ v. IsJustified (world_of_script accepts anchors item.seconds) default_settings.max_cname_dname item.octets v.outcome v.outcome.state)
   pub complete : IsPlainAnswer (world_of_script accepts anchors item.seconds) (replies_of table) item.octets → IsSecureOutcome anchors item.octets outcome
   pub few : IfOk outcome (λ v. v.questions ≤ most_questions anchors default_settings.max_cname_dname item.octets)
-  pub asked : IfOk outcome (λ v. WereAsked (world_of_script accepts anchors item.seconds) default_settings.max_cname_dname item.octets (replies_of table) kept v.questions)
+  pub asked : IfOk outcome (λ v. WereAsked (world_of_script accepts anchors item.seconds) default_settings.max_cname_dname item.octets (replies_of table) kept v.outcome v.questions)
   pub put : WerePut (world_of_script accepts anchors item.seconds) default_settings.max_cname_dname item.octets (replies_of table) kept puts
 
 -- the nodes that are kept for a message, of those that were at the moment before: all at the same moment, none at another and behind a `now`
