@@ -57,7 +57,7 @@ impl GroupSet {
         }
     }
 
-    /// The groups, in order of first arrival. No two have the same owner, class and type.
+    /// The groups, in order of first arrival. No two have the same owner, class and type, where a signature is of the type that it covers.
     pub fn as_slice(&self) -> &[Group]
         ensures value { result.now ≡ self.now.groups }
         ensures distinct { AreDistinct self.now.groups }

@@ -21,7 +21,7 @@ pub fn law_of_cut_ttls()
         → adjusted_ttl (cut_group (record { group = g; bound = Some bound })) (ttl_for_sig (cut (Some bound) signature) t) ≡ None }
 {}
 
-/// A second rewriting changes nothing: of groups as the first has left them none is due.
+/// A rewriting by groups without bounds and duplicates, as one leaves them, is none: the message stays as it is.
 #[tactic(auto, using(crate::proofs::CuttingLaws::second_is_none))]
 pub fn law_of_second_rewriting()
     ensures { (answers authorities : List Bounded) (made : List ℕ) → left_by made (map as_left answers) (map as_left authorities) ≡ Ok made }
