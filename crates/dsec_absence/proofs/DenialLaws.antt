@@ -62,5 +62,5 @@ module _ (signer n : Place) (within : IsAtOrBelow n signer) where
     in_place = s.around;
     denies = λ z iz top t.
         let both = missing_means z iz r t n c (inside z top) s in
-        record { no_name = both.0.no_name; no_closer = λ m nc. both.0.no_closer c m both.1 nc };
+        record { no_such = both.0; closest = both.1 };
   }

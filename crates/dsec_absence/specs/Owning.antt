@@ -37,7 +37,8 @@ pub record OwnsNoTypeByWildcard (z : Zone) (n : Place) (q : ℕ) : Type 0 where
   pub no_such : OwnsNoSuch z n
   pub no_type : (c : Place) → IsClosestEncloser z n c → OwnsNoType z (wildcard c) q
 
--- the zone has neither the name nor the one next to c towards it, so that the wildcard under c may stand for it (RFC 4035 3.1.3.3, 5.3.4)
+-- the zone doesn't have the name, and c is its closest encloser, so that no other wildcard than the one under c can stand for it
+-- (RFC 4035 3.1.3.3, 5.3.4, RFC 4592 3.3.1)
 pub record OwnsNoCloser (z : Zone) (n c : Place) : Type 0 where
-  pub no_name : Exists z n → ⊥
-  pub no_closer : (m : Place) → IsNextCloser n c m → Exists z m → ⊥
+  pub no_such : OwnsNoSuch z n
+  pub closest : IsClosestEncloser z n c

@@ -9,6 +9,7 @@ use Rattle.dsec_spec.proofs.ZoneLaws.{one_closest, one_next, exists_up}
 use Rattle.dsec_absence.specs.Owning.{OwnsNoType, OwnsNoSuch}
 use Rattle.dsec_nsec3.specs.HashedDenials.{type_gone, name_gone, wildcard_type_gone, closer_gone, IsCovered, IsNoOwnDname, IsAroundNext, IsEncloserProof, IsTrueIfThere, IsConcerned, IsHashedDenial}
 use Rattle.dsec_nsec3.proofs.HashTests.{IsWithout}
+use Rattle.dsec_nsec3.proofs.WildcardTruths.{under_wildcard}
 use Rattle.dsec_nsec3.proofs.HashTruths.{covered_missing, no_type_by_hash, above_of, encloser_by_hash, no_such_by_hash}
 
 -- a type at a name (RFC 5155 8.5, 8.6)
@@ -58,8 +59,10 @@ closer_denied signer r n c q p other within = record {
   in_place = record { next = p; no_own = other };
   denies = λ z iz top t.
       let gone = covered_missing z r t p.next p.covered in
+      let inside = subst (λ (m : Place). IsAtOrBelow p.next m) (sym top) within in
       record {
-        no_name = λ x. gone (exists_up z n p.next x p.closer.towards (subst (λ (m : Place). IsAtOrBelow p.next m) (sym top) within));
-        no_closer = λ m other x. gone (subst (λ (y : Place). Exists z y) (one_next n c m p.next other p.closer) x);
+        no_name = λ x. gone (exists_up z n p.next x p.closer.towards inside);
+        by_wildcard = under_wildcard z iz n c p.next p.closer inside gone;
+        no_next = λ m other x. gone (subst (λ (y : Place). Exists z y) (one_next n c m p.next other p.closer) x);
       };
 }

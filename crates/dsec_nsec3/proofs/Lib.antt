@@ -1,5 +1,6 @@
 pub mod HashTests
 pub mod HashTruths
+pub mod WildcardTruths
 pub mod HashDenialLaws
 pub mod CountingLaws
 pub mod WalkLaws

@@ -2,7 +2,7 @@
 use Rattle.std.specs.Prelude.{◌≡◌, ◌⊎◌, ℕ, true, false, List, [], ◌∷◌, Option, Some, None}
 use Rattle.dsec_spec.specs.Names.{Place, IsAtOrBelow, IsStrictlyBelow}
 use Rattle.dsec_spec.specs.Numbers.{NS, SOA, DNAME}
-use Rattle.dsec_spec.specs.Zones.{Zone, IsZone, IsNextCloser, wildcard}
+use Rattle.dsec_spec.specs.Zones.{Zone, IsZone, Stands, Exists, IsNextCloser, wildcard}
 use Rattle.dsec_spec.specs.DenyingRecords.{Nsec3At, has_hashed, opts_out, MatchesHash, CoversHash}
 use Rattle.dsec_spec.specs.DenialTruth.{IsNsec3True, IsFree}
 use Rattle.dsec_absence.specs.Owning.{OwnsNoType, OwnsNoName, OwnsNoTypeByWildcard, OwnsNoCloser}
@@ -35,12 +35,19 @@ hashed_used_in (wildcard_type_gone c None around of_wildcard) = around ∷ of_wi
 hashed_used_in (wildcard_type_gone c (Some at_encloser) around of_wildcard) = at_encloser ∷ around ∷ of_wildcard ∷ []
 hashed_used_in (closer_gone c around) = around ∷ []
 
+-- the zone has neither the name nor the one next to c towards it; and where a set stands at the wildcard under c, no other can stand for the
+-- name (RFC 4592 3.3.1, RFC 5155 8.8)
+pub record OwnsNoNext (z : Zone) (n c : Place) : Type 0 where
+  pub no_name : Exists z n → ⊥
+  pub no_next : (m : Place) → IsNextCloser n c m → Exists z m → ⊥
+  pub by_wildcard : Stands z (wildcard c) → OwnsNoCloser z n c
+
 -- the zone owns nothing of what is denied of the name and the type
 abbrev pub HashedOwnsNothing : {R : Type 0} → Zone → Place → ℕ → HashedDenial R → Type 0
 HashedOwnsNothing z n q (type_gone own) = OwnsNoType z n q
 HashedOwnsNothing z n q (name_gone c at_encloser around around_wildcard) = OwnsNoName z n
 HashedOwnsNothing z n q (wildcard_type_gone c at_encloser around of_wildcard) = OwnsNoTypeByWildcard z n q
-HashedOwnsNothing z n q (closer_gone c around) = OwnsNoCloser z n c
+HashedOwnsNothing z n q (closer_gone c around) = OwnsNoNext z n c
 
 -- a record without Opt-Out covers the name (RFC 5155 8.4)
 pub record IsCovered (r : Nsec3At) (n : Place) : Type 0 where
