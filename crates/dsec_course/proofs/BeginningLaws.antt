@@ -50,7 +50,7 @@ begun_sound w most message c e = by_sections (sections_of message) refl e
 
     by_moved : (s : Sections) → sections_of message ≡ Some s → (m : Option (List Group)) → moved w.anchors most (groups_of s.1) ≡ m
         → SoundCourse w most message (begun_with most message s.0 m (groups_of s.2))
-    by_moved s f None g = (refl, refl, refl)
+    by_moved s f None g = ((refl, tt), refl, refl)
     by_moved s f (Some answers) g = record {
       same_message = refl;
       same_most = refl;

@@ -1,5 +1,5 @@
 -- What is found of a group by a node that is kept, counts, and has an anchor of its island's, is so.
-use Rattle.std.proofs.Common.{◌≡◌, ℕ, ◌==◌, false, List, length, Some, refl, ap, subst}
+use Rattle.std.proofs.Common.{◌≡◌, ℕ, ◌==◌, false, List, length, Some, refl, ap, subst, inl}
 use Rattle.std.proofs.lemmas.Bool.{eqb-false}
 use Rattle.dsec_spec.specs.Names.{Place, place, IsAtOrBelow}
 use Rattle.dsec_spec.specs.Records.{Record, Key}
@@ -16,6 +16,7 @@ use Rattle.dsec_nodes.proofs.Signs.{from_under}
 use Rattle.dsec_nodes.proofs.KeptLaws.{held}
 use Rattle.dsec_nodes.proofs.ShownLaws.{ZoneOver, shown_by}
 use Rattle.dsec_nodes.proofs.UnsignedLaws.{insecure_by_node}
+use Rattle.dsec_nodes.proofs.LeadingLaws.{zone_leads, within_leads}
 use Rattle.dsec_course.specs.Justified.{Justifies, IsFound}
 
 -- a node of a zone on the way to a name is held, from an anchor of the island's, and at or above the name
@@ -45,13 +46,13 @@ found_is w group top labels r some f o = by r.node.standing refl
         → Justifies w (record { group = group; signer = n.signer; finding = found_by group n keys t }) (found_by group n keys t)
     by_tried keys e (good p) g =
         shown_by w top group n keys p (eqb-false (length group.records) 0 some) f (zone_on_way w top (target_of group (Some top)) labels r keys o e) (from_under w n.signer keys group p g)
-    by_tried keys e nothing g = tt
-    by_tried keys e all_bad g = tt
-    by_tried keys e too_many_bad g = tt
+    by_tried keys e nothing g = zone_leads w top (target_of group (Some top)) labels r o keys e
+    by_tried keys e all_bad g = zone_leads w top (target_of group (Some top)) labels r o keys e
+    by_tried keys e too_many_bad g = zone_leads w top (target_of group (Some top)) labels r o keys e
 
     by : (s : Standing) → n.standing ≡ s
         → Justifies w (record { group = group; signer = n.signer; finding = found_at w group n s }) (found_at w group n s)
     by (apex keys) e = by_tried keys e (under_keys w n.signer keys group) refl
-    by (within last) e = tt
+    by (within last) e = within_leads w top (target_of group (Some top)) labels r o last e
     by (insecure cause signed) e = insecure_by_node w group top labels r cause signed f o e
-    by (bogus cause) e = tt
+    by (bogus cause) e = inl refl

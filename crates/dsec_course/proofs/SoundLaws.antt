@@ -30,7 +30,7 @@ use Rattle.dsec_nodes.proofs.OutcomeLaws.{read_is}
 use Rattle.dsec_course.specs.Course.{Waiting, to_begin, to_end, for_walk, for_nothing, Course, CourseAnswers, Way, at_once, by_walk, way_under, way_of}
 use Rattle.dsec_course.specs.Advancing.{waiting, with_judged, with_walk, at_last, by_way, going_on, by_found, by_step, by_waiting, course_advanced}
 use Rattle.dsec_course.specs.Agreeing.{IsFor}
-use Rattle.dsec_course.specs.Justified.{IsEnd, IsFound, IsSure, route, route_by, route_of, most_on, IsPaced, IsOpen, SoundSoFar, SoundCourseAt, SoundCourse, SoundGoing}
+use Rattle.dsec_course.specs.Justified.{IsEnd, Justifies, IsFound, IsSure, route, route_by, route_of, most_on, IsPaced, IsOpen, SoundSoFar, SoundCourseAt, SoundCourse, SoundGoing}
 use Rattle.dsec_course.proofs.Lists.{all_front, all_back, all_both}
 use Rattle.dsec_course.proofs.WalkSteps.{HasReached, advances}
 use Rattle.dsec_course.proofs.WalkPuts.{PutUnder, put_under}
@@ -257,7 +257,10 @@ found_sound w most message c group s n f h counted at so_far = by (by_node w gro
     more sure = walked_so_far w most message c group c.left s n f (asked_at_most w s h counted) found sure so_far
 
     by : (x : Finding) → (by_node w group n).finding ≡ x → SoundGoing w most message (by_found w d x)
-    by (is_bogus cause links) e = ((all_both (IsFound w) c.judged (by_node w group n ∷ []) so_far.found (found, tt), record { routes = paced.routes; counted = paced.counted }), refl)
+    by (is_bogus cause links) e = (
+      (all_both (IsFound w) c.judged (by_node w group n ∷ []) so_far.found (found, tt), record { routes = paced.routes; counted = paced.counted }),
+      (refl, (n.signer, subst (Justifies w (by_node w group n)) e found)),
+    )
     by (is_shown links last signature) e = going_sound w most message c.left d (more (subst IsSure (sym e) tt))
     by has_no_set e = going_sound w most message c.left d (more (subst IsSure (sym e) tt))
     by (is_insecure cause signed) e = going_sound w most message c.left d (more (subst IsSure (sym e) tt))

@@ -60,7 +60,8 @@ abbrev pub after_heard : World → Run → List Input → Run
 after_heard w r [] = r
 after_heard w r (i ∷ inputs) = after_heard w (ran_on w r i) inputs
 
--- a node is of a table: it is the one that the recursion makes at its name, from the island at which its anchor stands, by these replies
+-- a node is of a table at the moment of judging: it is the one that the recursion makes then at its name, from the island at which its anchor
+-- stands, by these replies; one that was made earlier is none
 abbrev pub IsOfTable : World → Replies → Node → Type 0
 IsOfTable w replies n = (top : Place) → RestsAt w.anchors top n → node_of w replies top n.name ≡ n
 

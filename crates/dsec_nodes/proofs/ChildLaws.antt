@@ -88,7 +88,7 @@ signed_ds_kept w zone keys name group p h below at g whole =
         of_type = at.of_type;
         at = at.at;
         none = none_usable (set_in group).datas none;
-      }),
+      }) refl,
       λ _. refl,
       refl,
     ))

@@ -1,17 +1,20 @@
 -- The outcome of a message with one question is justified, where each judged group is what was found of it.
-use Rattle.std.proofs.Common.{◌≡◌, ℕ, ◌==◌, ◌&&◌, Bool, true, false, cond, List, [], ◌∷◌, map, Option, Some, None, refl, sym, ◌∙◌, subst, inl, inr}
+use Rattle.std.proofs.Common.{◌≡◌, ℕ, ◌==◌, ◌&&◌, Bool, true, false, cond, List, [], ◌∷◌, map, Option, Some, None, refl, sym, ap, ◌∙◌, subst, inl, inr}
 use Rattle.std.specs.Prelude.{◌≢◌, position, slice_get}
 use Rattle.std.specs.List.{AllByRecursion}
 use Rattle.std.proofs.Math.Bool.{not}
-use Rattle.std.proofs.lemmas.Bool.{and_parts}
+use Rattle.std.proofs.lemmas.Bool.{and_parts, and_from, eq-eqb, ne_eqb, not_from_false, true≢false}
 use Rattle.dsec_spec.specs.Names.{Labels, Place, place, IsAtOrBelow, IsStrictlyBelow}
 use Rattle.dsec_spec.specs.Numbers.{ANY}
 use Rattle.dsec_spec.specs.Records.{Record}
 use Rattle.dsec_spec.specs.Messages.{Question, rcode_of}
 use Rattle.dsec_spec.specs.Groups.{Group}
+use Rattle.dsec_spec.specs.AtQuestion.{IsAtQuestion}
 use Rattle.dsec_spec.specs.Islands.{looked_for_at, island}
 use Rattle.dsec_spec.specs.Chain.{Link}
 use Rattle.dsec_spec.proofs.AnsweringLemmas.{at_question}
+use Rattle.dsec_spec.proofs.CanonicalNames.{same_place_decides}
+use Rattle.dsec_spec.proofs.Members.{from_map}
 use Rattle.dsec_spec.proofs.NamesBelow.{below_trans}
 use Rattle.dsec_absence.specs.Answers.{Source}
 use Rattle.dsec_absence.specs.Replies.{soa_at}
@@ -19,6 +22,7 @@ use Rattle.dsec_nsec3.specs.Conclusions.{Conclusion, proved, hash_proved, left_o
 use Rattle.dsec_nsec3.proofs.ConclusionLaws.{Concludes, at_concludes, closer_concludes}
 use Rattle.dsec_alias.specs.Following.{AliasStep, AliasEnd, ends_at, ends_bogus}
 use Rattle.dsec_alias.specs.Paths.{IsPath}
+use Rattle.dsec_alias.proofs.Firsts.{from_no_position}
 use Rattle.dsec_alias.proofs.PathLaws.{path_is}
 use Rattle.dsec_alias.proofs.SecureLaws.{secure_path}
 use Rattle.dsec_nodes.specs.World.{World, limits_of}
@@ -31,7 +35,7 @@ use Rattle.dsec_nodes.specs.Alone.{by_answer, is_answer, at_answer, by_answers, 
 use Rattle.dsec_nodes.specs.SoundFindings.{Justifies, IsFound, IsSure, IsShown}
 use Rattle.dsec_nodes.specs.SoundDenials.{IsSoaFor}
 use Rattle.dsec_nodes.specs.SoundHashes.{IsLeftOpenBy}
-use Rattle.dsec_nodes.specs.SoundOutcomes.{IsRead, EndsThere, IsSecureWay, IsAnswered, HasSoa, Decides, IsSound, IsJustified}
+use Rattle.dsec_nodes.specs.SoundOutcomes.{IsRead, EndsThere, IsSecureWay, IsAnswered, HasNoAnswer, HasSoa, Decides, IsSound, IsJustified}
 use Rattle.dsec_nodes.proofs.Lists.{all_at, from_position}
 use Rattle.dsec_nodes.proofs.Signs.{mapped_at}
 use Rattle.dsec_nodes.proofs.SoaLaws.{soa_is, soa_over}
@@ -91,7 +95,7 @@ module _ (w : World) (most : ℕ) (message : List ℕ) (asked : Question) (js be
 
       by : (f : Finding) → j.finding ≡ f → Means w most message (finished (by_finding where_shown f))
       by (is_shown links last signature) f = shown links last signature f
-      by has_no_set f = inr (inl (record { group = j.group; decides = decides; no_records = found has_no_set f; cause = refl }))
+      by has_no_set f = inr (inl (record { group = j.group; decides = decides; no_records = found has_no_set f; cause = refl; why = refl }))
       by (is_insecure cause signed) f = inl (record {
         group = j.group;
         decides = decides;
@@ -99,8 +103,8 @@ module _ (w : World) (most : ℕ) (message : List ℕ) (asked : Question) (js be
         shown = found (is_insecure cause signed) f;
         why = refl;
       })
-      by (is_bogus cause links) f = refl
-      by is_indeterminate f = inl (record { group = j.group; decides = decides; no_island = found is_indeterminate f; cause = refl })
+      by (is_bogus cause links) f = (refl, (j.signer, found (is_bogus cause links) f))
+      by is_indeterminate f = inl (record { group = j.group; decides = decides; no_island = found is_indeterminate f; cause = refl; why = refl })
 
   -- an outcome by a denial beside a group is justified, where it is for what is proved, and for what is left open
   conclusion_justified : (signer : Place) → IsAtOrBelow name signer → (j : Judged) (c : Conclusion)
@@ -118,7 +122,7 @@ module _ (w : World) (most : ℕ) (message : List ℕ) (asked : Question) (js be
       by (left_open cause o) p shows =
           let u = opened_is w authorities beside refl other_founds question signer o within p in
           subst (λ (us : List Used). Means w most message (finished (open_by cause (j ∷ []) us))) (sym u.found) (where_open cause u.its u.left_open)
-      by (unproved cause) p shows = refl
+      by (unproved cause) p shows = (refl, tt)
 
   -- the outcome by the group that answers
   answer_justified : rcode_of message ≡ Some 0 → (index : ℕ) (j : Judged) → slice_get js index ≡ Some j → is_answer name question j ≡ true
@@ -183,10 +187,13 @@ module _ (w : World) (most : ℕ) (message : List ℕ) (asked : Question) (js be
           ))
           by (Some encloser) g = by_wildcard_is links last signature f encloser g
 
+  abbrev no_answer : Type 0
+  no_answer = HasNoAnswer message question (map (λ (j : Judged). j.group) js)
+
   -- the outcome by the SOA set
-  soa_justified : (index : ℕ) (j : Judged) → slice_get beside index ≡ Some j → IsSoaFor w question j.group
+  soa_justified : no_answer → (index : ℕ) (j : Judged) → slice_get beside index ≡ Some j → IsSoaFor w question j.group
       → Means w most message (finished (at_soa w message question name beside (Some j)))
-  soa_justified index j stands soa =
+  soa_justified none index j stands soa =
       finding_justified j its (inr has_soa) (λ signature. on_conclusion beside j (denied_under w message question name beside j)) shown
     where
       its : IsFound w j
@@ -198,6 +205,7 @@ module _ (w : World) (most : ℕ) (message : List ℕ) (asked : Question) (js be
         index = index;
         stands = mapped_at (λ (x : Judged). x.group) beside index j stands;
         soa = soa;
+        no_answer = none;
       }
 
       shown : (links : List Link) (last : Link) (signature : Record) → j.finding ≡ is_shown links last signature
@@ -225,18 +233,35 @@ module _ (w : World) (most : ℕ) (message : List ℕ) (asked : Question) (js be
           (λ cause used opens. inr (inr (inl (record { judged = j; has_soa = has_soa; shown = is; used = used; left_open = opens; why = refl }))))
 
   -- the outcome by a denial
-  denial_justified : Means w most message (finished (by_denial w message question name beside))
-  denial_justified = by (soa_at (island w.anchors name question.rtype) (looked_for_at name question.rtype) question.class (λ (x : Judged). x.group) beside) refl
+  denial_justified : no_answer → Means w most message (finished (by_denial w message question name beside))
+  denial_justified none = by (soa_at (island w.anchors name question.rtype) (looked_for_at name question.rtype) question.class (λ (x : Judged). x.group) beside) refl
     where
       at : (index : ℕ) → soa_at (island w.anchors name question.rtype) (looked_for_at name question.rtype) question.class (λ (x : Judged). x.group) beside ≡ Some index
           → (o : Option Judged) → slice_get beside index ≡ o → Means w most message (finished (at_soa w message question name beside o))
-      at index g None h = refl
-      at index g (Some j) h = soa_justified index j h (soa_is w question beside index j g h)
+      at index g None h = (refl, tt)
+      at index g (Some j) h = soa_justified none index j h (soa_is w question beside index j g h)
 
       by : (o : Option ℕ) → soa_at (island w.anchors name question.rtype) (looked_for_at name question.rtype) question.class (λ (x : Judged). x.group) beside ≡ o
           → Means w most message (finished (by_soa w message question name beside o))
-      by None g = refl
+      by None g = (refl, tt)
       by (Some index) g = at index g (slice_get beside index) refl
+
+  -- a group that is at the question's name, class and type passes the test
+  answers_told : (j : Judged) → IsAtQuestion question j.group → is_answer name question j ≡ true
+  answers_told j at =
+      and_from _ _ (and_from _ _ ((same_place_decides (place j.group.owner) name).1 at.at_name) (eq-eqb j.group.class question.class at.of_class))
+      (eq-eqb j.group.rtype question.rtype at.of_type)
+
+  -- where the test finds none, none answers
+  none_found : position (is_answer name question) js ≡ None → no_answer
+  none_found p fine one other there at =
+      let from = from_map (λ (j : Judged). j.group) js other there in
+      true≢false (sym (answers_told from.0 (subst (IsAtQuestion question) (sym from.2) at)) ∙ from_no_position (is_answer name question) js p from.0 from.1)
+
+  -- where there was an error, or several types are asked for, nothing is said
+  none_asked : (no_error_in (rcode_of message) && not (question.rtype == ANY)) ≡ false → no_answer
+  none_asked f fine one other there at =
+      true≢false (sym (and_from _ _ (ap no_error_in fine) (not_from_false (question.rtype == ANY) (ne_eqb question.rtype ANY one))) ∙ f)
 
   -- the outcome at the name where the path ends
   pub name_justified : Means w most message (finished (at_name w message question name js beside))
@@ -244,19 +269,19 @@ module _ (w : World) (most : ℕ) (message : List ℕ) (asked : Question) (js be
     where
       at : no_error_in (rcode_of message) ≡ true → (index : ℕ) → position (is_answer name question) js ≡ Some index → (o : Option Judged)
           → slice_get js index ≡ o → Means w most message (finished (at_answer w question name beside o))
-      at fine index p None h = refl
+      at fine index p None h = (refl, tt)
       at fine index p (Some j) h =
           answer_justified (from_no_error (rcode_of message) fine) index j h (from_position (is_answer name question) js index j p h)
 
       by_position : no_error_in (rcode_of message) ≡ true → (o : Option ℕ) → position (is_answer name question) js ≡ o
           → Means w most message (finished (by_answers w message question name js beside o))
-      by_position fine None p = denial_justified
+      by_position fine None p = denial_justified (none_found p)
       by_position fine (Some index) p = at fine index p (slice_get js index) refl
 
       by : (b : Bool) → (no_error_in (rcode_of message) && not (question.rtype == ANY)) ≡ b
           → Means w most message (finished (cond b (by_answers w message question name js beside (position (is_answer name question) js)) (by_denial w message question name beside)))
       by true f = by_position (and_parts _ _ f).0 (position (is_answer name question) js) refl
-      by false f = denial_justified
+      by false f = denial_justified (none_asked f)
 
 -- The outcome of a message with one question is justified, where each judged group of its answer section and of its authority section is what
 -- was found of it, and none of the former is bogus (RFC 4033 5)
@@ -273,7 +298,7 @@ end_justified w most message question answers groups js beside read same others 
         (subst (λ (gs : List Group). IsRead w.anchors message most question answers gs) (sym others) read)
 
     by : (end : AliasEnd Beside) → alias_path w most question js beside ≡ end → Means w most message (at_end w message question js beside end)
-    by (ends_bogus reached_name cause) e = refl
+    by (ends_bogus reached_name cause) e = (refl, tt)
     by (ends_at final maybe path) e =
         name_justified w most message question js beside its_read founds other_founds sure path maybe final
         (path_is (reply_to w question js beside) most question.name final path maybe e)

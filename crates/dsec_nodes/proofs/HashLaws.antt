@@ -77,7 +77,7 @@ module _ (w : World) (zone : Node) (keys : List (List ℕ)) (name : Place) (grou
         either (LookedKept w zone name) (has_type nsec3.types NS) _ _
         (λ cut. (
           insecure_kept w zone keys name None nsec3_without_ds group p n.zone_held g no_ds_set n.of_class n.below whole
-              (record { hashed = hashed; matches = matches; delegates = cut; no_ds = no_ds; no_apex = no_apex }),
+              (record { hashed = hashed; matches = matches; delegates = cut; no_ds = no_ds; no_apex = no_apex }) refl,
           λ _. refl,
           refl,
         ))
@@ -98,7 +98,7 @@ module _ (w : World) (zone : Node) (keys : List (List ℕ)) (name : Place) (grou
             hashed = hashed;
             covers = (between_decides owner_hash nsec3.next_owner (hash_by nsec3.hashing name)).0 found;
             with_opt_out = not_false (has_opt_out nsec3.hashing) opts_out;
-          }),
+          }) refl,
           λ _. refl,
           refl,
         ))))
@@ -127,7 +127,7 @@ module _ (w : World) (zone : Node) (keys : List (List ℕ)) (name : Place) (grou
           is_nsec3 = one_nsec3;
           many = ltb-true w.bounds.iterations_insecure nsec3.hashing.iterations (sym (ap (λ (b : Bool). b || nat_lt w.bounds.iterations_insecure nsec3.hashing.iterations) (e ∙ few)) ∙ more);
           not_too_many = ltb-false w.bounds.iterations_bogus nsec3.hashing.iterations (e ∙ few);
-        }),
+        }) refl,
         λ _. refl,
         refl,
       )))

@@ -16,7 +16,7 @@ use Rattle.dsec_spec.proofs.AnsweringLemmas.{no_expansion}
 use Rattle.dsec_spec.proofs.ChainLaws.{chain_goes_on}
 use Rattle.dsec_nodes.specs.World.{World, moment, on_circle}
 use Rattle.dsec_nodes.specs.Causes.{Cause}
-use Rattle.dsec_nodes.specs.Nodes.{Node, Standing, apex, Kept, HoldsAt, Shows, Ground, IsBogus}
+use Rattle.dsec_nodes.specs.Nodes.{Node, Standing, apex, Kept, HoldsAt, Shows, Ground, IsBogus, cause_by}
 use Rattle.dsec_nodes.specs.WithinCauses.{ShowsNoZone}
 use Rattle.dsec_nodes.specs.Signing.{link_under, is_expanded, kept_for, time_left}
 use Rattle.dsec_nodes.specs.Admission.{Admitted, admitted_link}
@@ -137,9 +137,9 @@ apex_kept w zone keys pending group p h d g at =
 -- a name strictly below the zone to which no chain leads, by a set that shows it; a DS set stands at the name
 pub insecure_kept : (w : World) (zone : Node) (keys : List (List ℕ)) (name : Place) (cause : Option Cause) (basis : Ground) (group : Group) (p : Record × Key) → HeldZone w zone keys → GoodPair w zone.signer keys group p
     → (group.rtype ≡ DS → place group.owner ≡ name) → group.class ≡ IN → IsStrictlyBelow name zone.signer → is_expanded group p.0 ≡ false
-    → Shows w.bounds basis name zone.signer (set_in group)
+    → Shows w.bounds basis name zone.signer (set_in group) → cause ≡ cause_by basis
     → KeptAt w name (insecure_by w zone keys name cause basis group p)
-insecure_kept w zone keys name cause basis group p h g at classed below whole shows = (
+insecure_kept w zone keys name cause basis group p h g at classed below whole shows told = (
   λ e. (
     h.anchor,
     h.its,
@@ -156,14 +156,19 @@ insecure_kept w zone keys name cause basis group p h g at classed below whole sh
           same = refl;
         } in
         record {
-          set = set_in group;
-          holds = shown;
-          below = below;
-          of_class = classed;
-          signature = g.counts.signature;
-          reads = g.counts.reads_signature;
-          no_expansion = whole_set group p.0 g.counts.signature g.counts.reads_signature whole;
-          shows = shows;
+          shows = record {
+            set = set_in group;
+            holds = shown;
+            below = below;
+            of_class = classed;
+            signature = g.counts.signature;
+            reads = g.counts.reads_signature;
+            no_expansion = whole_set group p.0 g.counts.signature g.counts.reads_signature whole;
+            shows = shows;
+          };
+          told = told;
+          to_zone = refl;
+          its_own = refl;
         },
   ),
   refl,

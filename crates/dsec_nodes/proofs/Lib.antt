@@ -23,6 +23,7 @@ pub mod CountLaws
 pub mod RunLaws
 pub mod ShownLaws
 pub mod UnsignedLaws
+pub mod LeadingLaws
 pub mod JudgingLaws
 pub mod SoaLaws
 pub mod DenialLaws

@@ -57,7 +57,7 @@ matching_kept w zone keys name group nsec p n at g =
         delegates = cut;
         no_ds = no_ds;
         no_apex = no_apex;
-      }),
+      }) refl,
       λ _. refl,
       refl,
     ))

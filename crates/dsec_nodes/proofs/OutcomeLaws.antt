@@ -16,10 +16,11 @@ use Rattle.dsec_nodes.specs.Outcomes.{secure, Why, by_links, by_nothing, Outcome
 use Rattle.dsec_nodes.specs.Aliases.{alias_path}
 use Rattle.dsec_nodes.specs.Alone.{at_end, on_questions, on_judged, on_groups, on_sections, sections_of, alone}
 use Rattle.dsec_nodes.specs.SoundFindings.{IsShownInsecure, Justifies, IsFound, IsSure}
-use Rattle.dsec_nodes.specs.SoundOutcomes.{IsRead, IsSound, IsJustified}
+use Rattle.dsec_nodes.specs.SoundOutcomes.{IsRead, IsSound, IsBogusBy, IsJustified}
 use Rattle.dsec_nodes.proofs.JudgingLaws.{others, judged_group, groups_same}
 use Rattle.dsec_nodes.proofs.ShownLaws.{shown_is}
 use Rattle.dsec_nodes.proofs.UnsignedLaws.{insecure_is, no_set_is, indeterminate_is}
+use Rattle.dsec_nodes.proofs.LeadingLaws.{bogus_leads, first_leads}
 use Rattle.dsec_nodes.proofs.WeakWays.{Means}
 use Rattle.dsec_nodes.proofs.EndLaws.{end_justified}
 
@@ -33,8 +34,8 @@ found_so w replies group = by (judged_of w replies group).finding refl
     by : (f : Finding) → (judged_of w replies group).finding ≡ f → Justifies w (judged_of w replies group) f
     by (is_shown links last signature) f = (shown_is w replies group links last signature f).0
     by has_no_set f = subst (λ (g : Group). g.records ≡ []) its (no_set_is w replies group f)
-    by (is_insecure cause signed) f = subst (λ (g : Group). IsShownInsecure w g signed) its (insecure_is w replies group cause signed f)
-    by (is_bogus cause links) f = tt
+    by (is_insecure cause signed) f = subst (λ (g : Group). IsShownInsecure w g cause signed) its (insecure_is w replies group cause signed f)
+    by (is_bogus cause links) f = bogus_leads w replies group cause links f
     by is_indeterminate f = subst (λ (g : Group). island w.anchors (place g.owner) g.rtype ≡ None) its (indeterminate_is w replies group f)
 
 -- and of each of those that are all judged
@@ -86,13 +87,13 @@ read_is anchors most message question groups s r q m =
     }
 
 -- each outcome is justified: a Secure one by links from an anchor to its set and by what is denied, an Insecure one by a signed record or for
--- want of a set, an Indeterminate one for want of an anchor, and a Bogus one has a cause (RFC 4033 5, RFC 4035 5)
+-- want of a set, an Indeterminate one for want of an anchor, and a Bogus one has a cause, and links that hold, or none (RFC 4033 5, RFC 4035 5)
 pub alone_justified : (w : World) (most : ℕ) (replies : Replies) (message : List ℕ) (o : Outcome) → alone w most replies message ≡ Ok o
     → IsJustified w most message o o.state
 alone_justified w most replies message o e = by_sections (sections_of message) refl e
   where
-    bogus_is : (cause : Cause) (why : Why) → bogus_by cause why ≡ o → Means w most message o
-    bogus_is cause why same = subst (Means w most message) same refl
+    bogus_is : (cause : Cause) (why : Why) → IsBogusBy w why → bogus_by cause why ≡ o → Means w most message o
+    bogus_is cause why told same = subst (Means w most message) same (refl, told)
 
     by_questions : (s : List Question × List Record × List Record) → sections_of message ≡ Some s → (groups : List Group)
         → moved w.anchors most (groups_of s.1) ≡ Some groups → (js beside : List Judged) → judged_all w replies groups ≡ all js
@@ -110,13 +111,13 @@ alone_justified w most replies message o e = by_sections (sections_of message) r
     by_judged : (s : List Question × List Record × List Record) → sections_of message ≡ Some s → (groups : List Group)
         → moved w.anchors most (groups_of s.1) ≡ Some groups → (a b : AllJudged) → judged_all w replies groups ≡ a
         → judged_all w replies (groups_of s.2) ≡ b → on_judged w most message s.0 a b ≡ Ok o → Means w most message o
-    by_judged s r groups m (one_bogus cause links) b j k g = bogus_is cause (by_links links) cc
-    by_judged s r groups m (all js) (one_bogus cause links) j k g = bogus_is cause (by_links links) cc
+    by_judged s r groups m (one_bogus cause links) b j k g = bogus_is cause (by_links links) (first_leads w replies groups cause links j) cc
+    by_judged s r groups m (all js) (one_bogus cause links) j k g = bogus_is cause (by_links links) (first_leads w replies (groups_of s.2) cause links k) cc
     by_judged s r groups m (all js) (all beside) j k g = by_questions s r groups m js beside j k s.0 refl g
 
     by_moved : (s : List Question × List Record × List Record) → sections_of message ≡ Some s → (m : Option (List Group))
         → moved w.anchors most (groups_of s.1) ≡ m → on_groups w most replies message s.0 m (groups_of s.2) ≡ Ok o → Means w most message o
-    by_moved s r None m g = bogus_is TooManyUnsignedCnames by_nothing cc
+    by_moved s r None m g = bogus_is TooManyUnsignedCnames by_nothing tt cc
     by_moved s r (Some groups) m g = by_judged s r groups m (judged_all w replies groups) (judged_all w replies (groups_of s.2)) refl refl g
 
     by_sections : (x : Option (List Question × List Record × List Record)) → sections_of message ≡ x

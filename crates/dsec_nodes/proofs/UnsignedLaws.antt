@@ -37,7 +37,7 @@ tried_is group n keys too_many_bad = refl
 -- a node that is Insecure has a signed cause at the moment of judging, from an anchor of the island's, at or above the name
 pub insecure_by_node : (w : World) (group : Group) (top : Place) (labels : ℕ) (r : Reached) (cause : Option Cause) (signed : SignedCause)
     → island w.anchors (place group.owner) group.rtype ≡ Some top → OnTheWay w top (target_of group (Some top)) labels r
-    → r.node.standing ≡ insecure cause signed → IsShownInsecure w group signed
+    → r.node.standing ≡ insecure cause signed → IsShownInsecure w group cause signed
 insecure_by_node w group top labels r cause signed f o e =
     let n = r.node in
     let sure : IsBogus n.standing ≡ false = ap IsBogus e in
@@ -48,7 +48,7 @@ insecure_by_node w group top labels r cause signed f o e =
     subst (λ (x : Standing). HoldsAt w.accepts n.bounds kept.0 n.name n.signer n.links x (moment w)) e (kept.2 w.now o.from o.to) in
     let shown : IsSignedCause w.accepts w.bounds rests.anchor n.name signed (moment w) =
     subst (λ (b : Bounds). IsSignedCause w.accepts b rests.anchor n.name signed (moment w)) o.node_bounds
-    (subst (λ (a : Record). IsSignedCause w.accepts n.bounds a n.name signed (moment w)) same holds) in
+    (subst (λ (a : Record). IsSignedCause w.accepts n.bounds a n.name signed (moment w)) same holds.shows) in
     record {
       top = top;
       is_island = island_is w.anchors (place group.owner) group.rtype top f;
@@ -59,12 +59,13 @@ insecure_by_node w group top labels r cause signed f o e =
       below_island = subst (IsStrictlyBelow n.name) rests.at (cause_below w.accepts w.bounds rests.anchor n.name signed (moment w) shown);
       over = o.over;
       shows = shown;
+      told = holds.told;
     }
 
 -- so has the node of a name (RFC 4035 5.2)
 insecure_node : (w : World) (replies : Replies) (group : Group) (top : Place) (cause : Option Cause) (signed : SignedCause)
     → island w.anchors (place group.owner) group.rtype ≡ Some top
-    → (node_of w replies top (target_of group (Some top))).standing ≡ insecure cause signed → IsShownInsecure w group signed
+    → (node_of w replies top (target_of group (Some top))).standing ≡ insecure cause signed → IsShownInsecure w group cause signed
 insecure_node w replies group top cause signed f e =
     let target = target_of group (Some top) in
     let i = island_is w.anchors (place group.owner) group.rtype top f in
@@ -79,28 +80,31 @@ no_records (r ∷ rs) e = absurd cc
 
 -- a group that is found to be Insecure by a signed cause is (RFC 4035 5.2)
 pub insecure_is : (w : World) (replies : Replies) (group : Group) (cause : Option Cause) (signed : SignedCause)
-    → (judged_of w replies group).finding ≡ is_insecure cause signed → IsShownInsecure w group signed
+    → (judged_of w replies group).finding ≡ is_insecure cause signed → IsShownInsecure w group cause signed
 insecure_is w replies group cause signed e = by_records (length group.records == 0) e
   where
     by_standing : (top : Place) → island w.anchors (place group.owner) group.rtype ≡ Some top → (s : Standing)
         → (node_of w replies top (target_of group (Some top))).standing ≡ s
         → found_at w group (node_of w replies top (target_of group (Some top))) s ≡ is_insecure cause signed
-        → IsShownInsecure w group signed
+        → IsShownInsecure w group cause signed
     by_standing top f (apex keys) g h =
         let n = node_of w replies top (target_of group (Some top)) in
         absurd (let x : true ≡ false = sym (tried_is group n keys (under_keys w n.signer keys group)) ∙ ap IsTried h in cc)
     by_standing top f (within last) g h = absurd cc
-    by_standing top f (insecure c s) g h = let same : s ≡ signed = cc in subst (IsShownInsecure w group) same (insecure_node w replies group top c s f g)
+    by_standing top f (insecure c s) g h =
+        let same_cause : c ≡ cause = cc in
+        let same : s ≡ signed = cc in
+        subst (IsShownInsecure w group cause) same (subst (λ (x : Option Cause). IsShownInsecure w group x s) same_cause (insecure_node w replies group top c s f g))
     by_standing top f (bogus c) g h = absurd cc
 
     by_top : (o : Option Place) → island w.anchors (place group.owner) group.rtype ≡ o
-        → (by_island w replies group o).finding ≡ is_insecure cause signed → IsShownInsecure w group signed
+        → (by_island w replies group o).finding ≡ is_insecure cause signed → IsShownInsecure w group cause signed
     by_top None f h = absurd cc
     by_top (Some top) f h = by_standing top f (node_of w replies top (target_of group (Some top))).standing refl h
 
     by_records : (b : Bool)
         → (cond b (record { group = group; signer = []; finding = has_no_set }) (by_island w replies group (island w.anchors (place group.owner) group.rtype))).finding ≡ is_insecure cause signed
-        → IsShownInsecure w group signed
+        → IsShownInsecure w group cause signed
     by_records true h = absurd cc
     by_records false h = by_top (island w.anchors (place group.owner) group.rtype) refl h
 

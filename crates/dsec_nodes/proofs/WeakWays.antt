@@ -91,7 +91,7 @@ module _ (w : World) (most : ℕ) (message : List ℕ) (asked : Question) (js be
               shown = found (is_insecure cause signed) e;
               no_cause = refl;
               others = others;
-              used = denials_on beside path ++ used;
+              used = used;
               why = refl;
             }))))))
         by (is_bogus cause links) e s = absurd (subst IsSure e (all_at (λ (j : Judged). IsSure j.finding) js step.group a.judged sure a.stands))
@@ -102,6 +102,9 @@ module _ (w : World) (most : ℕ) (message : List ℕ) (asked : Question) (js be
               on_way = on_way;
               no_island = found is_indeterminate e;
               no_cause = refl;
+              others = others;
+              used = used;
+              why = refl;
             }))
 
     -- by an expansion whose name is left open

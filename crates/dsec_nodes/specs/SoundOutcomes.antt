@@ -1,7 +1,8 @@
 -- What each outcome of a message means: what was read, which group decides, what is shown of it, and what is denied (RFC 4033 5, RFC 4035 5).
-use Rattle.std.specs.Prelude.{◌≡◌, ◌⊎◌, ℕ, ◌≤◌, IsSome, List, [], ◌∷◌, ◌++◌, length, map, Contains, slice_get, Option, Some, None}
+use Rattle.std.specs.Prelude.{◌≡◌, ◌≢◌, ◌⊎◌, ℕ, ◌≤◌, IsSome, List, [], ◌∷◌, ◌++◌, length, map, Contains, slice_get, Option, Some, None}
 use Rattle.std.specs.List.{AllByRecursion}
 use Rattle.dsec_spec.specs.Names.{Labels, Place, place}
+use Rattle.dsec_spec.specs.Numbers.{ANY}
 use Rattle.dsec_spec.specs.Records.{Record}
 use Rattle.dsec_spec.specs.Messages.{Question, questions_of, answers_of, authorities_of, rcode_of}
 use Rattle.dsec_spec.specs.Groups.{Group, groups_of}
@@ -13,10 +14,10 @@ use Rattle.dsec_nodes.specs.World.{World}
 use Rattle.dsec_nodes.specs.Causes.{Cause, RrsigWithoutRrset, NoTrustAnchor}
 use Rattle.dsec_nodes.specs.Nodes.{SignedCause}
 use Rattle.dsec_nodes.specs.Judging.{is_insecure, Judged}
-use Rattle.dsec_nodes.specs.Outcomes.{State, secure, insecure, bogus, indeterminate, Used, by_groups, by_cause, Outcome}
+use Rattle.dsec_nodes.specs.Outcomes.{State, secure, insecure, bogus, indeterminate, Used, Why, by_groups, by_cause, by_links, by_nothing, Outcome}
 use Rattle.dsec_nodes.specs.Aliases.{reached}
 use Rattle.dsec_nodes.specs.SoundAliases.{AreAliases, IsFromAbove, AreSecureAliases}
-use Rattle.dsec_nodes.specs.SoundFindings.{IsShownInsecure, IsShown, IsShownItself, IsShownFrom}
+use Rattle.dsec_nodes.specs.SoundFindings.{IsShownInsecure, IsShown, IsShownItself, IsShownFrom, LeadTo}
 use Rattle.dsec_nodes.specs.SoundDenials.{IsSoaFor}
 use Rattle.dsec_nodes.specs.SoundHashes.{IsLeftOpenBy}
 use Rattle.dsec_nodes.specs.SoundProofs.{Disproof, disproof_used, IsDeniedBy, IsOfCloser, IsByRcode}
@@ -65,12 +66,19 @@ pub record IsAnswered (w : World) (most : ℕ) (message : List ℕ) (group : Gro
   pub stands : slice_get end.answers index ≡ Some group
   pub at_question : IsAtQuestion end.question group
 
--- this group of its authority section is the SOA set by which it denies (RFC 2308 2)
+-- of these groups none answers the question: without an error, and where one type is asked for, none is at its name, class and type
+-- (RFC 1034 3.7.1, RFC 2308 2)
+abbrev pub HasNoAnswer : List ℕ → Question → List Group → Type 0
+HasNoAnswer message question answers =
+    rcode_of message ≡ Some 0 → question.rtype ≢ ANY → (other : Group) → Contains answers other → IsAtQuestion question other → ⊥
+
+-- this group of its authority section is the SOA set by which it denies, and no group of its answer section answers (RFC 2308 2)
 pub record HasSoa (w : World) (most : ℕ) (message : List ℕ) (group : Group) : Type 0 where
   pub end : EndsThere w most message
   pub index : ℕ
   pub stands : slice_get end.authorities index ≡ Some group
   pub soa : IsSoaFor w end.question group
+  pub no_answer : HasNoAnswer message end.question end.answers
 
 -- the group decides: it answers, or is the SOA set by which the message denies (RFC 2308 2, RFC 4035 5)
 abbrev pub Decides : World → ℕ → List ℕ → Group → Type 0
@@ -113,12 +121,12 @@ IsSound w most message o =
     (IsSecureAnswer w most message o ⊎ IsSecureByWildcard w most message o ⊎ IsSecureDenial w most message o) × (o.cause ≡ None)
 
 -- An Insecure outcome: a signed record shows at the moment of judging, from an anchor of its island, that no chain leads to a name at or above
--- the zone that is to have signed the group that decides (RFC 4033 5, RFC 4035 5.2)
+-- the zone that is to have signed the group that decides, and the cause that is told is the record's (RFC 4033 5, RFC 4035 5.2, RFC 8914 4)
 pub record IsInsecure (w : World) (most : ℕ) (message : List ℕ) (o : Outcome) : Type 0 where
   pub group : Group
   pub decides : Decides w most message group
   pub signed : SignedCause
-  pub shown : IsShownInsecure w group signed
+  pub shown : IsShownInsecure w group o.cause signed
   pub why : o.why ≡ by_cause signed
 
 -- or the group is of signatures alone, which nothing signs (RFC 4035 2.2)
@@ -127,6 +135,7 @@ pub record HasSignaturesAlone (w : World) (most : ℕ) (message : List ℕ) (o :
   pub decides : Decides w most message group
   pub no_records : group.records ≡ []
   pub cause : o.cause ≡ Some RrsigWithoutRrset
+  pub why : o.why ≡ by_nothing
 
 -- or the message denies, links show the SOA set by which it does, and an NSEC3 record leaves open what is denied (RFC 5155 6, RFC 9276 3.2)
 pub record IsOpenDenial (w : World) (most : ℕ) (message : List ℕ) (o : Outcome) : Type 0 where
@@ -156,11 +165,11 @@ pub record HasInsecureAlias (w : World) (most : ℕ) (message : List ℕ) (o : O
   pub its_cause : Option Cause
   pub signed : SignedCause
   pub found : alias.finding ≡ is_insecure its_cause signed
-  pub shown : IsShownInsecure w alias.group signed
+  pub shown : IsShownInsecure w alias.group its_cause signed
   pub no_cause : o.cause ≡ None
   pub others : List Judged
   pub used : List Used
-  pub why : o.why ≡ by_groups (end.aliases ++ others) used
+  pub why : o.why ≡ by_groups (end.aliases ++ others) (end.beside ++ used)
 
 -- or links show an alias on the way as an expansion of a wildcard, and an NSEC3 record leaves open whether a closer name exists (RFC 5155 6, 8.8,
 -- RFC 9276 3.2)
@@ -192,18 +201,29 @@ pub record IsUnanchored (w : World) (most : ℕ) (message : List ℕ) (o : Outco
   pub decides : Decides w most message group
   pub no_island : island w.anchors (place group.owner) group.rtype ≡ None
   pub cause : o.cause ≡ Some NoTrustAnchor
+  pub why : o.why ≡ by_nothing
 
--- or an alias on the way is; no cause is told (RFC 4033 5)
+-- or an alias on the way is, which is kept; no cause is told (RFC 4033 5)
 pub record HasUnanchoredAlias (w : World) (most : ℕ) (message : List ℕ) (o : Outcome) : Type 0 where
   pub end : EndsThere w most message
   pub alias : Judged
   pub on_way : Contains end.aliases alias
   pub no_island : island w.anchors (place alias.group.owner) alias.group.rtype ≡ None
   pub no_cause : o.cause ≡ None
+  pub others : List Judged
+  pub used : List Used
+  pub why : o.why ≡ by_groups (end.aliases ++ others) (end.beside ++ used)
 
--- what each state means of an outcome; a Bogus one has a cause (RFC 4033 5)
+-- why an outcome is Bogus is told by links from an anchor to a zone's keys, or not at all: by no group, and by no signed record (RFC 4033 5)
+abbrev pub IsBogusBy : World → Why → Type 0
+IsBogusBy w (by_links links) = (zone : Place) × LeadTo w links zone
+IsBogusBy w by_nothing = Unit {0}
+IsBogusBy w (by_groups judged used) = ⊥
+IsBogusBy w (by_cause signed) = ⊥
+
+-- what each state means of an outcome; a Bogus one has a cause, and its links hold (RFC 4033 5)
 abbrev pub IsJustified : World → ℕ → List ℕ → Outcome → State → Type 0
 IsJustified w most message o secure = IsSound w most message o
 IsJustified w most message o insecure = IsLeftInsecure w most message o
-IsJustified w most message o bogus = IsSome o.cause
+IsJustified w most message o bogus = IsSome o.cause × IsBogusBy w o.why
 IsJustified w most message o indeterminate = IsUnanchored w most message o ⊎ HasUnanchoredAlias w most message o
