@@ -34,7 +34,8 @@ pub struct Admission {
 
 /// Which of these anchors admits a key of the set that has signed it, or why none does: a DNSKEY anchor at the set's
 /// owner admits its own key, a DS anchor the first that it speaks of. By anchor and then by signature, in order, at most one
-/// more pair is tried than `max_bad_signatures`, up to the first that is good, each in one step.
+/// more pair is tried than `max_bad_signatures`, up to the first that is good, each in one step. The group's class isn't looked at: that
+/// it is IN the caller has to know.
 pub fn admit_by_anchor<V: Verifier, L: Ledger>(
     alloc: Global,
     anchors: &[Record],
@@ -80,6 +81,7 @@ pub(crate) fn admitted_by_anchor<V: Verifier, L: Ledger>(
 /// Which of these DS records admits a key of the set that has signed it, or why none does: each the first key that it speaks
 /// of. Records of an unknown algorithm or digest are passed over, and of the others `max_ds_records` are tried at most. By record and
 /// then by signature, in order, at most one more pair is tried than `max_bad_signatures`, up to the first that is good, each in one step.
+/// The group's class isn't looked at: that it is IN the caller has to know.
 pub fn admit_by_ds<V: Verifier, L: Ledger>(
     alloc: Global,
     ds: &[Ds<'_>],

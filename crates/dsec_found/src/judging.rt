@@ -18,6 +18,8 @@ use std::sync::ledger::Ledger;
 
 /// A group, judged by the node of the zone that is to have signed it, at a moment in seconds since 1970: by what the node says, and
 /// where the node is a zone's by trying the zone's keys, at most `max_bad_signatures + 1` pairs of a signature and a key, each in a step.
+/// It asks neither whether the node counts at that moment nor whether it stands at or above where the group is looked for: the caller has to
+/// know both, or go by `dsec_by_node`, which asks them.
 pub fn judged_by_node<V: Verifier, L: Ledger>(
     alloc: Global,
     config: &Config,
