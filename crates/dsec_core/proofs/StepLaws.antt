@@ -20,8 +20,8 @@ use Rattle.dsec_course.proofs.SoundLaws.{course_sound}
 use Rattle.dsec_course.proofs.StepLaws.{course_awaits}
 use Rattle.dsec_walk.specs.UnderWay.{IsInZone}
 use Rattle.dsec_walk.proofs.UnderWayLaws.{advanced_under_way}
-use Rattle.dsec_core.specs.Progress.{IsUnderWayAt, given_up}
-use Rattle.dsec_core.specs.Validating.{IsInZoneAt, IsSoundBy, Validating, most_of, with_course, world_by}
+use Rattle.dsec_core.specs.Progress.{IsUnderWayAt}
+use Rattle.dsec_core.specs.Validating.{IsInZoneAt, IsSoundBy, Validating, given_up, most_of, with_course, world_by}
 
 -- a walk that sets out has no zone yet
 going_zone : (w : World) (groups : List Group) (c : Course) → IsInZoneAt w (going_on w groups c).0.waits

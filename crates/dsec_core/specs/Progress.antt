@@ -97,7 +97,3 @@ MovesOrEnds anchors most before after None = (message : List ℕ) (s : List Ques
 abbrev pub OpensWith : List Record → ℕ → List Group → List Group → ℕ → List Group → courses.Waiting → Type 0
 OpensWith anchors most answers authorities count left waits = (message : List ℕ) (s : List Question × List Record × List Record) → groups_of s.1 ≡ answers → groups_of s.2 ≡ authorities
     → begun_by anchors most message (Some s) ≡ Ok (beginning most message s.0 count left waits)
-
--- a message that isn't judged any further
-abbrev pub given_up : Course → Course
-given_up c = record { message = c.message; questions = c.questions; most = c.most; answers = c.answers; left = []; judged = []; walks = []; waits = courses.for_nothing }

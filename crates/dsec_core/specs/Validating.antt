@@ -42,13 +42,17 @@ abbrev pub begun_as : List Record → Settings → ℕ → Result Course Refusal
 begun_as anchors config moment (Ok course) = Ok (record { anchors = anchors; config = config; moment = moment; course = course })
 begun_as anchors config moment (Err refusal) = Err (refusal_of refusal)
 
--- the course and the step, or the refusal of a message that hasn't one question; where memory is wanting nothing is waited for any more, and no
--- judged group is kept; no other error comes (RFC 1035 4.1.2)
-abbrev pub AdvancesTo : {V : Type 0} → Course × CourseStep → Course → Result (Step V) Error → Type 0
-AdvancesTo p course (Ok step) = (course, step_view step) ≡ p
-AdvancesTo p course (Err FormError) = (course, end_with (Err not_one_question)) ≡ p
-AdvancesTo p course (Err NoMemory) = (course.waits ≡ for_nothing) × (course.judged ≡ [])
-AdvancesTo p course (Err _) = ⊥
+-- a message that isn't judged any further: nothing is waited for, and no group and no walk is kept
+abbrev pub given_up : Course → Course
+given_up c = record { message = c.message; questions = c.questions; most = c.most; answers = c.answers; left = []; judged = []; walks = []; waits = for_nothing }
+
+-- the course and the step, or the refusal of a message that hasn't one question; where memory is wanting the course before is given up; no other
+-- error comes (RFC 1035 4.1.2)
+abbrev pub AdvancesTo : {V : Type 0} → Course × CourseStep → Course → Course → Result (Step V) Error → Type 0
+AdvancesTo p before course (Ok step) = (course, step_view step) ≡ p
+AdvancesTo p before course (Err FormError) = (course, end_with (Err not_one_question)) ≡ p
+AdvancesTo p before course (Err NoMemory) = course ≡ given_up before
+AdvancesTo p before course (Err _) = ⊥
 
 -- how many groups are judged by the step that a walk comes to: its own, where this is its end (RFC 4035 5.3)
 abbrev pub judged_by : machine.Step → ℕ

@@ -5,8 +5,8 @@ ghost use Rattle.dsec_nodes.specs.SoundSteps.{InputKept};
 ghost use Rattle.dsec_course.specs.Advancing.{course_advanced, waiting};
 ghost use Rattle.dsec_course.specs.Course as courses;
 ghost use Rattle.dsec_walk.specs.Views.{input_view, world_in};
-ghost use Rattle.dsec_core.specs.Progress.{IsUnderWayAt, given_up};
-ghost use Rattle.dsec_core.specs.Validating.{most_checked_at};
+ghost use Rattle.dsec_core.specs.Progress.{IsUnderWayAt};
+ghost use Rattle.dsec_core.specs.Validating.{given_up, most_checked_at};
 ghost use Rattle.dsec_core.specs.Views.{next_view, waits_view};
 
 mod ending;
@@ -87,6 +87,7 @@ impl<V: Verifier> Course<V> {
         requires answers { courses.CourseAnswers self.old.waits (input_view input) }
         ensures exact { IfOk result (λ n. (self.new, next_view n) ≡ course_advanced (world_in V.accepts setting.now) self.old (input_view input)) }
         ensures kept { IfOk result (λ _. InputKept (world_in V.accepts setting.now) (input_view input)) }
+        ensures stays { given_up self.new ≡ given_up self.old }
         ensures bound { steps.new ≤ steps.old + most_checked_at (world_in V.accepts setting.now) self.old.waits (input_view input) * (setting.now.config.now.max_bad_signatures + 1) }
     {
         rely_on(setting, &input);

@@ -80,7 +80,7 @@ impl<V: Verifier> Validation<V> {
         steps: &mut Steps<L>,
     ) -> Result<Step<V>, Error>
         requires answers { courses.CourseAnswers self.old.course.waits (input_view input) }
-        ensures exact { AdvancesTo (course_advanced (world_by V.accepts self.old) self.old.course (input_view input)) self.new.course result }
+        ensures exact { AdvancesTo (course_advanced (world_by V.accepts self.old) self.old.course (input_view input)) self.old.course self.new.course result }
         ensures agrees { CourseInStep (world_by V.accepts self.old) (most_of self.old) self.old.course.message self.old.course
             → IfOk result (λ step. CourseGoes (world_by V.accepts self.old) (most_of self.old) self.old.course.message (self.new.course, step_view step)) }
         ensures sound { IfOk result (λ step. SoundGoing (world_by V.accepts self.old) (most_of self.old) self.old.course.message (self.new.course, step_view step)) }

@@ -5,6 +5,7 @@ ghost use Rattle.dsec_course.specs.Advancing.{at_last, going_on};
 ghost use Rattle.dsec_course.specs.Course as courses;
 ghost use Rattle.dsec_walk.specs.Views.{world_in};
 ghost use Rattle.dsec_core.specs.Progress.{ended_by};
+ghost use Rattle.dsec_core.specs.Validating.{given_up};
 ghost use Rattle.dsec_core.specs.Views.{next_view};
 
 use super::{Course, Waits};
@@ -27,7 +28,8 @@ impl<V: Verifier> Course<V> {
         memo: &mut impl Memo<V>,
     ) -> Result<Next<V>, NoMemory>
         requires { self.old.left ≡ [] }
-        ensures { IfOk result (λ n. (self.new, next_view n) ≡ going_on (world_in V.accepts setting.now) [] self.old) }
+        ensures exact { IfOk result (λ n. (self.new, next_view n) ≡ going_on (world_in V.accepts setting.now) [] self.old) }
+        ensures stays { given_up self.new ≡ given_up self.old }
     {
         let next = self.last(alloc, setting, memo)?;
         self.wait_for(Waits::ForNothing);

@@ -4,6 +4,7 @@ ghost use Rattle.std.specs.Prelude.{◌≡◌, ◌≤◌, IfOk};
 ghost use Rattle.dsec_course.specs.Advancing.{going_on};
 ghost use Rattle.dsec_walk.specs.Views.{world_in};
 ghost use Rattle.dsec_core.specs.Progress.{Passes};
+ghost use Rattle.dsec_core.specs.Validating.{given_up};
 ghost use Rattle.dsec_core.specs.Views.{next_view};
 
 use super::Course;
@@ -26,6 +27,7 @@ impl<V: Verifier> Course<V> {
         steps: &mut Steps<L>,
     ) -> Result<Next<V>, NoMemory>
         ensures exact { IfOk result (λ n. (self.new, next_view n) ≡ going_on (world_in V.accepts setting.now) self.old.left self.old) }
+        ensures stays { given_up self.new ≡ given_up self.old }
         ensures bound { steps.new ≤ steps.old }
     {
         while let Some(group) = self.left.pop_front() {
@@ -47,6 +49,7 @@ impl<V: Verifier> Course<V> {
         steps: &mut Steps<L>,
     ) -> Result<Option<Next<V>>, NoMemory>
         ensures passes { IfOk result (λ next. Passes (world_in V.accepts setting.now) group self.old self.new next) }
+        ensures stays { given_up self.new ≡ given_up self.old }
         ensures bound { steps.new ≤ steps.old }
     {
         match way_of(alloc, setting, group)? {

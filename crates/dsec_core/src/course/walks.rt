@@ -10,7 +10,7 @@ ghost use Rattle.dsec_walk.specs.UnderWay.{IsUnderWay};
 ghost use Rattle.dsec_walk.specs.Views as walks;
 ghost use Rattle.dsec_walk.specs.Views.{world_in};
 ghost use Rattle.dsec_core.specs.Progress.{IsForWalk, arrived_at, judging, said_of};
-ghost use Rattle.dsec_core.specs.Validating.{judged_by};
+ghost use Rattle.dsec_core.specs.Validating.{given_up, judged_by};
 ghost use Rattle.dsec_core.specs.Views.{next_view};
 
 use super::ending::ended;
@@ -41,6 +41,7 @@ impl<V: Verifier> Course<V> {
     ) -> Result<Next<V>, NoMemory>
         requires { IsAtOrBelow (place zone) (place top) }
         ensures out { IfOk result (λ n. (self.new, next_view n) ≡ setting_out self.old group self.old.left (machine.started (place top) (place zone))) }
+        ensures stays { given_up self.new ≡ given_up self.old }
         ensures bound { steps.new ≤ steps.old }
     {
         let mut walk = Walk::start(alloc, top, zone);
@@ -60,6 +61,7 @@ impl<V: Verifier> Course<V> {
     ) -> Result<Next<V>, NoMemory>
         requires { IsForWalk self.old.waits }
         ensures step { IfOk result (λ n. (self.new, next_view n) ≡ said_of (world_in V.accepts setting.now) self.old (walks.step_view step)) }
+        ensures stays { given_up self.new ≡ given_up self.old }
         ensures bound { steps.new ≤ steps.old + judged_by (walks.step_view step) * (setting.now.config.now.max_bad_signatures + 1) }
     {
         match step {
@@ -81,6 +83,7 @@ impl<V: Verifier> Course<V> {
     ) -> Result<Next<V>, NoMemory>
         requires { IsForWalk self.old.waits }
         ensures step { IfOk result (λ n. (self.new, next_view n) ≡ arrived_at (world_in V.accepts setting.now) self.old (arc_value node) self.old.waits) }
+        ensures stays { given_up self.new ≡ given_up self.old }
         ensures bound { steps.new ≤ steps.old + (setting.now.config.now.max_bad_signatures + 1) }
     {
         self.walks.reserve(1)?;
@@ -104,6 +107,7 @@ impl<V: Verifier> Course<V> {
         steps: &mut Steps<L>,
     ) -> Result<Next<V>, NoMemory>
         ensures step { IfOk result (λ n. (self.new, next_view n) ≡ judging (world_in V.accepts setting.now) self.old (by_node (world_in V.accepts setting.now) group (arc_value node))) }
+        ensures stays { given_up self.new ≡ given_up self.old }
         ensures bound { steps.new ≤ steps.old + (setting.now.config.now.max_bad_signatures + 1) }
     {
         let (config, moment) = (setting.config, setting.moment);
@@ -121,6 +125,7 @@ impl<V: Verifier> Course<V> {
         steps: &mut Steps<L>,
     ) -> Result<Next<V>, NoMemory>
         ensures step { IfOk result (λ n. (self.new, next_view n) ≡ judging (world_in V.accepts setting.now) self.old judged) }
+        ensures stays { given_up self.new ≡ given_up self.old }
         ensures bound { steps.new ≤ steps.old }
     {
         let outcome = ended(&judged)?;

@@ -16,7 +16,7 @@ unreachable-requires g c =
     let w = world_in g.V.Verifier.accepts it in
     let replies : Replies = λ name rtype. None in
     let b = subst (BeginsAs w replies c.args.group) c.in-Walk.is (c.in_ok-judged.ensures (bounds_of it.config.now) it.moment replies) in
-    once_no_node w c.args.group replies (node_of w replies (place c.in-Walk.field-1) (place c.in-Walk.field-2)) c.requires b.2
+    once_no_node w c.args.group replies (node_of w replies (place c.in-Walk.field-1) (place c.in-Walk.field-2)) c.requires b.by_its_node
 
 pub returns : goal.returns
 returns g c =
