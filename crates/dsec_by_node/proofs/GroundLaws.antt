@@ -12,12 +12,14 @@ use Rattle.dsec_spec.specs.Chain as chain
 use Rattle.dsec_spec.specs.Accepts.{Accepts}
 use Rattle.dsec_spec.proofs.SignedTests.{below_decides}
 use Rattle.dsec_link.specs.Shown.{ShownSet}
+use Rattle.dsec_group.specs.declared.state.ValidationState.{ValidationState}
+use Rattle.dsec_group.specs.declared.state.ValidationState.TheVariants.{Secure, Insecure, Bogus, Indeterminate}
 use Rattle.dsec_nodes.specs.World.{World, Bounds, on_circle, moment}
 use Rattle.dsec_nodes.specs.Nodes.{Node, Standing, apex, within, insecure, bogus, IsBogus, HoldsAt, Kept}
 use Rattle.dsec_nodes.specs.Signing.{under_keys, link_under}
 use Rattle.dsec_nodes.specs.Taking.{is_in_time}
 use Rattle.dsec_nodes.specs.Held.{HeldZone, GoodPair}
-use Rattle.dsec_nodes.specs.Judging.{is_shown, Judged, found_by, found_at, by_node}
+use Rattle.dsec_nodes.specs.Judging.{Finding, is_shown, Judged, found_by, found_at, by_node}
 use Rattle.dsec_nodes.proofs.KeptLaws.{held}
 use Rattle.dsec_nodes.proofs.ShownLaws.{holds_by}
 use Rattle.dsec_nodes.proofs.Signs.{from_under}
@@ -25,7 +27,7 @@ use Rattle.dsec_node.specs.Counting.{seconds_kept}
 use Rattle.dsec_node.specs.Views.{world_of}
 use Rattle.dsec_by_node.specs.Answers.{Answer, answer_by, encloser_by, Told, CanBeTold}
 use Rattle.dsec_by_node.specs.Grounds.{RestsOn}
-use Rattle.dsec_by_node.specs.WithNode.{is_over, tells_of, answer_with, undetermined, is_secure, seconds_by, seconds_found, seconds_with}
+use Rattle.dsec_by_node.specs.WithNode.{is_over, tells_of, answer_with, undetermined, ShownAs, IsShownBy, is_secure, seconds_by, seconds_found, seconds_with}
 use Rattle.dsec_by_node.proofs.DsLaws.{strictly_over}
 
 -- a group by a good pair of one of its signatures and a key of a held zone is shown
@@ -141,12 +143,13 @@ module _ (accepts : Accepts) (bounds : Bounds) (now : ℕ) (group : Group) (n m 
         if_ok (λ a. CanBeTold accepts j.group m.signer (told a)) (λ a. CanBeTold accepts group n.signer (told a)) result
         (λ a e. subst (λ (x : Node). CanBeTold accepts group x.signer (told a)) same (subst (λ (g : Group). CanBeTold accepts g m.signer (told a)) its_group e)) h
 
-    pub judged_anchor : (shown : A → Option ShownSet) → IfOk result (λ a. IfSome (shown a) (λ s. (m.anchor ≡ Some s.anchor) × (s.moment ≡ on_circle now)))
-        → IfOk result (λ a. IfSome (shown a) (λ s. (n.anchor ≡ Some s.anchor) × (s.moment ≡ on_circle now)))
-    judged_anchor shown h =
-        if_ok (λ a. IfSome (shown a) (λ s. (m.anchor ≡ Some s.anchor) × (s.moment ≡ on_circle now)))
-        (λ a. IfSome (shown a) (λ s. (n.anchor ≡ Some s.anchor) × (s.moment ≡ on_circle now))) result
-        (λ a e. subst (λ (x : Node). IfSome (shown a) (λ s. (x.anchor ≡ Some s.anchor) × (s.moment ≡ on_circle now))) same e) h
+    pub judged_shown : (told : A → Told) → IfOk result (λ a. ShownAs m (on_circle now) j.finding (told a).shown (told a).answer.state)
+        → IfOk result (λ a. IsShownBy w group n (told a))
+    judged_shown told h =
+        if_ok (λ a. ShownAs m (on_circle now) j.finding (told a).shown (told a).answer.state) (λ a. IsShownBy w group n (told a)) result
+        (λ a e.
+        subst (λ (x : Node). ShownAs x (on_circle now) (by_node w group n).finding (told a).shown (told a).answer.state) same
+        (subst (λ (x : Judged). ShownAs m (on_circle now) x.finding (told a).shown (told a).answer.state) (is []) e)) h
 
 -- what a node tells that tells something, and one that doesn't
 module _ (accepts : Accepts) (bounds : Bounds) (now : ℕ) (group : Group) (n : Node) where
@@ -190,3 +193,17 @@ told_anyhow accepts anchors bounds now group n answer tells e =
     e
     ∙ (ap (λ (b : Bool). cond b (answer_by group (on_circle now) (by_node (world_of accepts [] bounds now) group n).finding) undetermined) tells
     ∙ ap (answer_by group (on_circle now)) (found_anyhow accepts anchors bounds now group n n.standing))
+
+-- and so is what shows it
+pub shown_anyhow : (accepts : Accepts) (anchors : List Record) (bounds : Bounds) (now : ℕ) (group : Group) (n : Node) (told : Told)
+    → IsShownBy (world_of accepts [] bounds now) group n told → IsShownBy (world_of accepts anchors bounds now) group n told
+shown_anyhow accepts anchors bounds now group n told h =
+    subst (λ (f : Finding). ShownAs n (on_circle now) f told.shown told.answer.state) (found_anyhow accepts anchors bounds now group n n.standing) h
+
+-- what shows a group is from the node's anchor, at the moment of judging
+pub shown_from : (n : Node) (t : ℕ) (f : Finding) (shown : Option ShownSet) (state : ValidationState) → ShownAs n t f shown state
+    → IfSome shown (λ s. (n.anchor ≡ Some s.anchor) × (s.moment ≡ t))
+shown_from n t f shown Secure h = subst (λ (o : Option ShownSet). IfSome o (λ s. (n.anchor ≡ Some s.anchor) × (s.moment ≡ t))) (sym h.its) (h.from_anchor, h.at)
+shown_from n t f shown Insecure h = subst (λ (o : Option ShownSet). IfSome o (λ s. (n.anchor ≡ Some s.anchor) × (s.moment ≡ t))) (sym h) tt
+shown_from n t f shown Bogus h = subst (λ (o : Option ShownSet). IfSome o (λ s. (n.anchor ≡ Some s.anchor) × (s.moment ≡ t))) (sym h) tt
+shown_from n t f shown Indeterminate h = subst (λ (o : Option ShownSet). IfSome o (λ s. (n.anchor ≡ Some s.anchor) × (s.moment ≡ t))) (sym h) tt

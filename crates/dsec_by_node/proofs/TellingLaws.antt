@@ -25,7 +25,7 @@ use Rattle.dsec_node.specs.Counting.{IsExpired, seconds_kept}
 use Rattle.dsec_found.specs.Told.{state_of, cause_of, own_link, signature_of}
 use Rattle.dsec_by_node.specs.Answers.{Answer, encloser_by, answer_by, HasNoGround, Told, ToldBy, CanBeTold, validated_by}
 use Rattle.dsec_by_node.specs.Grounds.{RestsOn}
-use Rattle.dsec_by_node.specs.WithNode.{is_secure, signed_for, seconds_by}
+use Rattle.dsec_by_node.specs.WithNode.{HasChainOf, ShownAs, is_secure, signed_for, seconds_by}
 
 -- what is told with something to show is Secure
 pub record IsShownSo (accepts : Accepts) (group : Group) (zone : Place) (a : Answer) (state : ValidationState) (s : ShownSet) : Type 0 where
@@ -124,6 +124,14 @@ unsigned_told accepts group zone has_no_set e = record { no_encloser = refl; not
 unsigned_told accepts group zone (is_insecure cause signed) e = record { no_encloser = refl; not_cut = refl }
 unsigned_told accepts group zone (is_bogus cause links) e = (record { no_encloser = refl; not_cut = refl }, refl)
 unsigned_told accepts group zone is_indeterminate e = record { no_encloser = refl; not_cut = refl }
+
+-- nothing shows it
+pub unsigned_shown : (n : Node) (t : ℕ) (f : Finding) → signature_of f ≡ None → ShownAs n t f None (state_of f)
+unsigned_shown n t (is_shown links last signature) e = absurd cc
+unsigned_shown n t has_no_set e = refl
+unsigned_shown n t (is_insecure cause signed) e = refl
+unsigned_shown n t (is_bogus cause links) e = refl
+unsigned_shown n t is_indeterminate e = refl
 
 -- for how long that may be kept
 pub unsigned_seconds : (w : World) (group : Group) (n : Node) → signature_of (found_at w group n n.standing) ≡ None
@@ -227,3 +235,20 @@ module _ (accepts : Accepts) (group : Group) (n : Node) (t : ℕ) where
       (subst (λ (x : Option Labels). ShowsGroup accepts s.anchor s.links t group n.signer x adjusted) (sym encloser)
       (subst (λ (x : Option ℕ). ShowsGroup accepts s.anchor s.links t group n.signer (encloser_by group (rrsig_of one.rdata)) x) (sym cut) shows)) in
       subst (CanBeTold accepts group n.signer) (sym is) (moved, refl)
+
+  -- and is shown by the node's links with the group's own behind them
+  its_chain : (f : Finding) (one : Record) (s : ShownSet) → signature_of f ≡ Some one → n.anchor ≡ Some s.anchor → s.moment ≡ t
+      → IfSome (own_link f) (λ last. s.links ≡ n.links ++ last ∷ []) → HasChainOf n t f (Some s)
+  its_chain (is_shown links last signature) one s e its at are =
+      record { set = s; its = refl; from_anchor = its; at = at; last = last; own = refl; are = are }
+  its_chain has_no_set one s e its at are = absurd cc
+  its_chain (is_insecure cause signed) one s e its at are = absurd cc
+  its_chain (is_bogus cause other) one s e its at are = absurd cc
+  its_chain is_indeterminate one s e its at are = absurd cc
+
+  pub signed_shown : (f : Finding) (one : Record) (s : ShownSet) (enc : Option Labels) (adjusted : Option ℕ) (told : Told) → signature_of f ≡ Some one
+      → n.anchor ≡ Some s.anchor → s.moment ≡ t → IfSome (own_link f) (λ last. s.links ≡ n.links ++ last ∷ [])
+      → told ≡ record { answer = record { state = Secure; closest_encloser = enc; cause = None; adjusted = adjusted }; shown = Some s }
+      → ShownAs n t f told.shown told.answer.state
+  signed_shown f one s enc adjusted told e its at are is =
+      subst (λ (x : Told). ShownAs n t f x.shown x.answer.state) (sym is) (its_chain f one s e its at are)

@@ -1,6 +1,6 @@
 //! Groups validated by a node (RFC 4035 4.3, 4.5, 5.3).
 
-ghost use Rattle.std.specs.Prelude.{◌≡◌, ◌≢◌, ◌<◌, ◌≤◌, ◌+◌, ◌&&◌, nat_le, [], List, IfOk, IfSome, Some, false, true};
+ghost use Rattle.std.specs.Prelude.{◌≡◌, ◌≢◌, ◌<◌, ◌≤◌, ◌+◌, ◌&&◌, nat_le, [], List, IfOk, false, true};
 ghost use Rattle.std.specs.Arc.{arc_value};
 ghost use Rattle.dsec_spec.specs.Records as records;
 ghost use Rattle.dsec_nodes.specs.Judging.{by_node};
@@ -8,7 +8,7 @@ ghost use Rattle.dsec_nodes.specs.Nodes.{Kept};
 ghost use Rattle.dsec_nodes.specs.World.{on_circle, Bounds};
 ghost use Rattle.dsec_node.specs.Views.{bounds_of, world_of};
 ghost use Rattle.dsec_by_node.specs.Answers.{CanBeTold, answer_by};
-ghost use Rattle.dsec_by_node.specs.WithNode.{answer_with, is_over as over, is_secure as secure, seconds_found, seconds_with, tells_of as tells, undetermined};
+ghost use Rattle.dsec_by_node.specs.WithNode.{answer_with, is_over as over, is_secure as secure, seconds_found, seconds_with, tells_of as tells, undetermined, IsShownBy};
 
 use crate::answer::WithNode;
 use crate::grounds::by_judged;
@@ -26,7 +26,8 @@ use std::sync::ledger::{Blank, Ledger};
 
 /// What is told of a group by a node at a moment, in seconds since 1970: by trying the keys of the node's zone, or by what the node says.
 /// A node that isn't kept at the moment tells nothing, nor does one that isn't at or above where the group is looked for: the group is
-/// then Indeterminate, without a cause, and that is kept for no second. A Secure answer comes with the links that show the group.
+/// then Indeterminate, without a cause, and that is kept for no second. A Secure answer comes with the links that show the group: the node's, and
+/// behind them the group's own.
 pub fn validate_with_node<V: Verifier>(
     alloc: Global,
     group: &Group,
@@ -40,7 +41,7 @@ pub fn validate_with_node<V: Verifier>(
     ensures seconds { IfOk result (λ it. it.seconds ≡ seconds_with (world_of V.accepts [] (bounds_of config.now) now) group.now (arc_value node.now)) }
     ensures elsewhere { over (arc_value node.now) group.now ≡ false → IfOk result (λ it. it.told.answer ≡ undetermined) }
     ensures sound { IfOk result (λ it. CanBeTold V.accepts group.now (arc_value node.now).signer it.told) }
-    ensures shown { IfOk result (λ it. IfSome it.told.shown (λ shown. ((arc_value node.now).anchor ≡ Some shown.anchor) × (shown.moment ≡ on_circle now))) }
+    ensures shown { IfOk result (λ it. IsShownBy (world_of V.accepts [] (bounds_of config.now) now) group.now (arc_value node.now) it.told) }
 {
     counted::<V, Brand>(alloc, group, node, config, memo, now, Blank::new(1))
 }
@@ -63,7 +64,7 @@ fn counted<V: Verifier, L: Ledger>(
     ensures seconds { IfOk result (λ it. it.seconds ≡ seconds_with (world_of V.accepts [] (bounds_of config.now) now) group.now (arc_value node.now)) }
     ensures elsewhere { over (arc_value node.now) group.now ≡ false → IfOk result (λ it. it.told.answer ≡ undetermined) }
     ensures sound { IfOk result (λ it. CanBeTold V.accepts group.now (arc_value node.now).signer it.told) }
-    ensures shown { IfOk result (λ it. IfSome it.told.shown (λ shown. ((arc_value node.now).anchor ≡ Some shown.anchor) × (shown.moment ≡ on_circle now))) }
+    ensures shown { IfOk result (λ it. IsShownBy (world_of V.accepts [] (bounds_of config.now) now) group.now (arc_value node.now) it.told) }
 {
     let mut steps = Steps::<L>::begin(blank);
     validate_with_node_in_steps::<V, L>(alloc, group, node, config, memo, now, &mut steps)
@@ -85,7 +86,7 @@ pub fn validate_with_node_in_steps<V: Verifier, L: Ledger>(
     ensures seconds { IfOk result (λ it. it.seconds ≡ seconds_with (world_of V.accepts [] (bounds_of config.now) now) group.now (arc_value node.now)) }
     ensures elsewhere { over (arc_value node.now) group.now ≡ false → IfOk result (λ it. it.told.answer ≡ undetermined) }
     ensures sound { IfOk result (λ it. CanBeTold V.accepts group.now (arc_value node.now).signer it.told) }
-    ensures shown { IfOk result (λ it. IfSome it.told.shown (λ shown. ((arc_value node.now).anchor ≡ Some shown.anchor) × (shown.moment ≡ on_circle now))) }
+    ensures shown { IfOk result (λ it. IsShownBy (world_of V.accepts [] (bounds_of config.now) now) group.now (arc_value node.now) it.told) }
     ensures bound { steps.new ≤ steps.old + (config.now.max_bad_signatures + 1) }
     ensures idle { tells (world_of V.accepts [] (bounds_of config.now) now) group.now (arc_value node.now) ≡ false → steps.new ≡ steps.old }
 {
@@ -130,7 +131,7 @@ fn told_by_node<V: Verifier, L: Ledger>(
         ≡ answer_by group.now (on_circle now) (by_node (world_of V.accepts anchors (bounds_of config.now) now) group.now (arc_value node.now)).finding) }
     ensures seconds { IfOk result (λ it. it.seconds ≡ seconds_found (world_of V.accepts [] (bounds_of config.now) now) group.now (arc_value node.now)) }
     ensures sound { IfOk result (λ it. CanBeTold V.accepts group.now (arc_value node.now).signer it.told) }
-    ensures shown { IfOk result (λ it. IfSome it.told.shown (λ shown. ((arc_value node.now).anchor ≡ Some shown.anchor) × (shown.moment ≡ on_circle now))) }
+    ensures shown { IfOk result (λ it. IsShownBy (world_of V.accepts [] (bounds_of config.now) now) group.now (arc_value node.now) it.told) }
     ensures bound { steps.new ≤ steps.old + (config.now.max_bad_signatures + 1) }
 {
     let own = group.clone()?;

@@ -11,7 +11,7 @@ ghost use Rattle.dsec_node.specs.Views.{bounds_of, world_of};
 ghost use Rattle.dsec_found.specs.Told.{own_link, signature_of};
 ghost use Rattle.dsec_by_node.specs.Answers.{CanBeTold, answer_by, encloser_by};
 ghost use Rattle.dsec_by_node.specs.Grounds.{RestsOn};
-ghost use Rattle.dsec_by_node.specs.WithNode.{is_secure as secure, seconds_by};
+ghost use Rattle.dsec_by_node.specs.WithNode.{is_secure as secure, seconds_by, ShownAs};
 
 use crate::answer::WithNode;
 use crate::by_node::is_secure;
@@ -40,7 +40,7 @@ pub(crate) fn by_judged<V: Verifier>(
     ensures seconds { IfOk result (λ it. it.seconds ≡ (if secure node.now.standing
         then seconds_by (world_of V.accepts [] (bounds_of config.now) now) judged.now.group node.now judged.now.finding else seconds_kept node.now now)) }
     ensures sound { IfOk result (λ it. CanBeTold V.accepts judged.now.group node.now.signer it.told) }
-    ensures shown { IfOk result (λ it. IfSome it.told.shown (λ shown. (node.now.anchor ≡ Some shown.anchor) × (shown.moment ≡ on_circle now))) }
+    ensures shown { IfOk result (λ it. ShownAs node.now (on_circle now) judged.now.finding it.told.shown it.told.answer.state) }
 {
     match judged.signature() {
         Some(signature) => by_signature(alloc, now, node, judged, signature),
@@ -76,7 +76,7 @@ fn by_signature<V: Verifier>(
     ensures answer { IfOk result (λ it. it.told.answer ≡ answer_by judged.now.group (on_circle now) judged.now.finding) }
     ensures seconds { IfOk result (λ it. it.seconds ≡ min (seconds_kept node.now now) (min (least_ttl judged.now.group.records) (ttl_of signature.now (on_circle now)))) }
     ensures sound { IfOk result (λ it. CanBeTold V.accepts judged.now.group node.now.signer it.told) }
-    ensures shown { IfOk result (λ it. IfSome it.told.shown (λ shown. (node.now.anchor ≡ Some shown.anchor) × (shown.moment ≡ on_circle now))) }
+    ensures shown { IfOk result (λ it. ShownAs node.now (on_circle now) judged.now.finding it.told.shown it.told.answer.state) }
 {
     let closest_encloser = closest_encloser(alloc, judged, signature)?;
     let shown = shown_by(alloc, now, node, judged)?;

@@ -17,10 +17,11 @@ use Rattle.dsec_course.proofs.GroupLaws.{NeedsWalk, WayIs, way_is, by_its_node}
 use Rattle.dsec_lookup.specs.Outside.{Outside, WasHeld, HoldsTable, replies_of}
 use Rattle.dsec_lookup.proofs.CountLaws.{counted_none}
 use Rattle.dsec_lookup.proofs.HoldingLaws.{more_none, held_of_table, holds_after}
-use Rattle.dsec_by_node.specs.Answers.{Answer, answer_by}
+use Rattle.dsec_by_node.specs.Answers.{answer_by, Told}
+use Rattle.dsec_by_node.specs.WithNode.{IsShownBy}
 use Rattle.dsec_single.specs.Trips.{Trip, first_trip, IsTrip}
 use Rattle.dsec_single.specs.Progress.{IsStuck, IsEnded}
-use Rattle.dsec_single.specs.Calls.{Tells, TellsAt, WasJudged, IsWanting, zone_on, zone_for, most_by, AgreesOn, IsSingleCall}
+use Rattle.dsec_single.specs.Calls.{Tells, TellsAt, ShowsOn, WasJudged, IsWanting, zone_on, zone_for, most_by, AgreesOn, IsSingleCall}
 use Rattle.dsec_walk.specs.Checks.{sets_in}
 use Rattle.dsec_single.specs.Checked.{IsSingleCallWithin}
 use Rattle.dsec_single.proofs.ChecksLaws.{one_more}
@@ -29,12 +30,12 @@ use Rattle.dsec_single.proofs.TripLaws.{HoldsTrip, got_of}
 use Rattle.dsec_single.proofs.ServeLaws.{trip_holds, trip_first}
 
 module _ (w : World) (group : Group) (table : Option Table) (before after : Outside) where
-  -- what is told where a walk ends is what the recursion tells by each table of which it is
-  told_by : (top : Place) (lost : ℕ) (t : Trip) (answer : Option Answer) (replies : Replies) → NeedsWalk w group top
-      → IsTrip w table before after top (target_of group (Some top)) lost t → TellsAt w group t.step answer → HoldsTable w replies before.held
-      → AskedOf replies t.walk.asked → Tells (answer_by group (moment w) (judged_of w replies group).finding) answer
-  told_by top lost t None replies needs s tells h asked = tt
-  told_by top lost t (Some a) replies needs s (n, e, f) h asked =
+  -- what is told where a walk ends is what the recursion tells by each table of which it is, and shown by the recursion's node
+  told_by : (top : Place) (lost : ℕ) (t : Trip) (told : Option Told) (replies : Replies) → NeedsWalk w group top
+      → IsTrip w table before after top (target_of group (Some top)) lost t → TellsAt w group t.step told → HoldsTable w replies before.held
+      → AskedOf replies t.walk.asked → Tells (answer_by group (moment w) (judged_of w replies group).finding) told × ShowsOn w replies group told (by_walk top)
+  told_by top lost t None replies needs s tells h asked = (tt, tt)
+  told_by top lost t (Some a) replies needs s (n, e, f, shows) h asked =
       let target : Place = target_of group (Some top) in
       let held : Node → Type 0 = WasHeld w.accepts before.held in
       let holds : HoldsTrip w held top target t = trip_holds w table before after top target lost t s in
@@ -45,14 +46,14 @@ module _ (w : World) (group : Group) (table : Option Table) (before after : Outs
       (subst (λ (p : Place). node_of w replies t.walk.top p ≡ n) holds.same_target is) in
       let same : judged_of w replies group ≡ by_node w group n = by_its_node w replies group (started top target) n
       (record { has_records = needs.has_records; from_island = needs.from_island; to_signer = refl }) there in
-      f ∙ ap (λ (j : Judged). answer_by group (moment w) j.finding) (sym same)
+      (f ∙ ap (λ (j : Judged). answer_by group (moment w) j.finding) (sym same), subst (λ (m : Node). IsShownBy w group m a) (sym there) shows)
 
   -- a walk that has come so far
-  pub walked_call : (top : Place) (lost : ℕ) (t : Trip) (answer : Option Answer) (from to : ℕ) → way_of w group ≡ by_walk top
-      → IsTrip w table before after top (target_of group (Some top)) lost t → IsWanting answer lost → TellsAt w group t.step answer
-      → to ≤ from + (sum_by sets_in t.walk.asked + 1) * w.bounds.room → IsSingleCallWithin w group table before after answer from to
-  walked_call top lost t answer from to way s wanting tells checks =
-      let call : IsSingleCall w group table before after answer = record {
+  pub walked_call : (top : Place) (lost : ℕ) (t : Trip) (told : Option Told) (from to : ℕ) → way_of w group ≡ by_walk top
+      → IsTrip w table before after top (target_of group (Some top)) lost t → IsWanting told lost → TellsAt w group t.step told
+      → to ≤ from + (sum_by sets_in t.walk.asked + 1) * w.bounds.room → IsSingleCallWithin w group table before after told from to
+  walked_call top lost t told from to way s wanting tells checks =
+      let call : IsSingleCall w group table before after told = record {
         asked = t.walk.asked;
         lost = lost;
         counted = s.counted;
@@ -60,18 +61,20 @@ module _ (w : World) (group : Group) (table : Option Table) (before after : Outs
         few = subst (λ (x : Way). length t.walk.asked + lost ≤ most_by group x) (sym way) s.few;
         puts = t.puts;
         holds_more = s.holds_more;
-        judged = subst (WasJudged w group (WasHeld w.accepts before.held) t.walk.asked t.puts answer) (sym way) (record {
+        judged = subst (WasJudged w group (WasHeld w.accepts before.held) t.walk.asked t.puts told) (sym way) (record {
           inputs = s.inputs;
           given = s.given;
           are = ap (λ (x : Trip). x.walk.asked) (sym s.comes_to);
           puts_are = ap (λ (x : Trip). x.puts) (sym s.comes_to);
-          tells = subst (λ (x : Trip). TellsAt w group x.step answer) (sym s.comes_to) tells;
+          tells = subst (λ (x : Trip). TellsAt w group x.step told) (sym s.comes_to) tells;
         });
         agrees = λ replies h asked.
             let target : Place = target_of group (Some top) in
             let of : (m : Node) → WasHeld w.accepts before.held m → IsOfTable w replies m = held_of_table w replies before.held h in
+            let is = told_by top lost t told replies (needs_walk w group top way) s tells h asked in
             record {
-              tells = told_by top lost t answer replies (needs_walk w group top way) s tells h asked;
+              tells = is.0;
+              shows = subst (ShowsOn w replies group told) (sym way) is.1;
               holds = holds_after w replies before.held after.held t.puts s.holds_more h
                   ((trip_holds w table before after top target lost t s).of_table replies of asked);
             };
@@ -79,11 +82,12 @@ module _ (w : World) (group : Group) (table : Option Table) (before after : Outs
       record { call = call; few = checks }
 
   -- a walk that has come to its end
-  pub ended_call : (top : Place) (n : Node) (a : Answer) (from reached to : ℕ) → way_of w group ≡ by_walk top
+  pub ended_call : (top : Place) (n : Node) (told : Told) (from reached to : ℕ) → way_of w group ≡ by_walk top
       → IsEnded w table before after top (target_of group (Some top)) n from reached → to ≤ reached + w.bounds.room
-      → a ≡ answer_by group (moment w) (by_node w group n).finding → IsSingleCallWithin w group table before after (Some a) from to
-  ended_call top n a from reached to way (t, e, s, few) more f =
-      walked_call top 0 t (Some a) from to way s refl (n, e, f) (one_more (sum_by sets_in t.walk.asked) w.bounds.room from reached to few more)
+      → told.answer ≡ answer_by group (moment w) (by_node w group n).finding → IsShownBy w group n told
+      → IsSingleCallWithin w group table before after (Some told) from to
+  ended_call top n told from reached to way (t, e, s, few) more f shows =
+      walked_call top 0 t (Some told) from to way s refl (n, e, f, shows) (one_more (sum_by sets_in t.walk.asked) w.bounds.room from reached to few more)
 
   -- or to its end, and there is no memory for what is told
   pub ended_without : (top : Place) (n : Node) (from reached to : ℕ) → way_of w group ≡ by_walk top
@@ -99,22 +103,27 @@ module _ (w : World) (group : Group) (table : Option Table) (before after : Outs
       walked_call top lost t None from to way s one tt (one_more (sum_by sets_in t.walk.asked) w.bounds.room from to to few (omega arith))
 
   -- by a table that is told
-  pub told_call : (answer : Option Answer) → IsSingleCall w group table before after answer
-      → IfSome table (λ t. HoldsTable w (replies_of t) before.held → AgreesOn w group after answer (replies_of t))
-  told_call answer c = by table c.counted.told
+  pub told_call : (told : Option Told) → IsSingleCall w group table before after told
+      → IfSome table (λ t. HoldsTable w (replies_of t) before.held → AgreesOn w group after told (replies_of t))
+  told_call told c = by table c.counted.told
     where
       by : (o : Option Table) → IfSome o (λ t. AskedOf (replies_of t) c.asked)
-          → IfSome o (λ t. HoldsTable w (replies_of t) before.held → AgreesOn w group after answer (replies_of t))
-      by None told = tt
-      by (Some t) told = λ h. c.agrees (replies_of t) h told
+          → IfSome o (λ t. HoldsTable w (replies_of t) before.held → AgreesOn w group after told (replies_of t))
+      by None asked = tt
+      by (Some t) asked = λ h. c.agrees (replies_of t) h asked
 
 module _ (w : World) (group : Group) (table : Option Table) (before : Outside) (from : ℕ) where
+  -- nothing shows a group that is judged at once
+  unshown : (replies : Replies) (j : Judged) (told : Option Told) → IfSome told (λ it. it.shown ≡ None) → ShowsOn w replies group told (at_once j)
+  unshown replies j None bare = tt
+  unshown replies j (Some told) bare = bare
+
   -- a group that is judged at once
-  pub once_call : (j : Judged) (answer : Option Answer) → way_of w group ≡ at_once j → IsWanting answer 0
-      → Tells (answer_by group (moment w) j.finding) answer → IsSingleCallWithin w group table before before answer from from
-  once_call j answer way wanting tells =
+  pub once_call : (j : Judged) (told : Option Told) → way_of w group ≡ at_once j → IsWanting told 0
+      → Tells (answer_by group (moment w) j.finding) told → IfSome told (λ it. it.shown ≡ None) → IsSingleCallWithin w group table before before told from from
+  once_call j told way wanting tells bare =
       let once = subst (WayIs w group) way (way_is w group) in
-      let call : IsSingleCall w group table before before answer = record {
+      let call : IsSingleCall w group table before before told = record {
         asked = [];
         lost = 0;
         counted = counted_none table before;
@@ -122,9 +131,10 @@ module _ (w : World) (group : Group) (table : Option Table) (before : Outside) (
         few = omega arith;
         puts = [];
         holds_more = more_none before.held;
-        judged = subst (WasJudged w group (WasHeld w.accepts before.held) [] [] answer) (sym way) (refl, refl, tells);
+        judged = subst (WasJudged w group (WasHeld w.accepts before.held) [] [] told) (sym way) (refl, refl, tells, bare);
         agrees = λ replies h asked. record {
-          tells = subst (λ (x : Judged). Tells (answer_by group (moment w) x.finding) answer) (sym (once.same replies)) tells;
+          tells = subst (λ (x : Judged). Tells (answer_by group (moment w) x.finding) told) (sym (once.same replies)) tells;
+          shows = subst (ShowsOn w replies group told) (sym way) (unshown replies j told bare);
           holds = h;
         };
       } in
@@ -135,7 +145,7 @@ module _ (w : World) (group : Group) (table : Option Table) (before : Outside) (
   unbegun_call = by (way_of w group) refl
     where
       by : (x : Way) → way_of w group ≡ x → IsSingleCallWithin w group table before before None from from
-      by (at_once j) e = once_call j None e (omega arith) tt
+      by (at_once j) e = once_call j None e (omega arith) tt tt
       by (by_walk top) e =
           let needs = needs_walk w group top e in
           let f = target_below w group top needs.from_island in

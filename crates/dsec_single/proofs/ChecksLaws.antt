@@ -10,7 +10,7 @@ use Rattle.dsec_walk.specs.Checks.{most_checked_by, sets_in, sets_at_most}
 use Rattle.dsec_walk.proofs.CheckLaws.{reply_sets, spent}
 use Rattle.dsec_course.proofs.WalkSteps.{asked_after}
 use Rattle.dsec_lookup.specs.Outside.{Outside, HeardMore}
-use Rattle.dsec_by_node.specs.Answers.{Answer}
+use Rattle.dsec_by_node.specs.Answers.{Told}
 use Rattle.dsec_single.specs.Checked.{IsSingleCallWithin, HeardWithin}
 
 -- so many sets, and one more
@@ -27,11 +27,11 @@ walk_sets s (reply octets) =
     omega (arith, reply_sets s octets, sum_by-append sets_in s.asked (one ∷ []))
 
 -- where it is told what was heard, the questions of the call are those that were heard in it
-pub heard_within : (w : World) (group : Group) (table : Option Table) (before after : Outside) (answer : Option Answer) (from to : ℕ)
-    → IsSingleCallWithin w group table before after answer from to → HeardWithin before.heard after.heard w.bounds.room from to
-heard_within w group table before after answer from to h = by before.heard h.call.counted.heard
+pub heard_within : (w : World) (group : Group) (table : Option Table) (before after : Outside) (told : Option Told) (from to : ℕ)
+    → IsSingleCallWithin w group table before after told from to → HeardWithin before.heard after.heard w.bounds.room from to
+heard_within w group table before after told from to h = by before.heard h.call.counted.heard
   where
-    by : (told : Option (List Entry)) → HeardMore told after.heard h.call.asked → HeardWithin told after.heard w.bounds.room from to
+    by : (heard : Option (List Entry)) → HeardMore heard after.heard h.call.asked → HeardWithin heard after.heard w.bounds.room from to
     by None x = tt
-    by (Some told) (more, is, are) =
+    by (Some heard) (more, is, are) =
         (more, is, subst (λ (qs : List Asked). to ≤ from + sets_at_most qs 1 * w.bounds.room) (sym are) h.few)

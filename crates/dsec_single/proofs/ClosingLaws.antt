@@ -13,7 +13,7 @@ use Rattle.dsec_nodes.specs.Judging.{by_node, target_of}
 use Rattle.dsec_course.specs.Course.{by_walk, at_once, way_of}
 use Rattle.dsec_lookup.specs.Outside.{Outside}
 use Rattle.dsec_by_node.specs.Answers.{answer_by, Told, validated_by, told_in, CanBeTold}
-use Rattle.dsec_by_node.specs.WithNode.{tells_of}
+use Rattle.dsec_by_node.specs.WithNode.{tells_of, IsShownBy}
 use Rattle.dsec_single.specs.Progress.{IsStuck, IsEnded}
 use Rattle.dsec_single.specs.Calls.{answered, zone_for, of_signatures_alone, of_no_island, IsSingleCall}
 use Rattle.dsec_single.specs.Checked.{IsSingleCallWithin}
@@ -22,11 +22,11 @@ use Rattle.dsec_single.proofs.WayLaws.{no_set, no_island, way_without_set, way_w
 use Rattle.dsec_by_node.proofs.GroundLaws.{if_ok}
 use Rattle.dsec_single.proofs.EndLaws.{IsEndOf, end_of}
 use Rattle.dsec_single.proofs.CallLaws.{ended_call, ended_without, stuck_call, once_call, zone_is}
-use Rattle.dsec_single.proofs.SoundLaws.{IsAnchored, can_tell, sound_on}
+use Rattle.dsec_single.proofs.SoundLaws.{can_tell, sound_on}
 
 -- what a call promises of what it tells
 pub record IsToldSo (w : World) (group : Group) (table : Option Table) (before after : Outside) (from to : ℕ) (zone : Place) (told : Told) : Type 0 where
-  pub checks : IsSingleCallWithin w group table before after (Some told.answer) from to
+  pub checks : IsSingleCallWithin w group table before after (Some told) from to
   pub sound : IsSoundOn w group zone told
   pub justified : CanBeTold w.accepts group zone told
 
@@ -46,10 +46,10 @@ module _ (w : World) (group : Group) (table : Option Table) (before after : Outs
     module _ (to : ℕ) (more : to ≤ reached + w.bounds.room) where
       -- what is told by it
       pub told_at_end : (told : Told) → told.answer ≡ answer_by group (moment w) (by_node w group n).finding → CanBeTold w.accepts group n.signer told
-          → IsAnchored w n told.shown → IsToldSo w group table before after from to zone told
-      told_at_end told is can anchored = record {
-        checks = ended_call w group table before after top n told.answer from reached to way to_target more is;
-        sound = subst (λ (z : Place). IsSoundOn w group z told) (sym its) (sound_on w group top n end told is can anchored);
+          → IsShownBy w group n told → IsToldSo w group table before after from to zone told
+      told_at_end told is can shows = record {
+        checks = ended_call w group table before after top n told from reached to way to_target more is shows;
+        sound = subst (λ (z : Place). IsSoundOn w group z told) (sym its) (sound_on w group top n end told is can shows);
         justified = subst (λ (z : Place). CanBeTold w.accepts group z told) (sym its) (can_tell w group top n end told is can);
       }
 
@@ -59,30 +59,30 @@ module _ (w : World) (group : Group) (table : Option Table) (before after : Outs
 
       -- what is told of it in code, or there is no memory
       module _ {A E : Type 0} (result : Result A E) (told : A → Told) (is : IfOk result (λ a. (told a).answer ≡ answer_by group (moment w) (by_node w group n).finding))
-          (can : IfOk result (λ a. CanBeTold w.accepts group n.signer (told a))) (anchored : IfOk result (λ a. IsAnchored w n (told a).shown)) where
-        pub end_call : IsSingleCallWithin w group table before after (answered result (λ a. (told a).answer)) from to
-        end_call = by result is can anchored
+          (can : IfOk result (λ a. CanBeTold w.accepts group n.signer (told a))) (shows : IfOk result (λ a. IsShownBy w group n (told a))) where
+        pub end_call : IsSingleCallWithin w group table before after (answered result (λ a. told a)) from to
+        end_call = by result is can shows
           where
             by : (r : Result A E) → IfOk r (λ a. (told a).answer ≡ answer_by group (moment w) (by_node w group n).finding)
-                → IfOk r (λ a. CanBeTold w.accepts group n.signer (told a)) → IfOk r (λ a. IsAnchored w n (told a).shown)
-                → IsSingleCallWithin w group table before after (answered r (λ a. (told a).answer)) from to
+                → IfOk r (λ a. CanBeTold w.accepts group n.signer (told a)) → IfOk r (λ a. IsShownBy w group n (told a))
+                → IsSingleCallWithin w group table before after (answered r (λ a. told a)) from to
             by (Ok a) f g h = (told_at_end (told a) f g h).checks
             by (Err e) f g h = untold_at_end
 
         pub end_sound : (zone_in : A → Place) → IfOk result (λ a. zone_in a ≡ zone) → IfOk result (λ a. IsSoundOn w group (zone_in a) (told a))
-        end_sound zone_in at = by result is can anchored at
+        end_sound zone_in at = by result is can shows at
           where
             by : (r : Result A E) → IfOk r (λ a. (told a).answer ≡ answer_by group (moment w) (by_node w group n).finding)
-                → IfOk r (λ a. CanBeTold w.accepts group n.signer (told a)) → IfOk r (λ a. IsAnchored w n (told a).shown)
+                → IfOk r (λ a. CanBeTold w.accepts group n.signer (told a)) → IfOk r (λ a. IsShownBy w group n (told a))
                 → IfOk r (λ a. zone_in a ≡ zone) → IfOk r (λ a. IsSoundOn w group (zone_in a) (told a))
             by (Ok a) f g h at = subst (λ (z : Place). IsSoundOn w group z (told a)) (sym at) (told_at_end (told a) f g h).sound
             by (Err e) f g h at = tt
 
         pub end_justified : (zone_in : A → Place) → IfOk result (λ a. zone_in a ≡ zone) → IfOk result (λ a. CanBeTold w.accepts group (zone_in a) (told a))
-        end_justified zone_in at = by result is can anchored at
+        end_justified zone_in at = by result is can shows at
           where
             by : (r : Result A E) → IfOk r (λ a. (told a).answer ≡ answer_by group (moment w) (by_node w group n).finding)
-                → IfOk r (λ a. CanBeTold w.accepts group n.signer (told a)) → IfOk r (λ a. IsAnchored w n (told a).shown)
+                → IfOk r (λ a. CanBeTold w.accepts group n.signer (told a)) → IfOk r (λ a. IsShownBy w group n (told a))
                 → IfOk r (λ a. zone_in a ≡ zone) → IfOk r (λ a. CanBeTold w.accepts group (zone_in a) (told a))
             by (Ok a) f g h at = subst (λ (z : Place). CanBeTold w.accepts group z (told a)) (sym at) (told_at_end (told a) f g h).justified
             by (Err e) f g h at = tt
@@ -106,7 +106,7 @@ module _ (w : World) (group : Group) (table : Option Table) (before : Outside) (
   told_without_set none is =
       let way = way_without_set w group none in
       let so : IsToldSo w group table before before from from zone of_signatures_alone = record {
-        checks = once_call w group table before from (no_set group) (Some of_signatures_alone.answer) way refl refl;
+        checks = once_call w group table before from (no_set group) (Some of_signatures_alone) way refl refl refl;
         sound = inr (none, refl);
         justified = record { no_encloser = refl; not_cut = refl };
       } in
@@ -119,7 +119,7 @@ module _ (w : World) (group : Group) (table : Option Table) (before : Outside) (
   told_without_island some none is =
       let way = way_without_island w group some none in
       let so : IsToldSo w group table before before from from zone of_no_island = record {
-        checks = once_call w group table before from (no_island group) (Some of_no_island.answer) way refl refl;
+        checks = once_call w group table before from (no_island group) (Some of_no_island) way refl refl refl;
         sound = (none, refl);
         justified = record { no_encloser = refl; not_cut = refl };
       } in
@@ -147,9 +147,9 @@ module _ (v : Validated) (own group : Group) (signer : Labels) (told : Told) (is
   pub zone_kept : (zone : Place) → place signer ≡ zone → place v.signer ≡ zone
   zone_kept zone e = its_signer ∙ e
 
-  pub call_kept : (w : World) (table : Option Table) (before after : Outside) → IsSingleCall w group table before after (Some told.answer)
-      → IsSingleCall w group table before after (Some (told_in v).answer)
-  call_kept w table before after c = subst (λ (x : Told). IsSingleCall w group table before after (Some x.answer)) (sym its_told) c
+  pub call_kept : (w : World) (table : Option Table) (before after : Outside) → IsSingleCall w group table before after (Some told)
+      → IsSingleCall w group table before after (Some (told_in v))
+  call_kept w table before after c = subst (λ (x : Told). IsSingleCall w group table before after (Some x)) (sym its_told) c
 
   pub sound_kept : (w : World) → IsSoundOn w group (place signer) told → IsSoundOn w group (place v.signer) (told_in v)
   sound_kept w h =

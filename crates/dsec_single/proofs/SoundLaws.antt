@@ -13,11 +13,15 @@ use Rattle.dsec_link.specs.Shown.{ShownSet}
 use Rattle.dsec_group.specs.declared.state.ValidationState.{ValidationState}
 use Rattle.dsec_group.specs.declared.state.ValidationState.TheVariants.{Secure, Insecure, Bogus, Indeterminate}
 use Rattle.dsec_nodes.specs.World.{World, moment}
+use Rattle.dsec_nodes.specs.Causes.{Cause}
 use Rattle.dsec_nodes.specs.Nodes.{Node, Standing, apex, within, insecure, bogus, IsBogus}
 use Rattle.dsec_nodes.specs.Judging.{Finding, is_shown, has_no_set, is_insecure, is_bogus, is_indeterminate, found_at, by_node, target_of}
+use Rattle.dsec_nodes.specs.SoundFindings.{IsShownInsecure}
 use Rattle.dsec_course.specs.Justified.{Justifies}
 use Rattle.dsec_found.specs.Told.{state_of, cause_of}
 use Rattle.dsec_by_node.specs.Answers.{Answer, answer_by, Told, ToldBy, CanBeTold}
+use Rattle.dsec_by_node.specs.WithNode.{IsShownBy}
+use Rattle.dsec_by_node.proofs.GroundLaws.{shown_from}
 use Rattle.dsec_single.specs.Sound.{IsSecureBy, SoundAs, IsSoundOn}
 use Rattle.dsec_single.proofs.EndLaws.{IsEndOf}
 
@@ -35,7 +39,7 @@ rezoned accepts group a b answer Indeterminate None same h = h
 rezoned accepts group a b answer Indeterminate (Some s) same h = absurd h
 
 -- where a node's anchor is told, and the moment
-abbrev pub IsAnchored : World → Node → Option ShownSet → Type 0
+abbrev IsAnchored : World → Node → Option ShownSet → Type 0
 IsAnchored w n shown = IfSome shown (λ s. (n.anchor ≡ Some s.anchor) × (s.moment ≡ moment w))
 
 module _ (w : World) (group : Group) (top : Place) (n : Node) (end : IsEndOf w group top n) where
@@ -81,9 +85,12 @@ module _ (w : World) (group : Group) (top : Place) (n : Node) (end : IsEndOf w g
             }
 
     -- each answer means what it says
-    pub sound_on : IsAnchored w n told.shown → IsSoundOn w group (target_of group (Some top)) told
-    sound_on anchored = by (by_node w group n).finding refl end.is_found
+    pub sound_on : IsShownBy w group n told → IsSoundOn w group (target_of group (Some top)) told
+    sound_on shows = by (by_node w group n).finding refl end.is_found
       where
+        anchored : IsAnchored w n told.shown
+        anchored = shown_from n (moment w) (by_node w group n).finding told.shown told.answer.state shows
+
         Sound : ValidationState → Type 0
         Sound = SoundAs w group (target_of group (Some top)) told
 
@@ -97,6 +104,6 @@ module _ (w : World) (group : Group) (top : Place) (n : Node) (end : IsEndOf w g
         by (is_shown links last signature) e h =
             so (is_shown links last signature) e (secure_by anchored (state_is ∙ ap state_of e))
         by has_no_set e h = so has_no_set e (inr (h, cause_is has_no_set e))
-        by (is_insecure cause signed) e h = so (is_insecure cause signed) e (inl (signed, h))
+        by (is_insecure cause signed) e h = so (is_insecure cause signed) e (inl (signed, subst (λ (x : Option Cause). IsShownInsecure w group x signed) (sym (cause_is (is_insecure cause signed) e)) h))
         by (is_bogus cause links) e h = so (is_bogus cause links) e (subst IsSome (sym (cause_is (is_bogus cause links) e)) refl)
         by is_indeterminate e h = so is_indeterminate e (h, cause_is is_indeterminate e)

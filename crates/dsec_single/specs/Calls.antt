@@ -1,5 +1,5 @@
 -- What a call promises that validates a single group over caches and an upstream (RFC 4033 5, RFC 4035 4.3, 4.5, 5).
-use Rattle.std.specs.Prelude.{◌≡◌, ◌≤◌, ◌+◌, ℕ, List, [], length, Option, Some, None, Result, Ok, Err}
+use Rattle.std.specs.Prelude.{◌≡◌, ◌≤◌, ◌+◌, ℕ, List, [], length, Option, Some, None, IfSome, Result, Ok, Err}
 use Rattle.dsec_spec.specs.Names.{Place}
 use Rattle.dsec_spec.specs.Outside.{Table}
 use Rattle.dsec_spec.specs.Groups.{Group}
@@ -7,6 +7,7 @@ use Rattle.dsec_group.specs.declared.state.ValidationState.TheVariants.{Insecure
 use Rattle.dsec_nodes.specs.World.{World, Replies, moment}
 use Rattle.dsec_nodes.specs.Causes.{RrsigWithoutRrset, NoTrustAnchor}
 use Rattle.dsec_nodes.specs.Nodes.{Node}
+use Rattle.dsec_nodes.specs.Walk.{node_of}
 use Rattle.dsec_nodes.specs.Machine.{Question as Asked, Step, Input, done}
 use Rattle.dsec_nodes.specs.InStep.{AskedOf}
 use Rattle.dsec_nodes.specs.Judging.{by_node, target_of, judged_of}
@@ -14,6 +15,7 @@ use Rattle.dsec_course.specs.Course.{Way, at_once, by_walk, way_of}
 use Rattle.dsec_course.specs.Justified.{most_on}
 use Rattle.dsec_lookup.specs.Outside.{Outside, AreCounted, WasHeld, HoldsMore, HoldsTable}
 use Rattle.dsec_by_node.specs.Answers.{Answer, answer_by, Told}
+use Rattle.dsec_by_node.specs.WithNode.{IsShownBy}
 use Rattle.dsec_single.specs.Trips.{first_trip, AreGiven, after_given}
 
 -- the zone that is to have signed a group, by how it is judged; the root for one of signatures alone (RFC 4035 5.3.1)
@@ -40,57 +42,66 @@ of_signatures_alone = record { answer = record { state = Insecure; closest_enclo
 abbrev pub of_no_island : Told
 of_no_island = record { answer = record { state = Indeterminate; closest_encloser = None; cause = Some NoTrustAnchor; adjusted = None }; shown = None }
 
--- what a call answers, if it finds memory
-abbrev pub answered : {A E : Type 0} → Result A E → (A → Answer) → Option Answer
-answered (Ok a) answer = Some (answer a)
-answered (Err e) answer = None
+-- what a call tells, if it finds memory
+abbrev pub answered : {A E : Type 0} → Result A E → (A → Told) → Option Told
+answered (Ok a) told = Some (told a)
+answered (Err e) told = None
 
 -- the answer is this one; want of memory may come in its place
-abbrev pub Tells : Answer → Option Answer → Type 0
-Tells expected (Some answer) = answer ≡ expected
+abbrev pub Tells : Answer → Option Told → Type 0
+Tells expected (Some told) = told.answer ≡ expected
 Tells expected None = Unit {0}
 
--- the answer is that of the node with which a walk ends; want of memory may come at any step
-abbrev pub TellsAt : World → Group → Step → Option Answer → Type 0
-TellsAt w group step (Some answer) = (n : Node) × (step ≡ done n) × (answer ≡ answer_by group (moment w) (by_node w group n).finding)
+-- what is told is that of the node with which a walk ends, and shown by it; want of memory may come at any step (RFC 4033 2, RFC 4035 4.3)
+abbrev pub TellsAt : World → Group → Step → Option Told → Type 0
+TellsAt w group step (Some told) =
+    (n : Node) × (step ≡ done n) × (told.answer ≡ answer_by group (moment w) (by_node w group n).finding) × IsShownBy w group n told
 TellsAt w group step None = Unit {0}
 
--- The questions, with their replies, and the nodes that were put are those of a walk from the island to the group's zone, and the answer is that of
+-- what shows it by a table: the recursion's node for the group's zone; nothing, where it is judged at once (RFC 4033 2)
+abbrev pub ShowsOn : World → Replies → Group → Option Told → Way → Type 0
+ShowsOn w replies group (Some told) (at_once j) = told.shown ≡ None
+ShowsOn w replies group (Some told) (by_walk top) = IsShownBy w group (node_of w replies top (target_of group (Some top))) told
+ShowsOn w replies group None way = Unit {0}
+
+-- The questions, with their replies, and the nodes that were put are those of a walk from the island to the group's zone, and what is told is that of
 -- its end: it was given inputs, whose nodes were held when the call began or were put on the way (RFC 4035 4.3, 5)
-pub record WasWalked (w : World) (group : Group) (held : Node → Type 0) (top : Place) (asked : List Asked) (puts : List Node) (answer : Option Answer) : Type 0 where
+pub record WasWalked (w : World) (group : Group) (held : Node → Type 0) (top : Place) (asked : List Asked) (puts : List Node) (told : Option Told) : Type 0 where
   pub inputs : List Input
   pub given : AreGiven w held (first_trip w top (target_of group (Some top))) inputs
   pub are : asked ≡ (after_given w (first_trip w top (target_of group (Some top))) inputs).walk.asked
   pub puts_are : puts ≡ (after_given w (first_trip w top (target_of group (Some top))) inputs).puts
-  pub tells : TellsAt w group (after_given w (first_trip w top (target_of group (Some top))) inputs).step answer
+  pub tells : TellsAt w group (after_given w (first_trip w top (target_of group (Some top))) inputs).step told
 
--- the group was judged in its way: at once, and nothing was asked or put, or by a walk (RFC 4035 4.3)
-abbrev pub WasJudged : World → Group → (Node → Type 0) → List Asked → List Node → Option Answer → Way → Type 0
-WasJudged w group held asked puts answer (at_once j) = (asked ≡ []) × (puts ≡ []) × Tells (answer_by group (moment w) j.finding) answer
-WasJudged w group held asked puts answer (by_walk top) = WasWalked w group held top asked puts answer
+-- the group was judged in its way: at once, and nothing was asked, put or shown, or by a walk (RFC 4035 4.3)
+abbrev pub WasJudged : World → Group → (Node → Type 0) → List Asked → List Node → Option Told → Way → Type 0
+WasJudged w group held asked puts told (at_once j) =
+    (asked ≡ []) × (puts ≡ []) × Tells (answer_by group (moment w) j.finding) told × IfSome told (λ it. it.shown ≡ None)
+WasJudged w group held asked puts told (by_walk top) = WasWalked w group held top asked puts told
 
 -- at most one question finds no memory, and then neither does the call
-abbrev pub IsWanting : Option Answer → ℕ → Type 0
-IsWanting (Some answer) lost = lost ≡ 0
+abbrev pub IsWanting : Option Told → ℕ → Type 0
+IsWanting (Some told) lost = lost ≡ 0
 IsWanting None lost = lost ≤ 1
 
--- by a table of which is all that was held and heard the answer is that of the recursion, and all that is held afterwards is of it
--- (RFC 4033 5, RFC 4035 4.5)
-pub record AgreesOn (w : World) (group : Group) (after : Outside) (answer : Option Answer) (replies : Replies) : Type 0 where
-  pub tells : Tells (answer_by group (moment w) (judged_of w replies group).finding) answer
+-- by a table of which is all that was held and heard the answer is that of the recursion, shown by the recursion's node, and all that is held
+-- afterwards is of it (RFC 4033 2, 5, RFC 4035 4.5)
+pub record AgreesOn (w : World) (group : Group) (after : Outside) (told : Option Told) (replies : Replies) : Type 0 where
+  pub tells : Tells (answer_by group (moment w) (judged_of w replies group).finding) told
+  pub shows : ShowsOn w replies group told (way_of w group)
   pub holds : HoldsTable w replies after.held
 
 -- What a call promises: there is a list of its questions with their replies, and one of the nodes that it put. The questions are counted, and few;
--- no other node is held afterwards that wasn't before; the group was judged by them, and where all that was held and heard is of one table the answer
--- is that of the table. An upstream that tells nothing has many tables: by each of them that has these replies, the answer is that of the table
+-- no other node is held afterwards that wasn't before; the group was judged by them, and where all that was held and heard is of one table what is
+-- told is that of the table. An upstream that tells nothing has many tables: by each of them that has these replies, it is that of the table
 -- (RFC 4033 5, RFC 4035 4.3, 4.5, 5)
-pub record IsSingleCall (w : World) (group : Group) (table : Option Table) (before after : Outside) (answer : Option Answer) : Type 0 where
+pub record IsSingleCall (w : World) (group : Group) (table : Option Table) (before after : Outside) (told : Option Told) : Type 0 where
   pub asked : List Asked
   pub lost : ℕ
   pub counted : AreCounted table before after asked lost
-  pub wanting : IsWanting answer lost
+  pub wanting : IsWanting told lost
   pub few : length asked + lost ≤ most_asked_for w group
   pub puts : List Node
   pub holds_more : HoldsMore before.held after.held puts
-  pub judged : WasJudged w group (WasHeld w.accepts before.held) asked puts answer (way_of w group)
-  pub agrees : (replies : Replies) → HoldsTable w replies before.held → AskedOf replies asked → AgreesOn w group after answer replies
+  pub judged : WasJudged w group (WasHeld w.accepts before.held) asked puts told (way_of w group)
+  pub agrees : (replies : Replies) → HoldsTable w replies before.held → AskedOf replies asked → AgreesOn w group after told replies

@@ -26,12 +26,12 @@ pub record IsSecureBy (w : World) (group : Group) (zone : Place) (told : Told) :
   pub no_cause : told.answer.cause ≡ None
 
 -- what each status means: an Insecure group has a signed record that shows at the moment of judging, from an anchor of its island, that no chain
--- leads to a name at or above its zone, or it is of signatures alone; a bogus one has a cause; of an Indeterminate one no anchor stands at or above
--- where it is looked for (RFC 4033 5, RFC 4035 5.2)
+-- leads to a name at or above its zone, and whose cause is told, or it is of signatures alone; a bogus one has a cause; of an Indeterminate one no
+-- anchor stands at or above where it is looked for (RFC 4033 5, RFC 4035 5.2)
 abbrev pub SoundAs : World → Group → Place → Told → ValidationState → Type 0
 SoundAs w group zone told Secure = IsSecureBy w group zone told
 SoundAs w group zone told Insecure =
-    ((signed : SignedCause) × IsShownInsecure w group signed) ⊎ ((group.records ≡ []) × (told.answer.cause ≡ Some RrsigWithoutRrset))
+    ((signed : SignedCause) × IsShownInsecure w group told.answer.cause signed) ⊎ ((group.records ≡ []) × (told.answer.cause ≡ Some RrsigWithoutRrset))
 SoundAs w group zone told Bogus = IsSome told.answer.cause
 SoundAs w group zone told Indeterminate =
     (island w.anchors (place group.owner) group.rtype ≡ None) × (told.answer.cause ≡ Some NoTrustAnchor)

@@ -1,6 +1,6 @@
 //! Groups validated from trust anchors, over caches, a memo and an upstream (RFC 4033 5, RFC 4035 4.3, 5).
 
-ghost use Rattle.std.specs.Prelude.{◌≡◌, ◌<◌, ◌≤◌, ◌≢◌, ◌+◌, [], IfOk, IfSome, Some, true};
+ghost use Rattle.std.specs.Prelude.{◌≡◌, ◌<◌, ◌≤◌, ◌≢◌, ◌+◌, [], IfOk, IfSome, true};
 ghost use Rattle.std.specs.Arc.{arc_value};
 ghost use Rattle.dsec_spec.specs.Names.{place, IsAtOrBelow};
 ghost use Rattle.dsec_course.specs.Course.{by_walk, way_of};
@@ -13,7 +13,7 @@ ghost use Rattle.dsec_by_node.specs.Answers.{CanBeTold, answer_by};
 ghost use Rattle.dsec_single.specs.Calls.{answered, of_no_island, of_signatures_alone, zone_for, AgreesOn, IsSingleCall};
 ghost use Rattle.dsec_single.specs.Checked.{HeardWithin, IsSingleCallWithin};
 ghost use Rattle.dsec_single.specs.Sound.{IsSoundOn};
-ghost use Rattle.dsec_by_node.specs.WithNode.{tells_of};
+ghost use Rattle.dsec_by_node.specs.WithNode.{tells_of, IsShownBy};
 
 use crate::answer::WithContext;
 use crate::serving::node_for;
@@ -47,13 +47,13 @@ pub fn validate_with_vc<V: Verifier, C: Caches<V>, M: Memo<V>, U: Upstream>(
 ) -> Result<WithContext<V>, NoMemory>
     ensures call { IsSingleCall (world_of V.accepts anchors.now (bounds_of config.now) now) group.now (U.table upstream.old)
         (record { held = C.held caches.old; asked = U.asked upstream.old; faults = U.faults upstream.old; heard = U.heard upstream.old })
-        (record { held = C.held caches.new; asked = U.asked upstream.new; faults = U.faults upstream.new; heard = U.heard upstream.new }) (answered result (λ it. it.told.answer)) }
+        (record { held = C.held caches.new; asked = U.asked upstream.new; faults = U.faults upstream.new; heard = U.heard upstream.new }) (answered result (λ it. it.told)) }
     ensures target { IfOk result (λ it. place it.target ≡ zone_for (world_of V.accepts anchors.now (bounds_of config.now) now) group.now) }
     ensures sound { IfOk result (λ it. IsSoundOn (world_of V.accepts anchors.now (bounds_of config.now) now) group.now (place it.target) it.told) }
     ensures justified { IfOk result (λ it. CanBeTold V.accepts group.now (place it.target) it.told) }
     ensures told { IfSome (U.table upstream.old) (λ t. HoldsTable (world_of V.accepts anchors.now (bounds_of config.now) now) (replies_of t) (C.held caches.old)
         → AgreesOn (world_of V.accepts anchors.now (bounds_of config.now) now) group.now
-        (record { held = C.held caches.new; asked = U.asked upstream.new; faults = U.faults upstream.new; heard = U.heard upstream.new }) (answered result (λ it. it.told.answer)) (replies_of t)) }
+        (record { held = C.held caches.new; asked = U.asked upstream.new; faults = U.faults upstream.new; heard = U.heard upstream.new }) (answered result (λ it. it.told)) (replies_of t)) }
     ensures same_table { U.table upstream.new ≡ U.table upstream.old }
 {
     counted::<V, C, M, U, Brand>(
@@ -86,13 +86,13 @@ fn counted<V: Verifier, C: Caches<V>, M: Memo<V>, U: Upstream, L: Ledger>(
     requires shared { 0 < L.parts }
     ensures call { IsSingleCall (world_of V.accepts anchors.now (bounds_of config.now) now) group.now (U.table upstream.old)
         (record { held = C.held caches.old; asked = U.asked upstream.old; faults = U.faults upstream.old; heard = U.heard upstream.old })
-        (record { held = C.held caches.new; asked = U.asked upstream.new; faults = U.faults upstream.new; heard = U.heard upstream.new }) (answered result (λ it. it.told.answer)) }
+        (record { held = C.held caches.new; asked = U.asked upstream.new; faults = U.faults upstream.new; heard = U.heard upstream.new }) (answered result (λ it. it.told)) }
     ensures target { IfOk result (λ it. place it.target ≡ zone_for (world_of V.accepts anchors.now (bounds_of config.now) now) group.now) }
     ensures sound { IfOk result (λ it. IsSoundOn (world_of V.accepts anchors.now (bounds_of config.now) now) group.now (place it.target) it.told) }
     ensures justified { IfOk result (λ it. CanBeTold V.accepts group.now (place it.target) it.told) }
     ensures told { IfSome (U.table upstream.old) (λ t. HoldsTable (world_of V.accepts anchors.now (bounds_of config.now) now) (replies_of t) (C.held caches.old)
         → AgreesOn (world_of V.accepts anchors.now (bounds_of config.now) now) group.now
-        (record { held = C.held caches.new; asked = U.asked upstream.new; faults = U.faults upstream.new; heard = U.heard upstream.new }) (answered result (λ it. it.told.answer)) (replies_of t)) }
+        (record { held = C.held caches.new; asked = U.asked upstream.new; faults = U.faults upstream.new; heard = U.heard upstream.new }) (answered result (λ it. it.told)) (replies_of t)) }
     ensures same_table { U.table upstream.new ≡ U.table upstream.old }
 {
     let mut steps = Steps::<L>::begin(blank);
@@ -118,16 +118,16 @@ pub fn validate_with_vc_in_steps<V: Verifier, C: Caches<V>, M: Memo<V>, U: Upstr
 ) -> Result<WithContext<V>, NoMemory>
     ensures call { IsSingleCall (world_of V.accepts anchors.now (bounds_of config.now) now) group.now (U.table upstream.old)
         (record { held = C.held caches.old; asked = U.asked upstream.old; faults = U.faults upstream.old; heard = U.heard upstream.old })
-        (record { held = C.held caches.new; asked = U.asked upstream.new; faults = U.faults upstream.new; heard = U.heard upstream.new }) (answered result (λ it. it.told.answer)) }
+        (record { held = C.held caches.new; asked = U.asked upstream.new; faults = U.faults upstream.new; heard = U.heard upstream.new }) (answered result (λ it. it.told)) }
     ensures target { IfOk result (λ it. place it.target ≡ zone_for (world_of V.accepts anchors.now (bounds_of config.now) now) group.now) }
     ensures sound { IfOk result (λ it. IsSoundOn (world_of V.accepts anchors.now (bounds_of config.now) now) group.now (place it.target) it.told) }
     ensures justified { IfOk result (λ it. CanBeTold V.accepts group.now (place it.target) it.told) }
     ensures told { IfSome (U.table upstream.old) (λ t. HoldsTable (world_of V.accepts anchors.now (bounds_of config.now) now) (replies_of t) (C.held caches.old)
         → AgreesOn (world_of V.accepts anchors.now (bounds_of config.now) now) group.now
-        (record { held = C.held caches.new; asked = U.asked upstream.new; faults = U.faults upstream.new; heard = U.heard upstream.new }) (answered result (λ it. it.told.answer)) (replies_of t)) }
+        (record { held = C.held caches.new; asked = U.asked upstream.new; faults = U.faults upstream.new; heard = U.heard upstream.new }) (answered result (λ it. it.told)) (replies_of t)) }
     ensures checks { IsSingleCallWithin (world_of V.accepts anchors.now (bounds_of config.now) now) group.now (U.table upstream.old)
         (record { held = C.held caches.old; asked = U.asked upstream.old; faults = U.faults upstream.old; heard = U.heard upstream.old })
-        (record { held = C.held caches.new; asked = U.asked upstream.new; faults = U.faults upstream.new; heard = U.heard upstream.new }) (answered result (λ it. it.told.answer)) steps.old steps.new }
+        (record { held = C.held caches.new; asked = U.asked upstream.new; faults = U.faults upstream.new; heard = U.heard upstream.new }) (answered result (λ it. it.told)) steps.old steps.new }
     ensures heard { HeardWithin (U.heard upstream.old) (U.heard upstream.new) (config.now.max_bad_signatures + 1) steps.old steps.new }
     ensures same_table { U.table upstream.new ≡ U.table upstream.old }
 {
@@ -151,7 +151,7 @@ fn told_of<V: Verifier, C: Caches<V>, M: Memo<V>, U: Upstream, L: Ledger>(
 ) -> Result<WithContext<V>, NoMemory>
     ensures checks { IsSingleCallWithin (world_in V.accepts setting.now) group.now (U.table upstream.old)
         (record { held = C.held caches.old; asked = U.asked upstream.old; faults = U.faults upstream.old; heard = U.heard upstream.old })
-        (record { held = C.held caches.new; asked = U.asked upstream.new; faults = U.faults upstream.new; heard = U.heard upstream.new }) (answered result (λ it. it.told.answer)) steps.old steps.new }
+        (record { held = C.held caches.new; asked = U.asked upstream.new; faults = U.faults upstream.new; heard = U.heard upstream.new }) (answered result (λ it. it.told)) steps.old steps.new }
     ensures target { IfOk result (λ it. place it.target ≡ zone_for (world_in V.accepts setting.now) group.now) }
     ensures sound { IfOk result (λ it. IsSoundOn (world_in V.accepts setting.now) group.now (place it.target) it.told) }
     ensures justified { IfOk result (λ it. CanBeTold V.accepts group.now (place it.target) it.told) }
@@ -211,7 +211,7 @@ fn walked<V: Verifier, C: Caches<V>, M: Memo<V>, U: Upstream, L: Ledger>(
     requires target { place zone ≡ target_in group.now (Some (place top)) }
     ensures checks { IsSingleCallWithin (world_in V.accepts setting.now) group.now (U.table upstream.old)
         (record { held = C.held caches.old; asked = U.asked upstream.old; faults = U.faults upstream.old; heard = U.heard upstream.old })
-        (record { held = C.held caches.new; asked = U.asked upstream.new; faults = U.faults upstream.new; heard = U.heard upstream.new }) (answered result (λ it. it.told.answer)) steps.old steps.new }
+        (record { held = C.held caches.new; asked = U.asked upstream.new; faults = U.faults upstream.new; heard = U.heard upstream.new }) (answered result (λ it. it.told)) steps.old steps.new }
     ensures target { IfOk result (λ it. place it.target ≡ zone_for (world_in V.accepts setting.now) group.now) }
     ensures sound { IfOk result (λ it. IsSoundOn (world_in V.accepts setting.now) group.now (place it.target) it.told) }
     ensures justified { IfOk result (λ it. CanBeTold V.accepts group.now (place it.target) it.told) }
@@ -241,7 +241,7 @@ fn by_end<V: Verifier, L: Ledger>(
     ensures answer { IfOk result (λ it. it.told.answer ≡ answer_by group.now (on_circle setting.now.moment) (by_node (world_in V.accepts setting.now) group.now (arc_value node.now)).finding) }
     ensures target { IfOk result (λ it. it.target ≡ target) }
     ensures sound { IfOk result (λ it. CanBeTold V.accepts group.now (arc_value node.now).signer it.told) }
-    ensures shown { IfOk result (λ it. IfSome it.told.shown (λ shown. ((arc_value node.now).anchor ≡ Some shown.anchor) × (shown.moment ≡ on_circle setting.now.moment))) }
+    ensures shown { IfOk result (λ it. IsShownBy (world_in V.accepts setting.now) group.now (arc_value node.now) it.told) }
     ensures bound { steps.new ≤ steps.old + (setting.now.config.now.max_bad_signatures + 1) }
 {
     let (config, moment) = (setting.config, setting.moment);

@@ -14,7 +14,7 @@ returns-clause-checks g c =
     subst (λ (listed : List Record). IsSingleCallWithin (world_of g.V.Verifier.accepts listed (bounds_of c.args.config.now) c.args.now) c.args.group.now (g.U.Upstream.table c.args.upstream.now)
     (record { held = g.C.Caches.held c.args.caches.now; asked = g.U.Upstream.asked c.args.upstream.now; faults = g.U.Upstream.faults c.args.upstream.now; heard = g.U.Upstream.heard c.args.upstream.now })
     (record { held = g.C.Caches.held c.told_of.new.caches; asked = g.U.Upstream.asked c.told_of.new.upstream; faults = g.U.Upstream.faults c.told_of.new.upstream; heard = g.U.Upstream.heard c.told_of.new.upstream })
-    (answered c.told_of.result (λ it. it.told.answer)) c.args.steps.now c.told_of.new.steps) c.as_slice.ensures c.told_of.ensures.checks
+    (answered c.told_of.result (λ it. it.told)) c.args.steps.now c.told_of.new.steps) c.as_slice.ensures c.told_of.ensures.checks
 
 pub returns-clause-call : goal.returns-clause-call
 returns-clause-call g c = (returns-clause-checks g c).call
@@ -24,7 +24,7 @@ returns-clause-heard g c =
     heard_within (world_of g.V.Verifier.accepts c.args.anchors.now (bounds_of c.args.config.now) c.args.now) c.args.group.now (g.U.Upstream.table c.args.upstream.now)
     (record { held = g.C.Caches.held c.args.caches.now; asked = g.U.Upstream.asked c.args.upstream.now; faults = g.U.Upstream.faults c.args.upstream.now; heard = g.U.Upstream.heard c.args.upstream.now })
     (record { held = g.C.Caches.held c.told_of.new.caches; asked = g.U.Upstream.asked c.told_of.new.upstream; faults = g.U.Upstream.faults c.told_of.new.upstream; heard = g.U.Upstream.heard c.told_of.new.upstream })
-    (answered c.told_of.result (λ it. it.told.answer)) c.args.steps.now c.told_of.new.steps (returns-clause-checks g c)
+    (answered c.told_of.result (λ it. it.told)) c.args.steps.now c.told_of.new.steps (returns-clause-checks g c)
 
 pub returns-clause-target : goal.returns-clause-target
 returns-clause-target g c =
@@ -41,4 +41,4 @@ returns-clause-told g c =
     told_call (world_of g.V.Verifier.accepts c.args.anchors.now (bounds_of c.args.config.now) c.args.now) c.args.group.now (g.U.Upstream.table c.args.upstream.now)
     (record { held = g.C.Caches.held c.args.caches.now; asked = g.U.Upstream.asked c.args.upstream.now; faults = g.U.Upstream.faults c.args.upstream.now; heard = g.U.Upstream.heard c.args.upstream.now })
     (record { held = g.C.Caches.held c.told_of.new.caches; asked = g.U.Upstream.asked c.told_of.new.upstream; faults = g.U.Upstream.faults c.told_of.new.upstream; heard = g.U.Upstream.heard c.told_of.new.upstream })
-    (answered c.told_of.result (λ it. it.told.answer)) (returns-clause-checks g c).call
+    (answered c.told_of.result (λ it. it.told)) (returns-clause-checks g c).call

@@ -39,7 +39,7 @@ returns-in-Ok-validate_with_vc-clause-told g c =
     told_call (world_of g.V.Verifier.accepts c.args.anchors.now (bounds_of c.args.config.now) c.args.now) c.args.group.now (g.U.Upstream.table c.args.upstream.now)
     (record { held = g.C.Caches.held c.args.caches.now; asked = g.U.Upstream.asked c.args.upstream.now; faults = g.U.Upstream.faults c.args.upstream.now; heard = g.U.Upstream.heard c.args.upstream.now })
     (record { held = g.C.Caches.held c.validate_with_vc.new.caches; asked = g.U.Upstream.asked c.validate_with_vc.new.upstream; faults = g.U.Upstream.faults c.validate_with_vc.new.upstream; heard = g.U.Upstream.heard c.validate_with_vc.new.upstream })
-    (Some (told_in c.into_validated.result).answer)
+    (Some (told_in c.into_validated.result))
     (call_kept c.into_validated.result c.in-Ok.own c.args.group.now c.in-Ok-validate_with_vc.found.target c.in-Ok-validate_with_vc.found.told c.into_validated.ensures c.in-Ok.ensures
     (world_of g.V.Verifier.accepts c.args.anchors.now (bounds_of c.args.config.now) c.args.now) (g.U.Upstream.table c.args.upstream.now)
     (record { held = g.C.Caches.held c.args.caches.now; asked = g.U.Upstream.asked c.args.upstream.now; faults = g.U.Upstream.faults c.args.upstream.now; heard = g.U.Upstream.heard c.args.upstream.now })
