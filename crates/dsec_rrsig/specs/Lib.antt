@@ -5,4 +5,5 @@ pub mod Messages
 pub mod Made
 pub mod Lent
 pub mod Failures
+pub mod Given
 pub mod Asks

@@ -9,9 +9,9 @@ ghost use Rattle.dsec_spec.specs.Outside.{Rose};
 ghost use Rattle.dsec_spec.specs.Signatures.{IsSignature, IsValidPeriod};
 ghost use Rattle.dsec_sorted.specs.SetViews.{members_of};
 ghost use Rattle.dsec_rrsig.specs.declared.error.SigningError.TheVariants as signing;
-ghost use Rattle.dsec_rrsig.specs.Asks.{AsksRefusal};
+ghost use Rattle.dsec_rrsig.specs.Asks.{AsksRefusal, asked_of};
 ghost use Rattle.dsec_rrsig.specs.Failures.{CountsRefusal};
-ghost use Rattle.dsec_rrsig.specs.Made.{IsSetRefusal};
+ghost use Rattle.dsec_rrsig.specs.Made.{IsSetRefusal, message_for};
 ghost use Rattle.dsec_rrsig.specs.Messages.{first_type};
 ghost use Rattle.dsec_rrsig.specs.Signers.{period_of, signer_of};
 
@@ -44,7 +44,7 @@ pub fn sign_rrset<I: SignRaw>(
     ensures flags { key.new.flags ≡ key.old.flags }
     ensures later { I.faults key.old.inner ≤ I.faults key.new.inner }
     ensures counts { CountsRefusal (I.faults key.old.inner) (I.faults key.new.inner) result }
-    ensures asks { AsksRefusal (I.asked key.old.inner) (I.asked key.new.inner) result }
+    ensures asks { AsksRefusal (message_for (signer_of I.key key.old) (record { inception = inception; expiration = expiration }) (members_of set.now)) (asked_of I.key I.asked I.given key.old) (asked_of I.key I.asked I.given key.new) result }
 {
     let config = GenerateRrsigConfig::new(inception, expiration);
     sign_allowed(alloc, key, set, &config)
@@ -70,7 +70,7 @@ pub fn sign_sorted_rrset_in<I: SignRaw>(
     ensures flags { key.new.flags ≡ key.old.flags }
     ensures later { I.faults key.old.inner ≤ I.faults key.new.inner }
     ensures counts { CountsRefusal (I.faults key.old.inner) (I.faults key.new.inner) result }
-    ensures asks { AsksRefusal (I.asked key.old.inner) (I.asked key.new.inner) result }
+    ensures asks { AsksRefusal (message_for (signer_of I.key key.old) (record { inception = inception; expiration = expiration }) (members_of set.now)) (asked_of I.key I.asked I.given key.old) (asked_of I.key I.asked I.given key.new) result }
 {
     let config = GenerateRrsigConfig::new(inception, expiration);
     sign_sorted_allowed(alloc, key, set, &config, scratch)
@@ -90,7 +90,7 @@ fn sign_allowed<I: SignRaw>(
     ensures flags { key.new.flags ≡ key.old.flags }
     ensures later { I.faults key.old.inner ≤ I.faults key.new.inner }
     ensures counts { CountsRefusal (I.faults key.old.inner) (I.faults key.new.inner) result }
-    ensures asks { AsksRefusal (I.asked key.old.inner) (I.asked key.new.inner) result }
+    ensures asks { AsksRefusal (message_for (signer_of I.key key.old) (period_of config.now) (members_of set.now)) (asked_of I.key I.asked I.given key.old) (asked_of I.key I.asked I.given key.new) result }
 {
     allow(set.first().rtype(), config)?;
     let made = sign_unsorted(alloc, key, set, config)?;
@@ -113,7 +113,7 @@ fn sign_sorted_allowed<I: SignRaw>(
     ensures flags { key.new.flags ≡ key.old.flags }
     ensures later { I.faults key.old.inner ≤ I.faults key.new.inner }
     ensures counts { CountsRefusal (I.faults key.old.inner) (I.faults key.new.inner) result }
-    ensures asks { AsksRefusal (I.asked key.old.inner) (I.asked key.new.inner) result }
+    ensures asks { AsksRefusal (message_for (signer_of I.key key.old) (period_of config.now) (members_of set.now)) (asked_of I.key I.asked I.given key.old) (asked_of I.key I.asked I.given key.new) result }
 {
     allow(set.first().rtype(), config)?;
     let tag = tag_of(key)?;

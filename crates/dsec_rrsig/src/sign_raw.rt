@@ -1,11 +1,12 @@
 //! What signs octets.
 
-ghost use Rattle.std.specs.Prelude.{◌≡◌, ◌≤◌, ℕ, length, IfOk, IsErrOf};
+ghost use Rattle.std.specs.Prelude.{◌≡◌, ◌≤◌, ℕ, List, Option, length, IfOk, IsErrOf};
 ghost use Rattle.dsec_spec.specs.Outside.{Rose, risen};
 ghost use Rattle.dsec_spec.specs.Records as records;
 ghost use Rattle.dsec_spec.specs.Signatures as signatures;
 ghost use Rattle.dsec_wire.specs.Views.{key_view};
 ghost use Rattle.dsec_rrsig.specs.Failures.{CountsSigning};
+ghost use Rattle.dsec_rrsig.specs.Given.{NotesSigning};
 
 use crate::error::SignError;
 use dsec_name::NoMemory;
@@ -27,6 +28,10 @@ pub trait SignRaw {
     /// How often it was asked: a count that stays at 2^64 - 1, and says nothing where it stands there.
     ghost asked: { Self → ℕ };
 
+    /// The messages that it was given to sign, in order, where it tells them: whatever it answered, but for those of calls that found no memory,
+    /// which it may leave out. One that keeps none tells nothing.
+    ghost given: { Self → Option (List (List ℕ)) };
+
     /// The algorithm of its signatures (RFC 4034 A.1).
     fn algorithm(&self) -> SecurityAlgorithm
         ensures { result ≡ (key self.now).algorithm };
@@ -43,5 +48,6 @@ pub trait SignRaw {
         ensures later { faults self.old ≤ faults self.new }
         ensures failed { IsErrOf result SignError.Failed → Rose (faults self.old) (faults self.new) }
         ensures counts { CountsSigning (faults self.old) (faults self.new) result }
-        ensures asks { asked self.new ≡ risen (asked self.old) };
+        ensures asks { asked self.new ≡ risen (asked self.old) }
+        ensures noted { NotesSigning message.now (given self.old) (given self.new) result };
 }

@@ -8,7 +8,7 @@ ghost use Rattle.dsec_spec.specs.Outside.{Rose};
 ghost use Rattle.dsec_spec.specs.Signatures.{IsSignature, rrsig_for};
 ghost use Rattle.dsec_link.specs.Signing.{head_octets};
 ghost use Rattle.dsec_sorted.specs.SetViews.{members_left, members_of};
-ghost use Rattle.dsec_rrsig.specs.Asks.{AsksSigning};
+ghost use Rattle.dsec_rrsig.specs.Asks.{AsksSigning, asked_of};
 ghost use Rattle.dsec_rrsig.specs.Failures.{CountsSigning};
 ghost use Rattle.dsec_rrsig.specs.Made.{IsRrsigOver, message_for};
 ghost use Rattle.dsec_rrsig.specs.Messages.{piece};
@@ -52,7 +52,7 @@ pub fn sign_set<I: SignRaw>(
     ensures later { I.faults key.old.inner ≤ I.faults key.new.inner }
     ensures failed { IsErrOf result SignError.Failed → Rose (I.faults key.old.inner) (I.faults key.new.inner) }
     ensures counts { CountsSigning (I.faults key.old.inner) (I.faults key.new.inner) result }
-    ensures asks { AsksSigning (I.asked key.old.inner) (I.asked key.new.inner) result }
+    ensures asks { AsksSigning (message_for (signer_of I.key key.old) (period_of config.now) (members_of set.now)) (asked_of I.key I.asked I.given key.old) (asked_of I.key I.asked I.given key.new) result }
 {
     fill_sorted(message, key, tag, set, config)?;
     let made = sign_message(alloc, key, tag, set.first(), config, message)?;
@@ -109,7 +109,7 @@ pub(crate) fn sign_message<I: SignRaw>(
     ensures later { I.faults key.old.inner ≤ I.faults key.new.inner }
     ensures failed { IsErrOf result SignError.Failed → Rose (I.faults key.old.inner) (I.faults key.new.inner) }
     ensures counts { CountsSigning (I.faults key.old.inner) (I.faults key.new.inner) result }
-    ensures asks { AsksSigning (I.asked key.old.inner) (I.asked key.new.inner) result }
+    ensures asks { AsksSigning message.now (asked_of I.key I.asked I.given key.old) (asked_of I.key I.asked I.given key.new) result }
 {
     let signature = key.inner.sign_raw(alloc, message)?;
     let rrsig = rrsig_over(&key.owner, key.inner.algorithm(), tag, first, config);

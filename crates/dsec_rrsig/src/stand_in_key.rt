@@ -1,6 +1,6 @@
 //! The key of the stand-in for signatures.
 
-ghost use Rattle.std.specs.Prelude.{◌≡◌, ◌↔◌, IfOk, IsErrOf, IsOk};
+ghost use Rattle.std.specs.Prelude.{◌≡◌, ◌↔◌, IfOk, IsErrOf, IsOk, None};
 ghost use Rattle.dsec_spec.specs.Outside.{last_count};
 ghost use Rattle.dsec_rrsig.specs.Keys.{HasAlgorithm, HasProtocol, IsShort, stand_in_signs};
 ghost use Rattle.dsec_wire.specs.Views.{key_view};
@@ -69,7 +69,7 @@ impl StandInKey {
     }
 }
 
-/// It never fails: its count of faults stays at 0. How often it is asked isn't counted.
+/// It never fails: its count of faults stays at 0. How often it is asked isn't counted, and it doesn't tell what it was given.
 impl SignRaw for StandInKey {
     ghost signs = { stand_in_signs };
 
@@ -78,6 +78,8 @@ impl SignRaw for StandInKey {
     ghost faults = { λ _. 0 };
 
     ghost asked = { λ _. last_count };
+
+    ghost given = { λ _. None };
 
     fn algorithm(&self) -> SecurityAlgorithm {
         self.algorithm

@@ -1,142 +1,211 @@
--- How often keys were asked, one key and one set after the other.
-use Rattle.std.proofs.Common.{◌≡◌, ℕ, zero, suc, ◌+◌, ◌<◌, ◌≤◌, List, [], ◌∷◌, Result, Err, length, map, get_or, slice_set, refl, sym, ap, ◌∙◌, subst, inl, inr, arith}
+-- How keys were asked, one key and one set after the other.
+use Rattle.std.proofs.Common.{◌≡◌, ℕ, zero, suc, ◌+◌, ◌<◌, ◌≤◌, List, [], ◌∷◌, ◌++◌, Option, Result, Err, length, take, map, get_or, slice_set, refl, sym, ap, ◌∙◌, subst, inl, inr, arith}
 use Rattle.std.proofs.lemmas.List.{length-map, get_or-map, map-set}
-use Rattle.dsec_spec.specs.Outside.{risen, risen_by}
-use Rattle.dsec_rrsig.specs.Asks.{AsksError}
+use Rattle.std.proofs.Math.Seq.{take-suc}
+use Rattle.dsec_spec.specs.Records.{Key, Record}
+use Rattle.dsec_spec.specs.Signatures.{Period}
+use Rattle.dsec_rrsig.specs.Asks.{Asked, AsksError, asked_of, asked_untold}
 use Rattle.dsec_rrsig.specs.Errors.{of_sign_error}
-use Rattle.dsec_rrsig.specs.Signers.{count_in}
+use Rattle.dsec_rrsig.specs.Made.{message_for}
 use Rattle.dsec_rrsig.specs.declared.error.SignError.{SignError}
 use Rattle.dsec_rrsig.specs.declared.error.SignError.TheVariants as sign
 use Rattle.dsec_rrsig.specs.declared.error.SigningError.{SigningError}
 use Rattle.dsec_rrsig.specs.declared.error.SigningError.TheVariants as signing
 use Rattle.dsec_rrsig.specs.declared.signing_key.SigningKey.{SigningKey}
-use Rattle.dsec_sign.specs.SignerAsks.{AreAsked, AreAskedAtMost, AskRefusals, AskSignings, RoseAtMost}
-use Rattle.dsec_sign.specs.SignerFaults.{counts_of}
+use Rattle.dsec_sign.specs.SignerAsks.{AreAsked, AreAskedAtMost, AskedAtMost, AskRefusals, AskSignings, all_asked, asked_for_each, asked_to_sign}
 use Rattle.dsec_sign.proofs.SignerSteps.{mapped_set}
 
--- the counts, of which the first so many rose
-abbrev pub raised : ℕ → List ℕ → List ℕ
-raised zero ns = ns
-raised (suc i) [] = []
-raised (suc i) (n ∷ ns) = risen n ∷ raised i ns
+-- signers, of which the first so many were asked for the set
+abbrev pub first_asked : Period → List Record → ℕ → List Asked → List Asked
+first_asked period set zero ns = ns
+first_asked period set (suc i) [] = []
+first_asked period set (suc i) (n ∷ ns) = asked_to_sign period set n ∷ first_asked period set i ns
 
-length_raised : (i : ℕ) (ns : List ℕ) → length (raised i ns) ≡ length ns
-length_raised zero ns = refl
-length_raised (suc i) [] = refl
-length_raised (suc i) (n ∷ ns) = ap suc (length_raised i ns)
+unasked : (period : Period) (sets : List (List Record)) (n : Asked) → AskedAtMost period sets n n
+unasked period sets n = record { many = 0; is = inl refl }
 
--- the next one rises
-raise_next : (ns : List ℕ) (i : ℕ) → i < length ns → slice_set (raised i ns) i (risen (get_or (raised i ns) i 0)) ≡ raised (suc i) ns
-raise_next [] i lt = absurd (omega arith)
-raise_next (n ∷ ns) zero lt = refl
-raise_next (n ∷ ns) (suc i) lt = ap (λ (ms : List ℕ). risen n ∷ ms) (raise_next ns i (omega arith))
+module _ (period : Period) (set : List Record) where
+  length_first : (i : ℕ) (ns : List Asked) → length (first_asked period set i ns) ≡ length ns
+  length_first zero ns = refl
+  length_first (suc i) [] = refl
+  length_first (suc i) (n ∷ ns) = ap suc (length_first i ns)
 
-all_raised : (ns : List ℕ) (i : ℕ) → length ns ≤ i → AreAsked 1 ns (raised i ns)
-all_raised [] zero le = refl
-all_raised [] (suc i) le = refl
-all_raised (n ∷ ns) zero le = absurd (omega arith)
-all_raised (n ∷ ns) (suc i) le = ap (λ (ms : List ℕ). risen n ∷ ms) (all_raised ns i (omega arith))
+  -- the next one is asked
+  next_first : (ns : List Asked) (i : ℕ) (d : Asked) → i < length ns → slice_set (first_asked period set i ns) i (asked_to_sign period set (get_or (first_asked period set i ns) i d)) ≡ first_asked period set (suc i) ns
+  next_first [] i d lt = absurd (omega arith)
+  next_first (n ∷ ns) zero d lt = refl
+  next_first (n ∷ ns) (suc i) d lt = ap (λ (ms : List Asked). asked_to_sign period set n ∷ ms) (next_first ns i d (omega arith))
 
-unasked : (most n : ℕ) → RoseAtMost most n n
-unasked most n = record { times = 0; few = omega arith; is = refl }
+  all_first : (ns : List Asked) (i : ℕ) → length ns ≤ i → AreAsked period (set ∷ []) ns (first_asked period set i ns)
+  all_first [] zero le = refl
+  all_first [] (suc i) le = refl
+  all_first (n ∷ ns) zero le = absurd (omega arith)
+  all_first (n ∷ ns) (suc i) le = ap (λ (ms : List Asked). asked_to_sign period set n ∷ ms) (all_first ns i (omega arith))
 
-some_raised : (i : ℕ) (ns : List ℕ) → AreAskedAtMost 1 ns (raised i ns)
-some_raised zero [] = tt
-some_raised zero (n ∷ ns) = (unasked 1 n, some_raised zero ns)
-some_raised (suc i) [] = tt
-some_raised (suc i) (n ∷ ns) = (record { times = 1; few = omega arith; is = refl }, some_raised i ns)
+  some_first : (i : ℕ) (ns : List Asked) → AreAskedAtMost period (set ∷ []) ns (first_asked period set i ns)
+  some_first zero [] = tt
+  some_first zero (n ∷ ns) = (unasked period (set ∷ []) n, some_first zero ns)
+  some_first (suc i) [] = tt
+  some_first (suc i) (n ∷ ns) = (record { many = 1; is = inl refl }, some_first i ns)
 
--- ---- of keys, of which the first so many were asked
+  -- the next one was asked, and doesn't tell it
+  untold_next : (ns : List Asked) (i : ℕ) (d : Asked) → i < length ns → AreAskedAtMost period (set ∷ []) ns (slice_set (first_asked period set i ns) i (asked_untold (get_or (first_asked period set i ns) i d)))
+  untold_next [] i d lt = absurd (omega arith)
+  untold_next (n ∷ ns) zero d lt = (record { many = 0; is = inr (omega arith, refl) }, some_first 0 ns)
+  untold_next (n ∷ ns) (suc i) d lt = (record { many = 1; is = inl refl }, untold_next ns i d (omega arith))
 
-module _ {I : Type 0} (ask_of : I → ℕ) where
-  -- one more was asked
-  pub asked_more : (old keys : List (SigningKey I)) (i : ℕ) (new d : SigningKey I) → counts_of ask_of keys ≡ raised i (counts_of ask_of old) → i < length keys
-      → count_in ask_of new ≡ risen (count_in ask_of (get_or keys i d)) → counts_of ask_of (slice_set keys i new) ≡ raised (i + 1) (counts_of ask_of old)
-  asked_more old keys i new d same lt is =
-      let ns = counts_of ask_of old in
-      let one : get_or (raised i ns) i 0 ≡ count_in ask_of (get_or keys i d) = ap (λ (ms : List ℕ). get_or ms i 0) (sym same) ∙ get_or-map (count_in ask_of) keys i d 0 lt in
-      let within : i < length ns = omega (arith, lt, length-map keys (count_in ask_of), ap length same, length_raised i ns) in
-      let next : suc i ≡ i + 1 = omega arith in
-      map-set (count_in ask_of) keys i new ∙ (ap (λ (ms : List ℕ). slice_set ms i (count_in ask_of new)) same
-      ∙ (ap (λ (m : ℕ). slice_set (raised i ns) i m) (is ∙ ap risen (sym one)) ∙ (raise_next ns i within ∙ ap (λ (k : ℕ). raised k ns) next)))
+  -- ---- of keys, of which the first so many were asked
 
-  -- then each was asked once at most
-  pub asked_once : (old keys : List (SigningKey I)) (i : ℕ) (new d : SigningKey I) → counts_of ask_of keys ≡ raised i (counts_of ask_of old) → i < length keys
-      → count_in ask_of new ≡ risen (count_in ask_of (get_or keys i d)) → AreAskedAtMost 1 (counts_of ask_of old) (counts_of ask_of (slice_set keys i new))
-  asked_once old keys i new d same lt is =
-      subst (λ (ms : List ℕ). AreAskedAtMost 1 (counts_of ask_of old) ms) (sym (asked_more old keys i new d same lt is)) (some_raised (i + 1) (counts_of ask_of old))
+  module _ {I : Type 0} (key_of : I → Key) (times_of : I → ℕ) (given_of : I → Option (List (List ℕ))) where
+    -- one more was asked
+    pub asked_more : (old keys : List (SigningKey I)) (i : ℕ) (new d : SigningKey I) → all_asked key_of times_of given_of keys ≡ first_asked period set i (all_asked key_of times_of given_of old)
+        → i < length keys → asked_of key_of times_of given_of new ≡ asked_to_sign period set (asked_of key_of times_of given_of (get_or keys i d))
+        → all_asked key_of times_of given_of (slice_set keys i new) ≡ first_asked period set (i + 1) (all_asked key_of times_of given_of old)
+    asked_more old keys i new d same lt is =
+        let view = asked_of key_of times_of given_of in
+        let ns = all_asked key_of times_of given_of old in
+        let one : get_or (first_asked period set i ns) i (view d) ≡ view (get_or keys i d) = ap (λ (ms : List Asked). get_or ms i (view d)) (sym same) ∙ get_or-map view keys i d (view d) lt in
+        let within : i < length ns = omega (arith, lt, length-map keys view, ap length same, length_first i ns) in
+        let next : suc i ≡ i + 1 = omega arith in
+        map-set view keys i new ∙ (ap (λ (ms : List Asked). slice_set ms i (view new)) same
+        ∙ (ap (λ (m : Asked). slice_set (first_asked period set i ns) i m) (is ∙ ap (asked_to_sign period set) (sym one)) ∙ (next_first ns i (view d) within ∙ ap (λ (k : ℕ). first_asked period set k ns) next)))
 
-  -- also where it gave no signature
-  pub asked_in_vain : (old keys : List (SigningKey I)) (i : ℕ) (new d : SigningKey I) (e : SignError) → counts_of ask_of keys ≡ raised i (counts_of ask_of old) → i < length keys
-      → AsksError (count_in ask_of (get_or keys i d)) (count_in ask_of new) e → AreAskedAtMost 1 (counts_of ask_of old) (counts_of ask_of (slice_set keys i new))
-  asked_in_vain old keys i new d sign.Failed same lt asks = asked_once old keys i new d same lt asks
-  asked_in_vain old keys i new d sign.NoMemory same lt asks = elim asks [
-    | inl none ↦ subst (λ (ms : List ℕ). AreAskedAtMost 1 (counts_of ask_of old) ms) (sym (mapped_set (count_in ask_of) keys i new d lt none ∙ same)) (some_raised i (counts_of ask_of old))
-    | inr once ↦ asked_once old keys i new d same lt once
-  ]
+    -- then each was asked once at most
+    pub asked_once : (old keys : List (SigningKey I)) (i : ℕ) (new d : SigningKey I) → all_asked key_of times_of given_of keys ≡ first_asked period set i (all_asked key_of times_of given_of old)
+        → i < length keys → asked_of key_of times_of given_of new ≡ asked_to_sign period set (asked_of key_of times_of given_of (get_or keys i d))
+        → AreAskedAtMost period (set ∷ []) (all_asked key_of times_of given_of old) (all_asked key_of times_of given_of (slice_set keys i new))
+    asked_once old keys i new d same lt is =
+        let ns = all_asked key_of times_of given_of old in
+        subst (λ (ms : List Asked). AreAskedAtMost period (set ∷ []) ns ms) (sym (asked_more old keys i new d same lt is)) (some_first (i + 1) ns)
 
-  -- all were asked
-  pub all_asked : (old keys : List (SigningKey I)) (i : ℕ) → counts_of ask_of keys ≡ raised i (counts_of ask_of old) → length keys ≤ i → AreAsked 1 (counts_of ask_of old) (counts_of ask_of keys)
-  all_asked old keys i same le =
-      let ns = counts_of ask_of old in
-      let within : length ns ≤ i = omega (arith, le, length-map keys (count_in ask_of), ap length same, length_raised i ns) in
-      same ∙ all_raised ns i within
+    -- also where it doesn't tell for what
+    asked_untold_of : (old keys : List (SigningKey I)) (i : ℕ) (new d : SigningKey I) → all_asked key_of times_of given_of keys ≡ first_asked period set i (all_asked key_of times_of given_of old)
+        → i < length keys → asked_of key_of times_of given_of new ≡ asked_untold (asked_of key_of times_of given_of (get_or keys i d))
+        → AreAskedAtMost period (set ∷ []) (all_asked key_of times_of given_of old) (all_asked key_of times_of given_of (slice_set keys i new))
+    asked_untold_of old keys i new d same lt is =
+        let view = asked_of key_of times_of given_of in
+        let ns = all_asked key_of times_of given_of old in
+        let one : get_or (first_asked period set i ns) i (view d) ≡ view (get_or keys i d) = ap (λ (ms : List Asked). get_or ms i (view d)) (sym same) ∙ get_or-map view keys i d (view d) lt in
+        let within : i < length ns = omega (arith, lt, length-map keys view, ap length same, length_first i ns) in
+        let all : all_asked key_of times_of given_of (slice_set keys i new) ≡ slice_set (first_asked period set i ns) i (asked_untold (get_or (first_asked period set i ns) i (view d))) =
+        map-set view keys i new ∙ (ap (λ (ms : List Asked). slice_set ms i (view new)) same ∙ ap (λ (m : Asked). slice_set (first_asked period set i ns) i m) (is ∙ ap asked_untold (sym one))) in
+        subst (λ (ms : List Asked). AreAskedAtMost period (set ∷ []) ns ms) (sym all) (untold_next ns i (view d) within)
+
+    -- also where it gave no signature
+    pub asked_in_vain : (old keys : List (SigningKey I)) (i : ℕ) (new d : SigningKey I) (e : SignError) → all_asked key_of times_of given_of keys ≡ first_asked period set i (all_asked key_of times_of given_of old)
+        → i < length keys → AsksError (message_for (asked_of key_of times_of given_of (get_or keys i d)).by period set) (asked_of key_of times_of given_of (get_or keys i d)) (asked_of key_of times_of given_of new) e
+        → AreAskedAtMost period (set ∷ []) (all_asked key_of times_of given_of old) (all_asked key_of times_of given_of (slice_set keys i new))
+    asked_in_vain old keys i new d sign.Failed same lt asks = asked_once old keys i new d same lt asks
+    asked_in_vain old keys i new d sign.NoMemory same lt asks = elim asks [
+      | inl none ↦ subst (λ (ms : List Asked). AreAskedAtMost period (set ∷ []) (all_asked key_of times_of given_of old) ms)
+          (sym (mapped_set (asked_of key_of times_of given_of) keys i new d lt none ∙ same)) (some_first i (all_asked key_of times_of given_of old))
+      | inr (inl once) ↦ asked_once old keys i new d same lt once
+      | inr (inr untold) ↦ asked_untold_of old keys i new d same lt untold
+    ]
+
+    -- all were asked
+    pub all_once : (old keys : List (SigningKey I)) (i : ℕ) → all_asked key_of times_of given_of keys ≡ first_asked period set i (all_asked key_of times_of given_of old) → length keys ≤ i
+        → AreAsked period (set ∷ []) (all_asked key_of times_of given_of old) (all_asked key_of times_of given_of keys)
+    all_once old keys i same le =
+        let ns = all_asked key_of times_of given_of old in
+        let within : length ns ≤ i = omega (arith, le, length-map keys (asked_of key_of times_of given_of), ap length same, length_first i ns) in
+        same ∙ all_first ns i within
 
 -- ---- for one set after the other
 
-pub none_asked : (ns : List ℕ) → AreAsked 0 ns ns
-none_asked [] = refl
-none_asked (n ∷ ns) = ap (λ (ms : List ℕ). n ∷ ms) (none_asked ns)
+pub none_asked : (period : Period) (ns : List Asked) → AreAsked period [] ns ns
+none_asked period [] = refl
+none_asked period (n ∷ ns) = ap (λ (ms : List Asked). n ∷ ms) (none_asked period ns)
 
-pub none_at_most : (most : ℕ) (ns : List ℕ) → AreAskedAtMost most ns ns
-none_at_most most [] = tt
-none_at_most most (n ∷ ns) = (unasked most n, none_at_most most ns)
+pub none_at_most : (period : Period) (sets : List (List Record)) (ns : List Asked) → AreAskedAtMost period sets ns ns
+none_at_most period sets [] = tt
+none_at_most period sets (n ∷ ns) = (unasked period sets n, none_at_most period sets ns)
 
-again : (i : ℕ) (ns : List ℕ) → map (λ (b : ℕ). risen_by b 1) (map (λ (b : ℕ). risen_by b i) ns) ≡ map (λ (b : ℕ). risen_by b (suc i)) ns
-again i [] = refl
-again i (n ∷ ns) = ap (λ (ms : List ℕ). risen (risen_by n i) ∷ ms) (again i ns)
+each_more : (period : Period) (sets : List (List Record)) (set : List Record) (n : Asked) → asked_for_each period (sets ++ set ∷ []) n ≡ asked_to_sign period set (asked_for_each period sets n)
+each_more period [] set n = refl
+each_more period (s ∷ sets) set n = each_more period sets set (asked_to_sign period s n)
 
--- for a set more
-pub set_asked : (i : ℕ) (old mid new : List ℕ) → AreAsked i old mid → AreAsked 1 mid new → AreAsked (i + 1) old new
-set_asked i old mid new first second =
-    let next : suc i ≡ i + 1 = omega arith in
-    second ∙ (ap (λ (ms : List ℕ). map (λ (b : ℕ). risen_by b 1) ms) first ∙ (again i old ∙ ap (λ (k : ℕ). map (λ (b : ℕ). risen_by b k) old) next))
+take_none : (k : ℕ) → take {A = List Record} k [] ≡ []
+take_none zero = refl
+take_none (suc k) = refl
 
-twice : (b i t : ℕ) → risen_by (risen_by b i) t ≡ risen_by b (t + i)
-twice b i zero = let none : i ≡ 0 + i = omega arith in ap (λ (k : ℕ). risen_by b k) none
-twice b i (suc t) = let next : suc (t + i) ≡ suc t + i = omega arith in ap risen (twice b i t) ∙ ap (λ (k : ℕ). risen_by b k) next
+take_most : (sets : List (List Record)) (i : ℕ) → length sets ≤ i → take i sets ≡ sets
+take_most [] i le = take_none i
+take_most (set ∷ sets) zero le = absurd (omega arith)
+take_most (set ∷ sets) (suc i) le = ap (λ (xs : List (List Record)). set ∷ xs) (take_most sets i (omega arith))
 
--- and once at most for a set that wasn't signed
-pub set_in_vain : (i sets : ℕ) (old mid new : List ℕ) → i < sets → AreAsked i old mid → AreAskedAtMost 1 mid new → AreAskedAtMost sets old new
-set_in_vain i sets old mid new lt is most = each old new (subst (λ (ms : List ℕ). AreAskedAtMost 1 ms new) is most)
+-- for all of them
+pub all_sets : (period : Period) (sets : List (List Record)) (i : ℕ) (old new : List Asked) → length sets ≤ i → AreAsked period (take i sets) old new → AreAsked period sets old new
+all_sets period sets i old new le is = subst (λ (xs : List (List Record)). AreAsked period xs old new) (take_most sets i le) is
+
+module _ (period : Period) (sets : List (List Record)) (i : ℕ) (set : List Record) (lt : i < length sets) (at : get_or sets i set ≡ set) where
+  -- the sets up to this, and this
+  more_of : (n : Asked) → asked_to_sign period set (asked_for_each period (take i sets) n) ≡ asked_for_each period (take (i + 1) sets) n
+  more_of n =
+      let next : i + 1 ≡ suc i = omega arith in
+      let taken : take (i + 1) sets ≡ take i sets ++ set ∷ [] = ap (λ (k : ℕ). take k sets) next ∙ (take-suc sets i set lt ∙ ap (λ (s : List Record). take i sets ++ s ∷ []) at) in
+      sym (ap (λ (xs : List (List Record)). asked_for_each period xs n) taken ∙ each_more period (take i sets) set n)
+
+  -- for a set more
+  pub set_asked : (old mid new : List Asked) → AreAsked period (take i sets) old mid → AreAsked period (set ∷ []) mid new → AreAsked period (take (i + 1) sets) old new
+  set_asked old mid new first second = second ∙ (ap (map (asked_for_each period (set ∷ []))) first ∙ again old)
+    where
+      again : (ns : List Asked) → map (asked_for_each period (set ∷ [])) (map (asked_for_each period (take i sets)) ns) ≡ map (asked_for_each period (take (i + 1) sets)) ns
+      again [] = refl
+      again (n ∷ ns) =
+          ap (λ (m : Asked). m ∷ map (asked_for_each period (set ∷ [])) (map (asked_for_each period (take i sets)) ns)) (more_of n)
+          ∙ ap (λ (ms : List Asked). asked_for_each period (take (i + 1) sets) n ∷ ms) (again ns)
+
+  -- a set more at most
+  one_more : (n m : Asked) → AskedAtMost period (set ∷ []) (asked_for_each period (take i sets) n) m → AskedAtMost period sets n m
+  one_more n m h = elim h.is [
+    | inl is ↦ by h.many is
+    | inr last ↦ untold h.many last.0 last.1
+  ]
+    where
+      by : (k : ℕ) → m ≡ asked_for_each period (take k (set ∷ [])) (asked_for_each period (take i sets) n) → AskedAtMost period sets n m
+      by zero is = record { many = i; is = inl is }
+      by (suc k) is = record {
+        many = i + 1;
+        is = inl (is ∙ (ap (λ (xs : List (List Record)). asked_for_each period xs (asked_to_sign period set (asked_for_each period (take i sets) n))) (take_none k) ∙ more_of n));
+      }
+
+      untold : (k : ℕ) → k < 1 → m ≡ asked_untold (asked_for_each period (take k (set ∷ [])) (asked_for_each period (take i sets) n)) → AskedAtMost period sets n m
+      untold zero few is = record { many = i; is = inr (lt, is) }
+      untold (suc k) few is = absurd (omega (arith, few))
+
+  -- and once at most for a set that wasn't signed
+  pub set_in_vain : (old mid new : List Asked) → AreAsked period (take i sets) old mid → AreAskedAtMost period (set ∷ []) mid new → AreAskedAtMost period sets old new
+  set_in_vain old mid new is most = each old new (subst (λ (ms : List Asked). AreAskedAtMost period (set ∷ []) ms new) is most)
+    where
+      each : (ns ms : List Asked) → AreAskedAtMost period (set ∷ []) (map (asked_for_each period (take i sets)) ns) ms → AreAskedAtMost period sets ns ms
+      each [] [] h = tt
+      each [] (m ∷ ms) h = absurd h
+      each (n ∷ ns) [] h = absurd h
+      each (n ∷ ns) (m ∷ ms) h = (one_more n m h.0, each ns ms h.1)
+
+-- each was asked for all, and so for no more
+pub asked_at_most : (period : Period) (sets : List (List Record)) (old new : List Asked) → AreAsked period sets old new → AreAskedAtMost period sets old new
+asked_at_most period sets old new is = subst (λ (ms : List Asked). AreAskedAtMost period sets old ms) (sym is) (each old)
   where
-    each : (ns ms : List ℕ) → AreAskedAtMost 1 (map (λ (b : ℕ). risen_by b i) ns) ms → AreAskedAtMost sets ns ms
-    each [] [] h = tt
-    each [] (m ∷ ms) h = absurd h
-    each (n ∷ ns) [] h = absurd h
-    each (n ∷ ns) (m ∷ ms) h = (record { times = h.0.times + i; few = let f = h.0.few in omega (arith, f, lt); is = h.0.is ∙ twice n i h.0.times }, each ns ms h.1)
-
--- each was asked so often, and so not more often
-pub asked_at_most : (sets : ℕ) (old new : List ℕ) → AreAsked sets old new → AreAskedAtMost sets old new
-asked_at_most sets old new is = subst (λ (ms : List ℕ). AreAskedAtMost sets old ms) (sym is) (each old)
-  where
-    each : (ns : List ℕ) → AreAskedAtMost sets ns (map (λ (b : ℕ). risen_by b sets) ns)
+    each : (ns : List Asked) → AreAskedAtMost period sets ns (map (asked_for_each period sets) ns)
     each [] = tt
-    each (n ∷ ns) = (record { times = sets; few = omega arith; is = refl }, each ns)
+    each (n ∷ ns) = (record { many = length sets; is = inl (ap (λ (xs : List (List Record)). asked_for_each period xs n) (sym (take_most sets (length sets) (omega arith)))) }, each ns)
 
 -- ---- and what is answered
 
 -- a result that is this error
-pub asks_as : {T : Type 0} (sets : ℕ) (old new : List ℕ) (r : Result T SignError) (e : SignError) → r ≡ Err e → AreAskedAtMost sets old new → AskSignings sets old new r
-asks_as sets old new r e is most = subst (λ (x : Result _ SignError). AskSignings sets old new x) (sym is) most
+pub asks_as : {T : Type 0} (period : Period) (sets : List (List Record)) (old new : List Asked) (r : Result T SignError) (e : SignError) → r ≡ Err e → AreAskedAtMost period sets old new
+    → AskSignings period sets old new r
+asks_as period sets old new r e is most = subst (λ (x : Result _ SignError). AskSignings period sets old new x) (sym is) most
 
 -- signing is refused before any was asked
-pub refused_unasked : {T : Type 0} (sets : ℕ) (ns : List ℕ) (r : Result T SigningError) (e : SigningError) → r ≡ Err e → AskRefusals sets ns ns r
-refused_unasked {T = T} sets ns r e is = subst (λ (x : Result T SigningError). AskRefusals sets ns ns x) (sym is) (for T e)
+pub refused_unasked : {T : Type 0} (period : Period) (sets : List (List Record)) (ns : List Asked) (r : Result T SigningError) (e : SigningError) → r ≡ Err e → AskRefusals period sets ns ns r
+refused_unasked {T = T} period sets ns r e is = subst (λ (x : Result T SigningError). AskRefusals period sets ns ns x) (sym is) (for T e)
   where
-    for : (T : Type 0) (x : SigningError) → AskRefusals {T = T} sets ns ns (Err x)
-    for T (signing.SigningError x) = none_at_most sets ns
-    for T signing.OutOfMemory = none_at_most sets ns
+    for : (T : Type 0) (x : SigningError) → AskRefusals {T = T} period sets ns ns (Err x)
+    for T (signing.SigningError x) = none_at_most period sets ns
+    for T signing.OutOfMemory = none_at_most period sets ns
     for T signing.NoSignatureValidityPeriodProvided = refl
     for T signing.SoaRecordCouldNotBeDetermined = refl
     for T signing.EmptyRecordSlice = refl
@@ -146,9 +215,10 @@ refused_unasked {T = T} sets ns r e is = subst (λ (x : Result T SigningError). 
     for T (signing.Nsec3HashingError x) = refl
 
 -- or for a signer's error
-pub refused_asked : {T : Type 0} (sets : ℕ) (old new : List ℕ) (r : Result T SigningError) (e : SignError) → r ≡ Err (of_sign_error e) → AreAskedAtMost sets old new → AskRefusals sets old new r
-refused_asked {T = T} sets old new r e is most = subst (λ (x : Result T SigningError). AskRefusals sets old new x) (sym is) (for T e)
+pub refused_asked : {T : Type 0} (period : Period) (sets : List (List Record)) (old new : List Asked) (r : Result T SigningError) (e : SignError) → r ≡ Err (of_sign_error e)
+    → AreAskedAtMost period sets old new → AskRefusals period sets old new r
+refused_asked {T = T} period sets old new r e is most = subst (λ (x : Result T SigningError). AskRefusals period sets old new x) (sym is) (for T e)
   where
-    for : (T : Type 0) (x : SignError) → AskRefusals {T = T} sets old new (Err (of_sign_error x))
+    for : (T : Type 0) (x : SignError) → AskRefusals {T = T} period sets old new (Err (of_sign_error x))
     for T sign.Failed = most
     for T sign.NoMemory = most

@@ -11,8 +11,8 @@ ghost use Rattle.dsec_rrsig.specs.Signers.{period_of, signer_of};
 ghost use Rattle.dsec_sign.specs.Adding.{AddsInOrder, AreApart};
 ghost use Rattle.dsec_sign.specs.Places.{IsFound, IsSignable, set_at};
 ghost use Rattle.dsec_sign.specs.Refusals.{AreAllowed, IsSetsRefusal};
-ghost use Rattle.dsec_sign.specs.SignerAsks.{AskRefusals, AskSignings};
-ghost use Rattle.dsec_sign.specs.SignerFaults.{AreSameSigners, CountRefusals, CountSignings, SomeRose, counts_of};
+ghost use Rattle.dsec_sign.specs.SignerAsks.{AskRefusals, AskSignings, all_asked};
+ghost use Rattle.dsec_sign.specs.SignerFaults.{AreSameSigners, CountRefusals, CountSignings, SomeRose};
 ghost use Rattle.dsec_sign.specs.ZoneSigning.{AddsZoneSignatures};
 
 use crate::allowed::allow;
@@ -42,7 +42,7 @@ pub(crate) fn add_zone_signatures<I: SignRaw>(
     ensures err { OnErr result (records.new.items ≡ records.old.items) }
     ensures same { AreSameSigners I.key I.faults keys.old keys.new }
     ensures counts { CountRefusals I.faults keys.old keys.new result }
-    ensures asks { AskRefusals (length (zone_sets (place apex.now) records.old.items)) (counts_of I.asked keys.old) (counts_of I.asked keys.new) result }
+    ensures asks { AskRefusals (period_of config.now) (zone_sets (place apex.now) records.old.items) (all_asked I.key I.asked I.given keys.old) (all_asked I.key I.asked I.given keys.new) result }
 {
     let sets = sets_among(alloc, apex, records)?;
     allow(records, &sets, keys, config)?;
@@ -78,7 +78,7 @@ fn add_signatures<I: SignRaw>(
     ensures same { AreSameSigners I.key I.faults keys.old keys.new }
     ensures failed { IsErrOf result SignError.Failed → SomeRose I.faults keys.old keys.new }
     ensures counts { CountSignings I.faults keys.old keys.new result }
-    ensures asks { AskSignings (length (map (set_at records.old.items) sets.now)) (counts_of I.asked keys.old) (counts_of I.asked keys.new) result }
+    ensures asks { AskSignings (period_of config.now) (map (set_at records.old.items) sets.now) (all_asked I.key I.asked I.given keys.old) (all_asked I.key I.asked I.given keys.new) result }
 {
     let unsigned = records.len();
     if let Err(error) = sign_behind(alloc, records, sets, keys, config) {

@@ -4,8 +4,8 @@ ghost use Rattle.std.specs.Prelude.{IfErr, OnOk, map};
 ghost use Rattle.dsec_spec.specs.CanonicalRecords.{AreOfOneClass, IsCanonical};
 ghost use Rattle.dsec_rrsig.specs.Signers.{signer_of};
 ghost use Rattle.dsec_sign.specs.InOut.{EndsAs, EndsInPlaceAs, old_records, zone_records};
-ghost use Rattle.dsec_sign.specs.SignerAsks.{AskZone};
-ghost use Rattle.dsec_sign.specs.SignerFaults.{AreSameSigners, CountRefusals, SomeRose, counts_of};
+ghost use Rattle.dsec_sign.specs.SignerAsks.{AskZone, all_asked};
+ghost use Rattle.dsec_sign.specs.SignerFaults.{AreSameSigners, CountRefusals, SomeRose};
 ghost use Rattle.dsec_sign.specs.ZoneSigning.{IsZoneRefusal, SignsZone};
 
 use crate::config::SigningConfig;
@@ -44,7 +44,7 @@ pub fn sign_zone<S: SignableZone, T: SignableZoneInPlace + SortedExtend, I: Sign
     ensures canonical { EndsInPlaceAs T.zone in_out.entry in_out.exit IsCanonical }
     ensures same { AreSameSigners I.key I.faults keys.old keys.new }
     ensures counts { CountRefusals I.faults keys.old keys.new result }
-    ensures asks { AskZone config.now.denial apex.now (zone_records S.zone T.zone in_out.entry) (counts_of I.asked keys.old) (counts_of I.asked keys.new) result }
+    ensures asks { AskZone config.now apex.now (zone_records S.zone T.zone in_out.entry) (all_asked I.key I.asked I.given keys.old) (all_asked I.key I.asked I.given keys.new) result }
 {
     match in_out {
         SignableZoneInOut::SignInPlace(zone) => {

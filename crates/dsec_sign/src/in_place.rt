@@ -3,8 +3,8 @@
 ghost use Rattle.std.specs.Prelude.{◌≡◌, IfErr, OnOk, map};
 ghost use Rattle.dsec_spec.specs.CanonicalRecords.{AreOfOneClass, IsCanonical};
 ghost use Rattle.dsec_rrsig.specs.Signers.{signer_of};
-ghost use Rattle.dsec_sign.specs.SignerAsks.{AskZone};
-ghost use Rattle.dsec_sign.specs.SignerFaults.{AreSameSigners, CountRefusals, SomeRose, counts_of};
+ghost use Rattle.dsec_sign.specs.SignerAsks.{AskZone, all_asked};
+ghost use Rattle.dsec_sign.specs.SignerFaults.{AreSameSigners, CountRefusals, SomeRose};
 ghost use Rattle.dsec_sign.specs.ZoneSigning.{IsZoneRefusal, SignsZone};
 
 use crate::added::add_zone_signatures;
@@ -33,7 +33,7 @@ pub(crate) fn sign_in_place<I: SignRaw>(
     ensures canonical { IsCanonical records.new.items }
     ensures same { AreSameSigners I.key I.faults keys.old keys.new }
     ensures counts { CountRefusals I.faults keys.old keys.new result }
-    ensures asks { AskZone config.now.denial apex.now records.old.items (counts_of I.asked keys.old) (counts_of I.asked keys.new) result }
+    ensures asks { AskZone config.now apex.now records.old.items (all_asked I.key I.asked I.given keys.old) (all_asked I.key I.asked I.given keys.new) result }
 {
     let chain = chain_of(alloc, apex, owners_of(records), &config.denial)?;
     extend_sorted(records, chain)?;

@@ -4,8 +4,8 @@ ghost use Rattle.std.specs.Prelude.{◌≡◌, IfErr, IfOk, OnOk, map};
 ghost use Rattle.dsec_spec.specs.CanonicalRecords.{AreOfOneClass, IsCanonical};
 ghost use Rattle.dsec_spec.specs.SignedZones.{IsUnion};
 ghost use Rattle.dsec_rrsig.specs.Signers.{signer_of};
-ghost use Rattle.dsec_sign.specs.SignerAsks.{AskZone};
-ghost use Rattle.dsec_sign.specs.SignerFaults.{AreSameSigners, CountRefusals, SomeRose, counts_of};
+ghost use Rattle.dsec_sign.specs.SignerAsks.{AskZone, all_asked};
+ghost use Rattle.dsec_sign.specs.SignerFaults.{AreSameSigners, CountRefusals, SomeRose};
 ghost use Rattle.dsec_sign.specs.ZoneSigning.{IsZoneRefusal, SignsZone};
 
 use crate::chain::chain_of;
@@ -36,7 +36,7 @@ pub(crate) fn sign_into<T: SortedExtend, I: SignRaw>(
         zone.now (T.records out.old) (T.records out.new) e) }
     ensures same { AreSameSigners I.key I.faults keys.old keys.new }
     ensures counts { CountRefusals I.faults keys.old keys.new result }
-    ensures asks { AskZone config.now.denial apex.now zone.now (counts_of I.asked keys.old) (counts_of I.asked keys.new) result }
+    ensures asks { AskZone config.now apex.now zone.now (all_asked I.key I.asked I.given keys.old) (all_asked I.key I.asked I.given keys.new) result }
 {
     let chain = chain_of(alloc, apex, owners_of(zone), &config.denial)?;
     let whole = merged(alloc, zone, &chain)?;

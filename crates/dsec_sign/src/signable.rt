@@ -1,6 +1,6 @@
 //! Sets that are signed as the records of a zone (RFC 4035 2.2).
 
-ghost use Rattle.std.specs.Prelude.{◌≡◌, List, IfErr, IfOk, OnOk, length, map};
+ghost use Rattle.std.specs.Prelude.{◌≡◌, List, IfErr, IfOk, OnOk, map};
 ghost use Rattle.dsec_spec.specs.CanonicalRecords.{IsCanonical};
 ghost use Rattle.dsec_spec.specs.Names.{place};
 ghost use Rattle.dsec_spec.specs.Records as entries;
@@ -8,8 +8,8 @@ ghost use Rattle.dsec_spec.specs.SignedZones.{AreZoneSignatures, sets_to_sign as
 ghost use Rattle.dsec_sorted.specs.SetViews.{members_left};
 ghost use Rattle.dsec_rrsig.specs.Signers.{signer_of};
 ghost use Rattle.dsec_sign.specs.Refusals.{AreAllowed, IsSetsRefusal};
-ghost use Rattle.dsec_sign.specs.SignerAsks.{AskRefusals};
-ghost use Rattle.dsec_sign.specs.SignerFaults.{AreSameSigners, CountRefusals, SomeRose, counts_of};
+ghost use Rattle.dsec_sign.specs.SignerAsks.{AskRefusals, all_asked};
+ghost use Rattle.dsec_sign.specs.SignerFaults.{AreSameSigners, CountRefusals, SomeRose};
 
 use crate::into::copied;
 use crate::zone_records::sign_sorted_zone_records;
@@ -46,7 +46,7 @@ pub trait Signable {
             (SomeRose I.faults keys.old keys.new) e) }
         ensures same { AreSameSigners I.key I.faults keys.old keys.new }
         ensures counts { CountRefusals I.faults keys.old keys.new result }
-        ensures asks { AskRefusals (length (zone_sets (place apex.now) (records self.now))) (counts_of I.asked keys.old) (counts_of I.asked keys.new) result };
+        ensures asks { AskRefusals (record { inception = inception; expiration = expiration }) (zone_sets (place apex.now) (records self.now)) (all_asked I.key I.asked I.given keys.old) (all_asked I.key I.asked I.given keys.new) result };
 }
 
 impl Signable for Rrset<'_> {

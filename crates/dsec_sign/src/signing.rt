@@ -6,8 +6,8 @@ ghost use Rattle.dsec_spec.specs.Signatures.{AreSignatures};
 ghost use Rattle.dsec_sorted.specs.SetViews.{members_of};
 ghost use Rattle.dsec_rrsig.specs.Signers.{period_of, signer_of};
 ghost use Rattle.dsec_sign.specs.Places.{IsSignable, set_at};
-ghost use Rattle.dsec_sign.specs.SignerAsks.{AskSignings};
-ghost use Rattle.dsec_sign.specs.SignerFaults.{AddsOfSet, AddsSignatures, AreSameSigners, CountSignings, SomeRose, tags_of as signer_tags, counts_of};
+ghost use Rattle.dsec_sign.specs.SignerAsks.{AskSignings, all_asked};
+ghost use Rattle.dsec_sign.specs.SignerFaults.{AddsOfSet, AddsSignatures, AreSameSigners, CountSignings, SomeRose, tags_of as signer_tags};
 
 use crate::zone_sets::SetAt;
 use dsec_name::NoMemory;
@@ -29,7 +29,7 @@ pub(crate) fn sign_sets<I: SignRaw>(
     ensures same { AreSameSigners I.key I.faults keys.old keys.new }
     ensures failed { IsErrOf result SignError.Failed → SomeRose I.faults keys.old keys.new }
     ensures counts { CountSignings I.faults keys.old keys.new result }
-    ensures asks { AskSignings (length (map (set_at records.now) sets.now)) (counts_of I.asked keys.old) (counts_of I.asked keys.new) result }
+    ensures asks { AskSignings (period_of config.now) (map (set_at records.now) sets.now) (all_asked I.key I.asked I.given keys.old) (all_asked I.key I.asked I.given keys.new) result }
 {
     let tags = tags_of(alloc, keys)?;
     let mut all = Vec::with_capacity(alloc, sets.len().saturating_mul(keys.len()))?;
@@ -53,7 +53,7 @@ fn sign_each<I: SignRaw>(
     ensures same { AreSameSigners I.key I.faults keys.old keys.new }
     ensures failed { IsErrOf result SignError.Failed → SomeRose I.faults keys.old keys.new }
     ensures counts { CountSignings I.faults keys.old keys.new result }
-    ensures asks { AskSignings (length (map (set_at records.now) sets.now)) (counts_of I.asked keys.old) (counts_of I.asked keys.new) result }
+    ensures asks { AskSignings (period_of config.now) (map (set_at records.now) sets.now) (all_asked I.key I.asked I.given keys.old) (all_asked I.key I.asked I.given keys.new) result }
 {
     let mut message = Vec::new(alloc);
     for set in sets {
@@ -77,7 +77,7 @@ pub(crate) fn sign_behind<I: SignRaw>(
     ensures same { AreSameSigners I.key I.faults keys.old keys.new }
     ensures failed { IsErrOf result SignError.Failed → SomeRose I.faults keys.old keys.new }
     ensures counts { CountSignings I.faults keys.old keys.new result }
-    ensures asks { AskSignings (length (map (set_at records.old.items) sets.now)) (counts_of I.asked keys.old) (counts_of I.asked keys.new) result }
+    ensures asks { AskSignings (period_of config.now) (map (set_at records.old.items) sets.now) (all_asked I.key I.asked I.given keys.old) (all_asked I.key I.asked I.given keys.new) result }
 {
     let tags = tags_of(alloc, keys)?;
     records.reserve_exact(sets.len().saturating_mul(keys.len()))?;
@@ -101,7 +101,7 @@ fn sign_each_behind<I: SignRaw>(
     ensures same { AreSameSigners I.key I.faults keys.old keys.new }
     ensures failed { IsErrOf result SignError.Failed → SomeRose I.faults keys.old keys.new }
     ensures counts { CountSignings I.faults keys.old keys.new result }
-    ensures asks { AskSignings (length (map (set_at records.old.items) sets.now)) (counts_of I.asked keys.old) (counts_of I.asked keys.new) result }
+    ensures asks { AskSignings (period_of config.now) (map (set_at records.old.items) sets.now) (all_asked I.key I.asked I.given keys.old) (all_asked I.key I.asked I.given keys.new) result }
 {
     let mut message = Vec::new(alloc);
     let mut made = Vec::new(alloc);
@@ -140,7 +140,7 @@ fn sign_one_behind<I: SignRaw>(
     ensures same { AreSameSigners I.key I.faults keys.old keys.new }
     ensures failed { IsErrOf result SignError.Failed → SomeRose I.faults keys.old keys.new }
     ensures counts { CountSignings I.faults keys.old keys.new result }
-    ensures asks { AskSignings 1 (counts_of I.asked keys.old) (counts_of I.asked keys.new) result }
+    ensures asks { AskSignings (period_of config.now) (set_at records.old.items set ∷ []) (all_asked I.key I.asked I.given keys.old) (all_asked I.key I.asked I.given keys.new) result }
 {
     let members = members(records, set);
     sign_one(alloc, &members, keys, tags, config, message, made)?;
@@ -172,7 +172,7 @@ fn sign_one<I: SignRaw>(
     ensures same { AreSameSigners I.key I.faults keys.old keys.new }
     ensures failed { IsErrOf result SignError.Failed → SomeRose I.faults keys.old keys.new }
     ensures counts { CountSignings I.faults keys.old keys.new result }
-    ensures asks { AskSignings 1 (counts_of I.asked keys.old) (counts_of I.asked keys.new) result }
+    ensures asks { AskSignings (period_of config.now) (members_of set.now ∷ []) (all_asked I.key I.asked I.given keys.old) (all_asked I.key I.asked I.given keys.new) result }
 {
     for i in 0..keys.len() {
         let made = sign_set(alloc, &mut keys[i], tags[i], set, config, message)?;

@@ -4,8 +4,8 @@ ghost use Rattle.std.specs.Prelude.{◌≡◌, List, IfErr, OnOk, map};
 ghost use Rattle.dsec_spec.specs.CanonicalRecords.{AreOfOneClass, IsCanonical};
 ghost use Rattle.dsec_spec.specs.Records as entries;
 ghost use Rattle.dsec_rrsig.specs.Signers.{signer_of};
-ghost use Rattle.dsec_sign.specs.SignerAsks.{AskZone};
-ghost use Rattle.dsec_sign.specs.SignerFaults.{AreSameSigners, CountRefusals, SomeRose, counts_of};
+ghost use Rattle.dsec_sign.specs.SignerAsks.{AskZone, all_asked};
+ghost use Rattle.dsec_sign.specs.SignerFaults.{AreSameSigners, CountRefusals, SomeRose};
 ghost use Rattle.dsec_sign.specs.ZoneSigning.{IsZoneRefusal, SignsZone};
 
 use crate::config::SigningConfig;
@@ -40,7 +40,7 @@ pub trait SignableZone {
             (zone self.now) (T.records out.old) (T.records out.new) e) }
         ensures same { AreSameSigners I.key I.faults keys.old keys.new }
         ensures counts { CountRefusals I.faults keys.old keys.new result }
-        ensures asks { AskZone config.now.denial apex.now (zone self.now) (counts_of I.asked keys.old) (counts_of I.asked keys.new) result };
+        ensures asks { AskZone config.now apex.now (zone self.now) (all_asked I.key I.asked I.given keys.old) (all_asked I.key I.asked I.given keys.new) result };
 }
 
 impl SignableZone for Vec<Record> {
@@ -94,7 +94,7 @@ pub trait SignableZoneInPlace {
         ensures canonical { IsCanonical (zone self.new) }
         ensures same { AreSameSigners I.key I.faults keys.old keys.new }
         ensures counts { CountRefusals I.faults keys.old keys.new result }
-        ensures asks { AskZone config.now.denial apex.now (zone self.old) (counts_of I.asked keys.old) (counts_of I.asked keys.new) result };
+        ensures asks { AskZone config.now apex.now (zone self.old) (all_asked I.key I.asked I.given keys.old) (all_asked I.key I.asked I.given keys.new) result };
 }
 
 impl SignableZoneInPlace for Vec<Record> {

@@ -1,14 +1,14 @@
 //! The signatures of a zone (RFC 4035 2.2).
 
-ghost use Rattle.std.specs.Prelude.{◌≡◌, IfErr, IfOk, OnOk, length, map};
+ghost use Rattle.std.specs.Prelude.{◌≡◌, IfErr, IfOk, OnOk, map};
 ghost use Rattle.dsec_spec.specs.CanonicalRecords.{AreOfOneClass, IsCanonical};
 ghost use Rattle.dsec_spec.specs.Names.{place};
 ghost use Rattle.dsec_spec.specs.SignedZones.{AreZoneSignatures, sets_to_sign as zone_sets};
 ghost use Rattle.dsec_sorted.specs.IterViews.{left_of};
 ghost use Rattle.dsec_rrsig.specs.Signers.{period_of, signer_of};
 ghost use Rattle.dsec_sign.specs.Refusals.{AreAllowed, IsSetsRefusal};
-ghost use Rattle.dsec_sign.specs.SignerAsks.{AskRefusals};
-ghost use Rattle.dsec_sign.specs.SignerFaults.{AreSameSigners, CountRefusals, SomeRose, counts_of};
+ghost use Rattle.dsec_sign.specs.SignerAsks.{AskRefusals, all_asked};
+ghost use Rattle.dsec_sign.specs.SignerFaults.{AreSameSigners, CountRefusals, SomeRose};
 
 use crate::allowed::allow;
 use crate::signing::sign_sets;
@@ -37,7 +37,7 @@ pub fn sign_sorted_zone_records<I: SignRaw>(
         (SomeRose I.faults keys.old keys.new) e) }
     ensures same { AreSameSigners I.key I.faults keys.old keys.new }
     ensures counts { CountRefusals I.faults keys.old keys.new result }
-    ensures asks { AskRefusals (length (zone_sets (place apex.now) (left_of records.entry))) (counts_of I.asked keys.old) (counts_of I.asked keys.new) result }
+    ensures asks { AskRefusals (period_of config.now) (zone_sets (place apex.now) (left_of records.entry)) (all_asked I.key I.asked I.given keys.old) (all_asked I.key I.asked I.given keys.new) result }
 {
     let sets = sets_to_sign(alloc, apex, &records)?;
     allow(records.as_slice(), &sets, keys, config)?;

@@ -1,6 +1,6 @@
 //! A signer that fails at given calls.
 
-ghost use Rattle.std.specs.Prelude.{◌≡◌};
+ghost use Rattle.std.specs.Prelude.{◌≡◌, None};
 ghost use Rattle.dsec_rrsig.specs.Keys.{stand_in_signs};
 
 use dsec_name::NoMemory;
@@ -30,6 +30,8 @@ impl SignRaw for FailingKey {
     ghost faults = { λ it. it.faults };
 
     ghost asked = { λ it. it.calls };
+
+    ghost given = { λ _. None };
 
     fn algorithm(&self) -> SecurityAlgorithm {
         self.key.algorithm()

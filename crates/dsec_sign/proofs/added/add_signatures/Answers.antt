@@ -6,7 +6,7 @@ use Rattle.dsec_spec.specs.SignedZones.{IsUnion}
 use Rattle.dsec_rrsig.specs.Signers.{period_of, signer_of}
 use Rattle.dsec_sign.specs.Places.{set_at}
 use Rattle.dsec_rrsig.specs.declared.error.SignError.TheVariants as sign
-use Rattle.dsec_sign.specs.SignerFaults.{counts_of}
+use Rattle.dsec_sign.specs.SignerAsks.{all_asked}
 use Rattle.dsec_sign.proofs.AskSteps.{asked_at_most, asks_as}
 use Rattle.dsec_sign.proofs.SignerSteps.{drop_front, signatures_only}
 use Rattle.dsec_sign.proofs.added.add_signatures.Goals as goal
@@ -39,7 +39,8 @@ returns-clause-signed g c =
 
 pub returns-in_err-settle-clause-asks : goal.returns-in_err-settle-clause-asks
 returns-in_err-settle-clause-asks g c =
-    let sets = length (map (set_at c.args.records.now.items) c.args.sets.now) in
-    let old = counts_of g.I.SignRaw.asked c.args.keys.now in
-    let new = counts_of g.I.SignRaw.asked c.sign_behind.new.keys in
-    asks_as sets old new c.from_residual.result sign.NoMemory (search rules) (asked_at_most sets old new c.in_default.ensures.asks)
+    let period = period_of c.args.config.now in
+    let sets = map (set_at c.args.records.now.items) c.args.sets.now in
+    let old = all_asked g.I.SignRaw.key g.I.SignRaw.asked g.I.SignRaw.given c.args.keys.now in
+    let new = all_asked g.I.SignRaw.key g.I.SignRaw.asked g.I.SignRaw.given c.sign_behind.new.keys in
+    asks_as period sets old new c.from_residual.result sign.NoMemory (search rules) (asked_at_most period sets old new c.in_default.ensures.asks)

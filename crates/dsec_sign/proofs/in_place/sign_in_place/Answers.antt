@@ -1,4 +1,4 @@
-use Rattle.std.proofs.Common.{◌≡◌, ◌∙◌, List, map, sym, subst}
+use Rattle.std.proofs.Common.{◌≡◌, ◌∙◌, List, map, sym, subst, inr}
 use Rattle.dsec_spec.specs.Names.{place}
 use Rattle.dsec_spec.specs.Records.{Record}
 use Rattle.dsec_spec.specs.Signatures.{Period}
@@ -6,6 +6,7 @@ use Rattle.dsec_spec.specs.SignedZones.{AreZoneSignatures, IsUnion, sets_to_sign
 use Rattle.dsec_sorted.specs.IterViews.{left_of}
 use Rattle.dsec_rrsig.specs.Signers.{signer_of}
 use Rattle.dsec_sign.specs.Refusals.{AreAllowed, IsSetsRefusal}
+use Rattle.dsec_sign.specs.SignerAsks.{AreAsked, all_asked}
 use Rattle.dsec_sign.specs.SignerFaults.{SomeRose}
 use Rattle.dsec_sign.specs.ZoneChains.{IsChainOf}
 use Rattle.dsec_sign.proofs.ZoneLaws.{sets_refused, whole_class, zone_signed}
@@ -51,3 +52,15 @@ returns-in-Ok-clause-signed g c =
     zone_signed signs config signers apex old chain mid adds.signatures old mid c.add_zone_signatures.new.records.items made union
     (subst (λ (p : Period). AreZoneSignatures signs p signers (place apex) mid adds.signatures) c.rrsigs-rrsigs.ensures adds.signed)
     (subst (λ (p : Period). AreAllowed (sets_to_sign (place apex) mid) signers p) c.rrsigs-rrsigs.ensures c.in-Ok.ensures.allowed) union adds.added
+
+pub returns-in-Ok-clause-asks : goal.returns-in-Ok-clause-asks
+returns-in-Ok-clause-asks g c =
+    let old = c.args.records.now.items in
+    let apex = c.args.apex.now in
+    let config = c.args.config.now in
+    let mid = c.extend_sorted.new.records.items in
+    let chain = c.in_ok-chain.chain.items in
+    let made = subst (λ (xs : List Record). IsChainOf config.denial apex xs chain) (c.owners_of.ensures ∙ c.deref.ensures.value) c.in_ok-chain.ensures.chain in
+    let asks = subst (λ (p : Period). AreAsked p (sets_to_sign (place apex) mid) (all_asked g.I.SignRaw.key g.I.SignRaw.asked g.I.SignRaw.given c.args.keys.now) (all_asked g.I.SignRaw.key g.I.SignRaw.asked g.I.SignRaw.given c.add_zone_signatures.new.keys)) c.rrsigs-rrsigs.ensures
+    c.in-Ok.ensures.asks in
+    inr (record { chain = chain; made = made; whole = mid; merged = c.in_ok-extend_sorted.ensures.ok; asks = asks })

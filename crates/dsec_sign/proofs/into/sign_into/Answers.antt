@@ -1,4 +1,4 @@
-use Rattle.std.proofs.Common.{◌≡◌, ◌∙◌, List, length, map, sym, subst, inr, Err, rules}
+use Rattle.std.proofs.Common.{◌≡◌, ◌∙◌, List, map, sym, subst, inr, Err, rules}
 use Rattle.dsec_spec.specs.Names.{place}
 use Rattle.dsec_spec.specs.CanonicalRecords.{AreOfOneClass, IsCanonical}
 use Rattle.dsec_spec.specs.Records.{Record}
@@ -8,9 +8,10 @@ use Rattle.dsec_sorted.specs.IterViews.{left_of}
 use Rattle.dsec_rrsig.specs.Signers.{period_of, signer_of}
 use Rattle.dsec_rrsig.specs.declared.error.SignError.TheVariants as sign
 use Rattle.dsec_sign.specs.Refusals.{AreAllowed, IsSetsRefusal}
-use Rattle.dsec_sign.specs.SignerAsks.{AreAsked}
-use Rattle.dsec_sign.specs.SignerFaults.{SomeRose, counts_of}
+use Rattle.dsec_sign.specs.SignerAsks.{AreAsked, all_asked}
+use Rattle.dsec_sign.specs.SignerFaults.{SomeRose}
 use Rattle.dsec_sign.specs.ZoneChains.{IsChainOf}
+use Rattle.dsec_sign.specs.ZoneSigning.{zone_period}
 use Rattle.dsec_sign.proofs.AskSteps.{asked_at_most, refused_asked}
 use Rattle.dsec_sign.proofs.ZoneLaws.{sets_refused, whole_class, zone_signed}
 use Rattle.dsec_sign.proofs.into.sign_into.Goals as goal
@@ -77,13 +78,16 @@ returns-in-Ok-sorted_extend-clause-asks g c =
     let apex = c.args.apex.now in
     let chain = c.in_ok-chain.chain.items in
     let whole = c.in_ok-whole.whole.items in
-    let old = counts_of g.I.SignRaw.asked c.args.keys.now in
-    let new = counts_of g.I.SignRaw.asked c.sign_sorted_zone_records.new.keys in
+    let old = all_asked g.I.SignRaw.key g.I.SignRaw.asked g.I.SignRaw.given c.args.keys.now in
+    let new = all_asked g.I.SignRaw.key g.I.SignRaw.asked g.I.SignRaw.given c.sign_sorted_zone_records.new.keys in
     let made = subst (λ (xs : List Record). IsChainOf c.args.config.now.denial apex xs chain) c.owners_of.ensures c.in_ok-chain.ensures.chain in
     let merged = subst (λ (xs : List Record). IsUnion zone xs whole) c.deref.ensures.value c.in_ok-whole.ensures in
     let left : left_of c.owners_of-2.result ≡ whole = c.owners_of-2.ensures ∙ c.deref-2.ensures.value in
-    let asks : AreAsked (length (sets_to_sign (place apex) whole)) old new =
-    subst (λ (xs : List Record). AreAsked (length (sets_to_sign (place apex) xs)) old new) left c.in-Ok.ensures.asks in
+    let period = zone_period c.args.config.now in
+    let sets = sets_to_sign (place apex) whole in
+    let asks : AreAsked period sets old new =
+    subst (λ (p : Period). AreAsked p sets old new) c.rrsigs-rrsigs.ensures
+    (subst (λ (xs : List Record). AreAsked (period_of c.rrsigs-rrsigs.result) (sets_to_sign (place apex) xs) old new) left c.in-Ok.ensures.asks) in
     inr (record { chain = chain; made = made; whole = whole; merged = merged; asks = asks })
 
 pub returns-in-Ok-clause-asks : goal.returns-in-Ok-clause-asks
@@ -92,11 +96,14 @@ returns-in-Ok-clause-asks g c =
     let apex = c.args.apex.now in
     let chain = c.in_ok-chain.chain.items in
     let whole = c.in_ok-whole.whole.items in
-    let old = counts_of g.I.SignRaw.asked c.args.keys.now in
-    let new = counts_of g.I.SignRaw.asked c.sign_sorted_zone_records.new.keys in
+    let old = all_asked g.I.SignRaw.key g.I.SignRaw.asked g.I.SignRaw.given c.args.keys.now in
+    let new = all_asked g.I.SignRaw.key g.I.SignRaw.asked g.I.SignRaw.given c.sign_sorted_zone_records.new.keys in
     let made = subst (λ (xs : List Record). IsChainOf c.args.config.now.denial apex xs chain) c.owners_of.ensures c.in_ok-chain.ensures.chain in
     let merged = subst (λ (xs : List Record). IsUnion zone xs whole) c.deref.ensures.value c.in_ok-whole.ensures in
     let left : left_of c.owners_of-2.result ≡ whole = c.owners_of-2.ensures ∙ c.deref-2.ensures.value in
-    let asks : AreAsked (length (sets_to_sign (place apex) whole)) old new =
-    subst (λ (xs : List Record). AreAsked (length (sets_to_sign (place apex) xs)) old new) left c.in-Ok.ensures.asks in
-    inr (record { chain = chain; made = made; whole = whole; merged = merged; asks = refused_asked {T = Unit {0}} (length (sets_to_sign (place apex) whole)) old new (Err c.from.result) sign.NoMemory (search rules) (asked_at_most (length (sets_to_sign (place apex) whole)) old new asks) })
+    let period = zone_period c.args.config.now in
+    let sets = sets_to_sign (place apex) whole in
+    let asks : AreAsked period sets old new =
+    subst (λ (p : Period). AreAsked p sets old new) c.rrsigs-rrsigs.ensures
+    (subst (λ (xs : List Record). AreAsked (period_of c.rrsigs-rrsigs.result) (sets_to_sign (place apex) xs) old new) left c.in-Ok.ensures.asks) in
+    inr (record { chain = chain; made = made; whole = whole; merged = merged; asks = refused_asked {T = Unit {0}} period sets old new (Err c.from.result) sign.NoMemory (search rules) (asked_at_most period sets old new asks) })

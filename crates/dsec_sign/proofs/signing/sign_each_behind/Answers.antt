@@ -1,13 +1,13 @@
-use Rattle.std.proofs.Common.{◌≡◌, ◌∙◌, ◌<◌, List, map, ap, subst, arith, length, get_or, rules, ℕ, refl}
+use Rattle.std.proofs.Common.{◌≡◌, ◌∙◌, ◌<◌, ◌≤◌, List, [], ◌∷◌, map, ap, subst, arith, length, get_or, rules, refl}
 use Rattle.std.proofs.lemmas.List.{length-map, get_or-map}
 use Rattle.dsec_spec.specs.Records.{Record}
 use Rattle.dsec_spec.specs.Signatures.{Signer}
 use Rattle.dsec_rrsig.specs.Signers.{period_of, signer_of}
 use Rattle.dsec_sign.specs.Places.{set_at}
-use Rattle.dsec_sign.specs.SignerFaults.{AddsOfSet, counts_of}
+use Rattle.dsec_sign.specs.SignerFaults.{AddsOfSet}
 use Rattle.dsec_sign.specs.declared.zone_sets.SetAt.{SetAt}
-use Rattle.dsec_sign.specs.SignerAsks.{AreAsked}
-use Rattle.dsec_sign.proofs.AskSteps.{asks_as, none_asked, set_asked, set_in_vain}
+use Rattle.dsec_sign.specs.SignerAsks.{AreAsked, AreAskedAtMost, all_asked}
+use Rattle.dsec_sign.proofs.AskSteps.{all_sets, asks_as, none_asked, set_asked, set_in_vain}
 use Rattle.dsec_sign.proofs.FailureSteps.{counts_as, counts_then}
 use Rattle.dsec_sign.proofs.SignerSteps.{rose_then, same_at_first, no_sets, same_then, set_in_front, set_more, signable_in_front}
 use Rattle.dsec_sign.proofs.signing.sign_each_behind.Goals as goal
@@ -29,16 +29,28 @@ returns-in_err-sign_one_behind-clause-counts g c =
 
 pub returns-in_err-sign_one_behind-clause-asks : goal.returns-in_err-sign_one_behind-clause-asks
 returns-in_err-sign_one_behind-clause-asks g c =
-    let sets = map (set_at c.args.records.now.items) c.args.sets.now in
-    let lt : c.loop-set.set-index < length sets = omega (arith, c.loop-set-test.true, length-map c.args.sets.now (set_at c.args.records.now.items)) in
-    let old = counts_of g.I.SignRaw.asked c.args.keys.now in
-    asks_as (length sets) old _ c.from_residual.result c.in_err-sign_one_behind.field-0.0 (search rules)
-    (set_in_vain c.loop-set.set-index (length sets) old (counts_of g.I.SignRaw.asked c.loop-set.keys) (counts_of g.I.SignRaw.asked c.sign_one_behind.new.keys) lt c.loop-set.invariant.asks c.in_err-sign_one_behind.ensures.asks)
+    let records = c.args.records.now.items in
+    let sets = map (set_at records) c.args.sets.now in
+    let i = c.loop-set.set-index in
+    let zero : SetAt = record { start = 0; size = 0 } in
+    let item = get_or c.args.sets.now i zero in
+    let set = set_at records item in
+    let lt : i < length sets = omega (arith, c.loop-set-test.true, length-map c.args.sets.now (set_at records)) in
+    let adds = c.loop-set.invariant.adds in
+    let same : set_at c.loop-set.records.items item ≡ set =
+    ap (λ (xs : List Record). set_at xs item) adds.is ∙ set_in_front records adds.signatures item (c.requires.sets i zero c.loop-set-test.true).found.within in
+    let old = all_asked g.I.SignRaw.key g.I.SignRaw.asked g.I.SignRaw.given c.args.keys.now in
+    let mid = all_asked g.I.SignRaw.key g.I.SignRaw.asked g.I.SignRaw.given c.loop-set.keys in
+    let new = all_asked g.I.SignRaw.key g.I.SignRaw.asked g.I.SignRaw.given c.sign_one_behind.new.keys in
+    asks_as (period_of c.args.config.now) sets old new c.from_residual.result c.in_err-sign_one_behind.field-0.0 (search rules)
+    (set_in_vain (period_of c.args.config.now) sets i set lt (get_or-map (set_at records) c.args.sets.now i zero set c.loop-set-test.true) old mid new c.loop-set.invariant.asks
+    (subst (λ (xs : List Record). AreAskedAtMost (period_of c.args.config.now) (xs ∷ []) mid new) same c.in_err-sign_one_behind.ensures.asks))
 
 pub returns-clause-asks : goal.returns-clause-asks
 returns-clause-asks g c =
-    let all : c.loop-set.set-index ≡ length (map (set_at c.args.records.now.items) c.args.sets.now) = omega (arith, c.loop-set.auto.set-index-end, c.loop-set-test.false, length-map c.args.sets.now (set_at c.args.records.now.items)) in
-    subst (λ (n : ℕ). AreAsked n (counts_of g.I.SignRaw.asked c.args.keys.now) (counts_of g.I.SignRaw.asked c.loop-set.keys)) all c.loop-set.invariant.asks
+    let sets = map (set_at c.args.records.now.items) c.args.sets.now in
+    let all : length sets ≤ c.loop-set.set-index = omega (arith, c.loop-set.auto.set-index-end, c.loop-set-test.false, length-map c.args.sets.now (set_at c.args.records.now.items)) in
+    all_sets (period_of c.args.config.now) sets c.loop-set.set-index (all_asked g.I.SignRaw.key g.I.SignRaw.asked g.I.SignRaw.given c.args.keys.now) (all_asked g.I.SignRaw.key g.I.SignRaw.asked g.I.SignRaw.given c.loop-set.keys) all c.loop-set.invariant.asks
 
 pub loop-set-init : goal.loop-set-init
 loop-set-init g c =
@@ -47,7 +59,7 @@ loop-set-init g c =
     record {
       same = same_at_first g.I.SignRaw.key g.I.SignRaw.faults c.args.keys.now;
       quiet = refl;
-      asks = none_asked (counts_of g.I.SignRaw.asked c.args.keys.now);
+      asks = none_asked (period_of c.args.config.now) (all_asked g.I.SignRaw.key g.I.SignRaw.asked g.I.SignRaw.given c.args.keys.now);
       empty = search rules;
       adds = no_sets g.I.SignRaw.signs (period_of c.args.config.now) sets signers c.args.records.now.items;
     }
@@ -75,7 +87,9 @@ loop-set-preserved g c =
     record {
       same = same_then g.I.SignRaw.key g.I.SignRaw.faults c.args.keys.now c.loop-set.keys c.sign_one_behind.new.keys c.loop-set.invariant.same c.sign_one_behind.ensures.same;
       quiet = c.in_ok-sign_one_behind.ensures.counts ∙ c.loop-set.invariant.quiet;
-      asks = set_asked i (counts_of g.I.SignRaw.asked c.args.keys.now) (counts_of g.I.SignRaw.asked c.loop-set.keys) (counts_of g.I.SignRaw.asked c.sign_one_behind.new.keys) c.loop-set.invariant.asks c.in_ok-sign_one_behind.ensures.asks;
+      asks = set_asked period (map (set_at old) sets) i set (omega (arith, lt, length-map sets (set_at old))) (get_or-map (set_at old) sets i zero set lt) (all_asked g.I.SignRaw.key g.I.SignRaw.asked g.I.SignRaw.given c.args.keys.now)
+          (all_asked g.I.SignRaw.key g.I.SignRaw.asked g.I.SignRaw.given c.loop-set.keys) (all_asked g.I.SignRaw.key g.I.SignRaw.asked g.I.SignRaw.given c.sign_one_behind.new.keys) c.loop-set.invariant.asks
+          (subst (λ (xs : List Record). AreAsked period (xs ∷ []) (all_asked g.I.SignRaw.key g.I.SignRaw.asked g.I.SignRaw.given c.loop-set.keys) (all_asked g.I.SignRaw.key g.I.SignRaw.asked g.I.SignRaw.given c.sign_one_behind.new.keys)) same c.in_ok-sign_one_behind.ensures.asks);
       empty = c.in_ok-sign_one_behind.ensures.empty;
       adds = set_more signs period (map (set_at old) sets) signers i set old here new (omega (arith, lt, length-map sets (set_at old))) (get_or-map (set_at old) sets i zero set lt) adds more;
     }

@@ -1,11 +1,11 @@
-use Rattle.std.proofs.Common.{◌∙◌, List, length, sym, subst, rules}
+use Rattle.std.proofs.Common.{◌∙◌, List, sym, subst, rules}
 use Rattle.dsec_spec.specs.Names.{place}
 use Rattle.dsec_spec.specs.SignedZones.{sets_to_sign}
 use Rattle.dsec_spec.specs.CanonicalRecords.{AreOfOneClass}
 use Rattle.dsec_spec.specs.Records.{Record}
 use Rattle.dsec_sorted.specs.SetViews.{members_of}
 use Rattle.dsec_rrsig.specs.declared.error.SigningError.TheVariants as signing
-use Rattle.dsec_sign.specs.SignerFaults.{counts_of}
+use Rattle.dsec_sign.specs.SignerAsks.{all_asked}
 use Rattle.dsec_sign.proofs.AskSteps.{refused_unasked}
 use Rattle.dsec_sign.proofs.SetClass.{class_of_set}
 use Rattle.dsec_sign.proofs.signable.RrsetSignable.sign.Goals as goal
@@ -22,4 +22,4 @@ sign_sorted_zone_records-requires-clause-class g c =
 
 pub returns-in_err-records-clause-asks : goal.returns-in_err-records-clause-asks
 returns-in_err-records-clause-asks g c =
-    refused_unasked (length (sets_to_sign (place c.args.apex.now) (members_of c.args.self.now))) (counts_of g.I.SignRaw.asked c.args.keys.now) c.from_residual.result signing.OutOfMemory (search rules)
+    refused_unasked (record { inception = c.args.inception; expiration = c.args.expiration }) (sets_to_sign (place c.args.apex.now) (members_of c.args.self.now)) (all_asked g.I.SignRaw.key g.I.SignRaw.asked g.I.SignRaw.given c.args.keys.now) c.from_residual.result signing.OutOfMemory (search rules)
