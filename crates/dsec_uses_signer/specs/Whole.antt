@@ -5,6 +5,7 @@ use Rattle.dsec_spec.specs.Numbers.{DNSKEY}
 use Rattle.dsec_spec.specs.Outside.{SentFront}
 use Rattle.dsec_spec.specs.Records.{Record, key_of}
 use Rattle.dsec_spec.specs.Signatures.{IsSignature, Period, Signer}
+use Rattle.dsec_spec.specs.Signed.{IsZoneKey}
 use Rattle.dsec_spec.specs.SignedZones.{IsUnion}
 use Rattle.dsec_record_text.specs.Parts.{SentPart}
 use Rattle.dsec_record_text.specs.RecordText.{records_text}
@@ -23,11 +24,12 @@ abbrev pub listed : Option Record → List Record
 listed None = []
 listed (Some r) = r ∷ []
 
--- the record is the only one of a key, and this signs by that key as its owner (RFC 4034 2, 3.1.7)
+-- the record is the only one of a key, which is for zone data, and this signs by that key as its owner (RFC 4034 2, 2.1.1, 3.1.7)
 pub record IsOwnKey (zone : List Record) (own : Record) (by : Signer) : Type 0 where
   pub only : filter is_key zone ≡ own ∷ []
   pub owner : by.owner ≡ own.owner
   pub key : key_of own.rdata ≡ Some by.key
+  pub zone_key : IsZoneKey by.key
 
 -- by NSEC, with signatures that count from the moment 0 to the moment 1000 (RFC 4034 3.1.5)
 abbrev pub config : SigningConfig

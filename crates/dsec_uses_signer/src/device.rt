@@ -1,8 +1,9 @@
 //! A signer of one's own, behind the trait `SignRaw`.
 
-ghost use Rattle.std.specs.Prelude.{◌≡◌, ◌<◌, ◌≤◌, ◌+◌, length, IfOk, IsErrOf, IsOk};
+ghost use Rattle.std.specs.Prelude.{◌≡◌, ◌<◌, ◌≤◌, ◌+◌, length, IfOk, IsErrOf, IsOk, None};
 ghost use Rattle.dsec_spec.specs.Outside.{Rose, risen};
 ghost use Rattle.dsec_rrsig.specs.Failures.{CountsSigning};
+ghost use Rattle.dsec_rrsig.specs.Given.{NotesSigning};
 ghost use Rattle.dsec_rrsig.specs.Keys.{stand_in_signs};
 ghost use Rattle.dsec_wire.specs.Views.{key_view};
 
@@ -52,6 +53,9 @@ impl SignRaw for Device {
 
     ghost asked = { λ device. device.asked };
 
+    /// It keeps no list of what it was given, and so tells nothing of it.
+    ghost given = { λ _. None };
+
     fn algorithm(&self) -> SecurityAlgorithm {
         self.key.algorithm()
     }
@@ -75,6 +79,7 @@ impl SignRaw for Device {
         ensures failed { IsErrOf result SignError.Failed → Rose self.old.faults self.new.faults }
         ensures counts { CountsSigning self.old.faults self.new.faults result }
         ensures asks { self.new.asked ≡ risen self.old.asked }
+        ensures noted { NotesSigning message.now None None result }
     {
         self.asked = self.asked.saturating_add(1);
         if self.left == 0 {

@@ -3,12 +3,13 @@
 ghost use Rattle.std.specs.Prelude.{◌≡◌, ◌/◌, ◌%◌, ◌++◌, ◌∷◌, [], IfOk, cond, filter, option_map};
 ghost use Rattle.dsec_rrsig.specs.Signers.{signer_of};
 ghost use Rattle.dsec_uses_signer.specs.Whole.{IsOwnKey, is_key, listed};
+ghost use Rattle.dsec_wire.specs.Views.{key_view};
 
 use crate::device::Device;
 use anyhow::{Context, Result, bail, ensure};
 use dsec_number::Rtype;
 use dsec_sign::{SigningKey, StandInKey};
-use dsec_wire::Record;
+use dsec_wire::{Dnskey, Record};
 
 /// How many signatures the device gives.
 const MOST: u32 = 100;
@@ -44,6 +45,18 @@ fn only_key(records: &[Record]) -> Result<&Record>
     own.context("no key")
 }
 
+/// A device that signs by the key of a DNSKEY record's data.
+fn device_of(dnskey: &Dnskey<'_>) -> Result<Device>
+    ensures key { IfOk result (λ device. device.key ≡ key_view dnskey.now) }
+    ensures protocol { IfOk result (λ device. device.key.protocol ≡ 3) }
+    ensures left { IfOk result (λ device. device.left ≡ 100) }
+    ensures unasked { IfOk result (λ device. device.asked ≡ 0) }
+    ensures faultless { IfOk result (λ device. device.faults ≡ 0) }
+{
+    let key = StandInKey::from_dnskey(dnskey)?;
+    Ok(Device::new(key, MOST))
+}
+
 /// The key of a zone that has the record of one, which is to be for zone data (RFC 4034 2.1.1).
 pub fn own_key(records: &[Record]) -> Result<OwnKey>
     ensures own { IfOk result (λ own. IsOwnKey records.now own.record (signer_of (λ device. device.key) own.key)) }
@@ -57,7 +70,7 @@ pub fn own_key(records: &[Record]) -> Result<OwnKey>
     let Some(dnskey) = own.rdata().dnskey() else {
         bail!("no key");
     };
-    let device = Device::new(StandInKey::from_dnskey(&dnskey)?, MOST);
+    let device = device_of(&dnskey)?;
     let key = SigningKey::new(own.owner().clone()?, dnskey.flags, device);
     ensure!(key.is_zone_signing_key(), "no key for zone data");
     Ok(OwnKey {

@@ -1,9 +1,10 @@
 //! A zone, signed by its own key.
 
-ghost use Rattle.std.specs.Prelude.{◌≡◌, ◌∷◌, [], IfOk, OnOk};
-ghost use Rattle.dsec_rrsig.specs.Asks.{AsksRefusal};
+ghost use Rattle.std.specs.Prelude.{◌≡◌, ◌∷◌, [], IfOk, None, OnOk};
+ghost use Rattle.dsec_rrsig.specs.Asks.{AsksRefusal, asked_of};
 ghost use Rattle.dsec_rrsig.specs.Failures.{CountsRefusal};
 ghost use Rattle.dsec_rrsig.specs.Keys.{stand_in_signs};
+ghost use Rattle.dsec_rrsig.specs.Made.{message_for};
 ghost use Rattle.dsec_rrsig.specs.Signers.{signer_of};
 ghost use Rattle.dsec_sign.specs.ZoneSigning.{SignsZone, zone_period};
 ghost use Rattle.dsec_spec.specs.Outside.{risen};
@@ -70,14 +71,13 @@ fn key_signature(
     ensures kept { signer_of (λ device. device.key) key.new ≡ signer_of (λ device. device.key) key.old }
     ensures flags { key.new.flags ≡ key.old.flags }
     ensures counts { CountsRefusal key.old.inner.faults key.new.inner.faults result }
-    ensures asks { AsksRefusal key.old.inner.asked key.new.inner.asked result }
+    ensures asks { AsksRefusal (message_for (signer_of (λ device. device.key) key.old) (zone_period config.now) (own.now ∷ [])) (asked_of (λ device. device.key) (λ device. device.asked) (λ _. None) key.old) (asked_of (λ device. device.key) (λ device. device.asked) (λ _. None) key.new) result }
 {
     let set = Rrset::new_from_owned(slice::from_ref(own))?;
     sign_rrset(alloc, key, &set, config.inception, config.expiration)
 }
 
 /// Signs a zone by its own key, the set of the key too.
-#[tactic(auto, using(crate::proofs::WholeLaws::signed_whole))]
 fn sign_whole(alloc: Global, zone: &mut SortedRecords) -> Result<()>
     ensures { OnOk result (SignsWhole zone.old zone.new) }
 {

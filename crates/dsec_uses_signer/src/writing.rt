@@ -1,8 +1,8 @@
 //! A signed zone, written.
 
-ghost use Rattle.std.specs.Prelude.{◌≤◌, ◌⊎◌, OnErr, OnOk};
+ghost use Rattle.std.specs.Prelude.{◌≡◌, ◌≤◌, ◌⊎◌, OnErr, OnOk};
 ghost use Rattle.std.specs.Io.KnownBytes.{Keeps};
-ghost use Rattle.dsec_spec.specs.Outside.{Rose};
+ghost use Rattle.dsec_spec.specs.Outside.{Rose, risen};
 ghost use Rattle.dsec_uses_signer.specs.Whole.{WritesFront, WritesPart, WritesSigned};
 
 use crate::signing::signed_zone;
@@ -17,6 +17,8 @@ pub fn write_signed<K: Sink>(alloc: Global, text: &[u8], sink: &mut K) -> Result
     ensures front { OnErr result (Keeps (K.written sink.old) (K.written sink.new) ⊎ WritesFront text.now (K.written sink.old) (K.written sink.new)) }
     ensures failed { OnErr result (Keeps (K.written sink.old) (K.written sink.new) ⊎ (Rose (K.faults sink.old) (K.faults sink.new) ⊎ WritesPart text.now (K.written sink.old) (K.written sink.new))) }
     ensures later { K.faults sink.old ≤ K.faults sink.new }
+    ensures counts { OnOk result (K.faults sink.new ≡ K.faults sink.old) }
+    ensures counts_once { OnErr result ((K.faults sink.new ≡ K.faults sink.old) ⊎ (K.faults sink.new ≡ risen (K.faults sink.old))) }
 {
     let zone = signed_zone(alloc, text)?;
     match send_records(alloc, zone.as_slice(), sink) {
