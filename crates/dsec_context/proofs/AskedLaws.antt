@@ -23,7 +23,7 @@ use Rattle.dsec_context.proofs.CallLaws.{were_heard, heard_few}
 -- each answer counts the question of its step
 pub turned_asked : {V : Type 0} (w : World) (most : ℕ) (message : List ℕ) (table : Option Table) (before now next : Outside) (old new : Course)
     (step : CourseStep) (i : Input) (result : Result (Step V) Error) → IsAt w most message table before now old step
-    → IsServed w.accepts table now next step i → AdvancesTo (course_advanced w old i) new result
+    → IsServed w.accepts table now next step i → AdvancesTo (course_advanced w old i) old new result
     → IfOk result (λ x. length (asked_in new) ≡ length (asked_in old) + asks step)
 turned_asked w most message table before now next old new step i (Err e) at served a = tt
 turned_asked w most message table before now next old new step i (Ok x) (r, at, its, s) served a = by step i its served a
@@ -99,6 +99,6 @@ room_left w most message table before now course step (r, at, its, s) = by step 
 
 -- at the beginning nothing has been asked
 pub first_unasked : {V : Type 0} (w : World) (most : ℕ) (message : List ℕ) (old new : Course) (step : Step V) → begun w.anchors most message ≡ Ok old
-    → AdvancesTo (course_advanced w old begin) new (Ok step) → length (asked_in new) ≡ 0
+    → AdvancesTo (course_advanced w old begin) old new (Ok step) → length (asked_in new) ≡ 0
 first_unasked w most message old new step e a =
     ap (λ (p : Course × CourseStep). length (asked_in p.0)) a ∙ ap length (begins_unasked w most message old e)

@@ -66,13 +66,14 @@ sound_end w most message table before now r x s e =
 -- and its end has the groups by which the message is rewritten
 hands_on_at : (w : World) (most : ℕ) (message : List ℕ) (table : Option Table) (before now : Outside) (r : Run) (x : Result Outcome Refusal)
     → IsServing w most message table before now r → r.step ≡ end_with x
-    → IsToRewrite w most message (WasHeld w.accepts before.held) (asked_in r.course) x (to_rewrite (moment w) r.course)
+    → IsToRewrite w most message (WasHeld w.accepts before.held) (asked_in r.course) r.puts x (to_rewrite (moment w) r.course)
 hands_on_at w most message table before now r x s e = record {
   course = s.course;
   begins = s.begins;
   inputs = s.inputs;
   heard = s.heard;
   are = ap (λ (y : Run). asked_in y.course) (sym s.comes_to);
+  puts_are = ap (λ (y : Run). y.puts) (sym s.comes_to);
   ends = ap (λ (y : Run). y.step) s.comes_to ∙ e;
   groups_are = ap (λ (y : Run). to_rewrite (moment w) y.course) (sym s.comes_to);
 }

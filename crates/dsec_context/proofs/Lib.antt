@@ -14,3 +14,4 @@ pub mod ComingLaws
 pub mod LeavingLaws
 pub mod TableLaws
 pub mod AloneLaws
+pub mod PromiseLaws

@@ -37,21 +37,21 @@ served_answers accepts table before after (ask_for name rtype) waits stored s a 
 served_answers accepts table before after (end_with r) waits i s a = absurd s
 
 -- what a run comes to by an answer
-comes_by : {V : Type 0} (w : World) (most : ℕ) (message : List ℕ) (table : Option Table) (before now : Outside) (r : Run) (course : Course)
-    (result : Result (Step V) Error) → IsServing w most message table before now r → AdvancesTo (r.course, r.step) course result
+comes_by : {V : Type 0} (w : World) (most : ℕ) (message : List ℕ) (table : Option Table) (before now : Outside) (r : Run) (old course : Course)
+    (result : Result (Step V) Error) → IsServing w most message table before now r → AdvancesTo (r.course, r.step) old course result
     → IfOk result (λ x. IsAt w most message table before now course (step_view x))
-comes_by w most message table before now r course (Ok step) s e = (r, ap (λ (p : Course × CourseStep). p.0) (sym e), ap (λ (p : Course × CourseStep). p.1) (sym e), s)
-comes_by w most message table before now r course (Err e) s a = tt
+comes_by w most message table before now r old course (Ok step) s e = (r, ap (λ (p : Course × CourseStep). p.0) (sym e), ap (λ (p : Course × CourseStep). p.1) (sym e), s)
+comes_by w most message table before now r old course (Err e) s a = tt
 
 -- a step that was answered
 pub turned : {V : Type 0} (w : World) (most : ℕ) (message : List ℕ) (table : Option Table) (before now next : Outside) (old new : Course)
     (step : CourseStep) (i : Input) (result : Result (Step V) Error) → IsAt w most message table before now old step
-    → IsServed w.accepts table now next step i → AdvancesTo (course_advanced w old i) new result
+    → IsServed w.accepts table now next step i → AdvancesTo (course_advanced w old i) old new result
     → IfOk result (λ x. IsAt w most message table before next new (step_view x))
 turned w most message table before now next old new step i result (r, at, its, s) served e =
-    comes_by w most message table before next (ran_on w r i) new result
+    comes_by w most message table before next (ran_on w r i) old new result
     (serving_goes_on w most message table before now next r i s (subst (λ (x : CourseStep). IsServed w.accepts table now next x i) (sym its) served))
-    (subst (λ (c : Course). AdvancesTo (course_advanced w c i) new result) (sym at) e)
+    (subst (λ (c : Course). AdvancesTo (course_advanced w c i) old new result) (sym at) e)
 
 -- where it has come to, it waits for what answers its step
 pub at_awaits : (w : World) (most : ℕ) (message : List ℕ) (table : Option Table) (before now : Outside) (course : Course) (step : CourseStep)
@@ -68,15 +68,15 @@ asked_waits (ask_for name rtype) waits e a over = (subst (Awaits (ask_for name r
 
 -- the beginning
 pub first_turned : {V : Type 0} (w : World) (most : ℕ) (message : List ℕ) (table : Option Table) (before : Outside) (old new : Course)
-    (result : Result (Step V) Error) → begun w.anchors most message ≡ Ok old → AdvancesTo (course_advanced w old begin) new result
+    (result : Result (Step V) Error) → begun w.anchors most message ≡ Ok old → AdvancesTo (course_advanced w old begin) old new result
     → IfOk result (λ x. IsAt w most message table before before new (step_view x))
 first_turned w most message table before old new result e f =
-    comes_by w most message table before before (first_run w old) new result (serving_begins w most message table before old e) f
+    comes_by w most message table before before (first_run w old) old new result (serving_begins w most message table before old e) f
 
 -- and each answer brings it nearer to its end
 pub turned_nearer : {V : Type 0} (w : World) (most : ℕ) (message : List ℕ) (table : Option Table) (before now next : Outside) (old new : Course)
     (step : CourseStep) (i : Input) (result : Result (Step V) Error) → IsAt w most message table before now old step
-    → IsServed w.accepts table now next step i → AdvancesTo (course_advanced w old i) new result
+    → IsServed w.accepts table now next step i → AdvancesTo (course_advanced w old i) old new result
     → IfOk result (λ x. steps_left w new < steps_left w old)
 turned_nearer w most message table before now next old new step i (Err e) at served a = tt
 turned_nearer w most message table before now next old new step i (Ok x) (r, at, its, s) served a =

@@ -62,33 +62,34 @@ pub within_none : (w : World) (most : ℕ) (message : List ℕ) (table : Option 
 within_none w most message table before after j from h = record { judging = h; few = omega arith }
 
 -- what a run comes to by an answer
-comes_within : {V : Type 0} (w : World) (most : ℕ) (message : List ℕ) (table : Option Table) (before now : Outside) (r : Run) (course : Course) (from to : ℕ)
-    (result : Result (Step V) Error) → IsServing w most message table before now r → AdvancesTo (r.course, r.step) course result
+comes_within : {V : Type 0} (w : World) (most : ℕ) (message : List ℕ) (table : Option Table) (before now : Outside) (r : Run) (old course : Course) (from to : ℕ)
+    (result : Result (Step V) Error) → IsServing w most message table before now r → AdvancesTo (r.course, r.step) old course result
     → AreFew w r.course from to → CountsTo w most message table before now course from to result
-comes_within w most message table before now r course from to (Ok step) s e few =
+comes_within w most message table before now r old course from to (Ok step) s e few =
     subst (λ (c : Course). AreFew w c from to) (ap (λ (p : Course × CourseStep). p.0) (sym e)) few
-comes_within w most message table before now r course from to (Err FormError) s e few =
+comes_within w most message table before now r old course from to (Err FormError) s e few =
     let its = ap (λ (p : Course × CourseStep). p.1) (sym e) in
     subst (λ (c : Course). IsJudgingWithin w most message table before now (judgement_at w c (Err FormError)) from to) (ap (λ (p : Course × CourseStep). p.0) (sym e))
     (within w most message table before now (judgement_at w r.course (Err FormError)) (asked_in r.course) (length r.course.judged) from to
     (ends_refused w most message table before now r s its) (refused_asks w most message table before now r s its)
     (judged_few w most message table before now r s) few)
-comes_within w most message table before now r course from to (Err ParseError) s e few = absurd e
-comes_within w most message table before now r course from to (Err (InplaceError x)) s e few = absurd e
-comes_within w most message table before now r course from to (Err OctetsConversion) s e few = absurd e
-comes_within w most message table before now r course from to (Err PushError) s e few = absurd e
-comes_within w most message table before now r course from to (Err PushNameError) s e few = absurd e
-comes_within w most message table before now r course from to (Err ReadError) s e few = absurd e
-comes_within w most message table before now r course from to (Err ShortMessage) s e few = absurd e
-comes_within w most message table before now r course from to (Err NoMemory) s e few =
+comes_within w most message table before now r old course from to (Err ParseError) s e few = absurd e
+comes_within w most message table before now r old course from to (Err (InplaceError x)) s e few = absurd e
+comes_within w most message table before now r old course from to (Err OctetsConversion) s e few = absurd e
+comes_within w most message table before now r old course from to (Err PushError) s e few = absurd e
+comes_within w most message table before now r old course from to (Err PushNameError) s e few = absurd e
+comes_within w most message table before now r old course from to (Err ReadError) s e few = absurd e
+comes_within w most message table before now r old course from to (Err ShortMessage) s e few = absurd e
+comes_within w most message table before now r old course from to (Err NoMemory) s e few =
     within w most message table before now (judgement_at w course (Err NoMemory)) (asked_in r.course) (length r.course.judged) from to
-    (ends_without_memory w most message table before now r course s e.1) (without_memory_asks w most message table before now r course s e.1)
+    (ends_without_memory w most message table before now r course s (ap (λ (c : Course). c.judged) e))
+    (without_memory_asks w most message table before now r course s (ap (λ (c : Course). c.judged) e))
     (judged_few w most message table before now r s) few
 
 -- a step that was answered
 pub turned_within : {V : Type 0} (w : World) (most : ℕ) (message : List ℕ) (table : Option Table) (before now next : Outside) (old new : Course)
     (step : CourseStep) (i : Input) (from reached to : ℕ) (result : Result (Step V) Error) → IsAt w most message table before now old step
-    → IsServed w.accepts table now next step i → AdvancesTo (course_advanced w old i) new result
+    → IsServed w.accepts table now next step i → AdvancesTo (course_advanced w old i) old new result
     → AreFew w old from reached → to ≤ reached + most_checked_at w old.waits i * w.bounds.room
     → CountsTo w most message table before next new from to result
 turned_within w most message table before now next old new step i from reached to result (r, at, its, s) served e few more =
@@ -97,18 +98,18 @@ turned_within w most message table before now next old new step i from reached t
     let answers : CourseAnswers r.course.waits i = served_answers w.accepts table now next r.step r.course.waits i serves h.awaits in
     let here = subst (λ (c : Course). AreFew w c from reached) (sym at) few in
     let there = subst (λ (c : Course). to ≤ reached + most_checked_at w c.waits i * w.bounds.room) (sym at) more in
-    comes_within w most message table before next (ran_on w r i) new from to result
+    comes_within w most message table before next (ran_on w r i) old new from to result
     (serving_goes_on w most message table before now next r i s serves)
-    (subst (λ (c : Course). AdvancesTo (course_advanced w c i) new result) (sym at) e)
+    (subst (λ (c : Course). AdvancesTo (course_advanced w c i) old new result) (sym at) e)
     (spent (most_checked_at w r.course.waits i) (sets_so_far r.course) (sets_so_far (course_advanced w r.course i).0) w.bounds.room from reached to
     (course_counts w most message r.course i h.sound.0 answers) here there)
 
 -- the beginning
 pub first_within : {V : Type 0} (w : World) (most : ℕ) (message : List ℕ) (table : Option Table) (before : Outside) (old new : Course) (from to : ℕ)
-    (result : Result (Step V) Error) → begun w.anchors most message ≡ Ok old → AdvancesTo (course_advanced w old begin) new result
+    (result : Result (Step V) Error) → begun w.anchors most message ≡ Ok old → AdvancesTo (course_advanced w old begin) old new result
     → to ≤ from + most_checked_at w old.waits begin * w.bounds.room → CountsTo w most message table before before new from to result
 first_within w most message table before old new from to result e f more =
-    comes_within w most message table before before (first_run w old) new from to result (serving_begins w most message table before old e) f
+    comes_within w most message table before before (first_run w old) old new from to result (serving_begins w most message table before old e) f
     (spent (most_checked_at w old.waits begin) (sets_so_far old) (sets_so_far (course_advanced w old begin).0) w.bounds.room from from to
     (course_counts w most message old begin (begun_sound w most message old e) (begun_waits w.anchors most message old e).begins) (omega arith) more)
 

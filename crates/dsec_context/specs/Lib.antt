@@ -10,3 +10,4 @@ pub mod Setting
 pub mod Leaving
 pub mod Writing
 pub mod Handling
+pub mod Promised

@@ -1,17 +1,10 @@
 //! Contexts: what messages are judged by, and the nodes that are kept between them.
 
-ghost use Rattle.std.specs.Prelude.{◌≡◌, ◌≤◌, [], length, ⊤, Some, None, IfOk, IfSome};
-ghost use Rattle.dsec_nodes.specs.Alone.{sections_of};
-ghost use Rattle.dsec_nodes.specs.Outcomes.{secure};
+ghost use Rattle.std.specs.Prelude.{◌≡◌, [], Some, IfOk};
 ghost use Rattle.dsec_nodes.specs.SoundOutcomes.{IsJustified};
-ghost use Rattle.dsec_plain.specs.Coming.{HasNotOneQuestion, IsReadable};
-ghost use Rattle.dsec_plain.specs.PlainAnswers.{IsPlainAnswer};
-ghost use Rattle.dsec_found.specs.declared.error.Error.TheVariants.{ParseError};
 ghost use Rattle.dsec_node.specs.Caches.{held_in};
 ghost use Rattle.dsec_node.specs.Configs.{default_settings};
-ghost use Rattle.dsec_context.specs.Calls.{RefusedOrNoMemory, most_questions};
-ghost use Rattle.dsec_context.specs.Outside.{replies_of, HoldsTable};
-ghost use Rattle.dsec_context.specs.Handling.{IsByTable, IsHandling, IsRefusal, IsVerdict, LeavesWith, SaysOf};
+ghost use Rattle.dsec_context.specs.Promised.{HandsOnMessage};
 ghost use Rattle.dsec_context.specs.Setting.{world_at};
 
 use crate::validating::validate_in;
@@ -79,22 +72,10 @@ impl<V: Verifier> ValidationContext<V> {
         upstream: &mut U,
         now: u64,
     ) -> Result<Verdict<V>, Error>
-        ensures handled { IsHandling (world_at V.accepts self.old.anchors self.old.config now) self.old.config.max_cname_dname message.old (U.table upstream.old)
+        ensures handed_on { HandsOnMessage (world_at V.accepts self.old.anchors self.old.config now) self.old.config.max_cname_dname message.old (U.table upstream.old)
             (record { held = Some (held_in self.old.nodes); asked = U.asked upstream.old; faults = U.faults upstream.old; heard = U.heard upstream.old })
             (record { held = Some (held_in self.new.nodes); asked = U.asked upstream.new; faults = U.faults upstream.new; heard = U.heard upstream.new }) result message.new }
         ensures sound { IfOk result (λ v. IsJustified (world_at V.accepts self.old.anchors self.old.config now) self.old.config.max_cname_dname message.old v.outcome v.outcome.state) }
-        ensures told { IfSome (U.table upstream.old) (λ t. HoldsTable (world_at V.accepts self.old.anchors self.old.config now) (replies_of t) (Some (held_in self.old.nodes))
-            → IsByTable (world_at V.accepts self.old.anchors self.old.config now) self.old.config.max_cname_dname message.old
-            (record { held = Some (held_in self.new.nodes); asked = U.asked upstream.new; faults = U.faults upstream.new; heard = U.heard upstream.new }) result message.new (replies_of t)) }
-        ensures complete { IfSome (U.table upstream.old) (λ t. HoldsTable (world_at V.accepts self.old.anchors self.old.config now) (replies_of t) (Some (held_in self.old.nodes))
-            → IsPlainAnswer (world_at V.accepts self.old.anchors self.old.config now) (replies_of t) message.old
-            → IsVerdict (λ v. v.outcome.state ≡ secure) self.old.anchors self.old.config.max_cname_dname message.old result) }
-        ensures readable { (read : IsReadable message.old) → length read.questions ≡ 1 → IsVerdict (λ v. ⊤) self.old.anchors self.old.config.max_cname_dname message.old result }
-        ensures unreadable { sections_of message.old ≡ None → RefusedOrNoMemory ParseError result }
-        ensures not_one { HasNotOneQuestion message.old → IsRefusal self.old.anchors self.old.config.max_cname_dname message.old result }
-        ensures says { SaysOf self.old.anchors self.old.config.max_cname_dname message.old result }
-        ensures leaves { LeavesWith self.old.anchors self.old.config.max_cname_dname result message.old message.new }
-        ensures few { IfOk result (λ v. v.questions ≤ most_questions self.old.anchors self.old.config.max_cname_dname message.old) }
         ensures same_table { U.table upstream.new ≡ U.table upstream.old }
         ensures same_anchors { self.new.anchors ≡ self.old.anchors }
         ensures same_config { self.new.config ≡ self.old.config }

@@ -1,23 +1,17 @@
 //! Messages judged over caches, a memo and an upstream (RFC 4033 5, RFC 4035 4.3, 4.5, 5).
 
-ghost use Rattle.std.specs.Prelude.{◌≡◌, ◌<◌, ◌≤◌, ◌+◌, ℕ, List, length, ⊤, None, Ok, IfOk, IfSome, true};
+ghost use Rattle.std.specs.Prelude.{◌≡◌, ◌<◌, ◌≤◌, ◌+◌, ℕ, List, length, Ok, IfOk, true};
 ghost use Rattle.dsec_spec.specs.Records as records;
-ghost use Rattle.dsec_nodes.specs.Alone.{sections_of};
-ghost use Rattle.dsec_nodes.specs.Outcomes.{secure};
-ghost use Rattle.dsec_nodes.specs.SoundOutcomes.{IsJustified};
-ghost use Rattle.dsec_plain.specs.Coming.{HasNotOneQuestion, IsReadable};
-ghost use Rattle.dsec_plain.specs.PlainAnswers.{IsPlainAnswer};
-ghost use Rattle.dsec_found.specs.declared.error.Error.TheVariants.{FormError, ParseError};
 ghost use Rattle.dsec_node.specs.Views.{bounds_of, world_of};
 ghost use Rattle.dsec_course.specs.Advancing.{begun};
 ghost use Rattle.dsec_course.specs.Course.{asked_in, end_with};
 ghost use Rattle.dsec_core.specs.Validating.{most_of, with_course, world_by};
-ghost use Rattle.dsec_cut.specs.Ended.{AreJudged};
 ghost use Rattle.dsec_core.specs.Views.{step_view};
-ghost use Rattle.dsec_context.specs.Calls.{AgreesWith, CanCome, OkOrNoMemory, RefusedOrBogus, RefusedOrNoMemory, count_of, most_questions};
+ghost use Rattle.dsec_context.specs.Calls.{count_of, most_questions};
 ghost use Rattle.dsec_context.specs.Checked.{HeardWithin, IsJudgingWithin};
-ghost use Rattle.dsec_context.specs.Judgements.{GroupsAgree, IsJudging, judgement_at};
-ghost use Rattle.dsec_context.specs.Outside.{replies_of, HoldsTable, Outside};
+ghost use Rattle.dsec_context.specs.Judgements.{IsJudging, judgement_at};
+ghost use Rattle.dsec_context.specs.Outside.{Outside};
+ghost use Rattle.dsec_context.specs.Promised.{JudgesMessage};
 ghost use Rattle.dsec_context.specs.Turns.{ends, AreFew, IsAt};
 
 use crate::judgement::Judgement;
@@ -49,24 +43,9 @@ pub fn judge_in<V: Verifier, C: Caches<V>, M: Memo<V>, U: Upstream>(
     upstream: &mut U,
     now: u64,
 ) -> Judgement<V>
-    ensures judging { IsJudging (world_of V.accepts anchors.now (bounds_of config.now) now) config.now.max_cname_dname message.now (U.table upstream.old)
+    ensures judged { JudgesMessage (world_of V.accepts anchors.now (bounds_of config.now) now) config.now.max_cname_dname message.now (U.table upstream.old)
         (record { held = C.held caches.old; asked = U.asked upstream.old; faults = U.faults upstream.old; heard = U.heard upstream.old })
         (record { held = C.held caches.new; asked = U.asked upstream.new; faults = U.faults upstream.new; heard = U.heard upstream.new }) result }
-    ensures sound { IfOk result.answer (λ v. IsJustified (world_of V.accepts anchors.now (bounds_of config.now) now) config.now.max_cname_dname message.now v.outcome v.outcome.state) }
-    ensures told { IfSome (U.table upstream.old) (λ t. HoldsTable (world_of V.accepts anchors.now (bounds_of config.now) now) (replies_of t) (C.held caches.old)
-        → AgreesWith (world_of V.accepts anchors.now (bounds_of config.now) now) config.now.max_cname_dname message.now
-        (record { held = C.held caches.new; asked = U.asked upstream.new; faults = U.faults upstream.new; heard = U.heard upstream.new }) result.answer (replies_of t)) }
-    ensures complete { IfSome (U.table upstream.old) (λ t. HoldsTable (world_of V.accepts anchors.now (bounds_of config.now) now) (replies_of t) (C.held caches.old)
-        → IsPlainAnswer (world_of V.accepts anchors.now (bounds_of config.now) now) (replies_of t) message.now
-        → OkOrNoMemory (λ v. v.outcome.state ≡ secure) result.answer) }
-    ensures readable { (read : IsReadable message.now) → length read.questions ≡ 1 → OkOrNoMemory (λ v. ⊤) result.answer }
-    ensures unreadable { sections_of message.now ≡ None → RefusedOrNoMemory ParseError result.answer }
-    ensures not_one { HasNotOneQuestion message.now → RefusedOrBogus FormError result.answer }
-    ensures refusals { CanCome result.answer }
-    ensures few { IfOk result.answer (λ v. v.questions ≤ most_questions anchors.now config.now.max_cname_dname message.now) }
-    ensures groups_sound { IfSome result.groups (λ both. AreJudged (world_of V.accepts anchors.now (bounds_of config.now) now) config.now.max_cname_dname message.now both) }
-    ensures groups_told { IfSome (U.table upstream.old) (λ t. HoldsTable (world_of V.accepts anchors.now (bounds_of config.now) now) (replies_of t) (C.held caches.old)
-        → GroupsAgree (world_of V.accepts anchors.now (bounds_of config.now) now) config.now.max_cname_dname (replies_of t) message.now result) }
     ensures same_table { U.table upstream.new ≡ U.table upstream.old }
 {
     counted::<V, C, M, U, Brand>(
@@ -123,24 +102,9 @@ pub fn judge_counted_in<V: Verifier, C: Caches<V>, M: Memo<V>, U: Upstream, L: L
     now: u64,
     steps: &mut Steps<L>,
 ) -> Judgement<V>
-    ensures judging { IsJudging (world_of V.accepts anchors.now (bounds_of config.now) now) config.now.max_cname_dname message.now (U.table upstream.old)
+    ensures judged { JudgesMessage (world_of V.accepts anchors.now (bounds_of config.now) now) config.now.max_cname_dname message.now (U.table upstream.old)
         (record { held = C.held caches.old; asked = U.asked upstream.old; faults = U.faults upstream.old; heard = U.heard upstream.old })
         (record { held = C.held caches.new; asked = U.asked upstream.new; faults = U.faults upstream.new; heard = U.heard upstream.new }) result }
-    ensures sound { IfOk result.answer (λ v. IsJustified (world_of V.accepts anchors.now (bounds_of config.now) now) config.now.max_cname_dname message.now v.outcome v.outcome.state) }
-    ensures told { IfSome (U.table upstream.old) (λ t. HoldsTable (world_of V.accepts anchors.now (bounds_of config.now) now) (replies_of t) (C.held caches.old)
-        → AgreesWith (world_of V.accepts anchors.now (bounds_of config.now) now) config.now.max_cname_dname message.now
-        (record { held = C.held caches.new; asked = U.asked upstream.new; faults = U.faults upstream.new; heard = U.heard upstream.new }) result.answer (replies_of t)) }
-    ensures complete { IfSome (U.table upstream.old) (λ t. HoldsTable (world_of V.accepts anchors.now (bounds_of config.now) now) (replies_of t) (C.held caches.old)
-        → IsPlainAnswer (world_of V.accepts anchors.now (bounds_of config.now) now) (replies_of t) message.now
-        → OkOrNoMemory (λ v. v.outcome.state ≡ secure) result.answer) }
-    ensures readable { (read : IsReadable message.now) → length read.questions ≡ 1 → OkOrNoMemory (λ v. ⊤) result.answer }
-    ensures unreadable { sections_of message.now ≡ None → RefusedOrNoMemory ParseError result.answer }
-    ensures not_one { HasNotOneQuestion message.now → RefusedOrBogus FormError result.answer }
-    ensures refusals { CanCome result.answer }
-    ensures few { IfOk result.answer (λ v. v.questions ≤ most_questions anchors.now config.now.max_cname_dname message.now) }
-    ensures groups_sound { IfSome result.groups (λ both. AreJudged (world_of V.accepts anchors.now (bounds_of config.now) now) config.now.max_cname_dname message.now both) }
-    ensures groups_told { IfSome (U.table upstream.old) (λ t. HoldsTable (world_of V.accepts anchors.now (bounds_of config.now) now) (replies_of t) (C.held caches.old)
-        → GroupsAgree (world_of V.accepts anchors.now (bounds_of config.now) now) config.now.max_cname_dname (replies_of t) message.now result) }
     ensures checks { IsJudgingWithin (world_of V.accepts anchors.now (bounds_of config.now) now) config.now.max_cname_dname message.now (U.table upstream.old)
         (record { held = C.held caches.old; asked = U.asked upstream.old; faults = U.faults upstream.old; heard = U.heard upstream.old })
         (record { held = C.held caches.new; asked = U.asked upstream.new; faults = U.faults upstream.new; heard = U.heard upstream.new }) result steps.old steps.new }

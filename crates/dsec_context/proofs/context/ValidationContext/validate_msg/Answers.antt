@@ -1,8 +1,8 @@
 use Rattle.std.proofs.Common.{sym}
 use Rattle.dsec_context.proofs.context.ValidationContext.validate_msg.Goals as goal
 
-pub returns-clause-told : goal.returns-clause-told
-returns-clause-told g c = rw (sym c.self.view_is) c.validate_in.ensures.told
+pub returns-clause-handed_on : goal.returns-clause-handed_on
+returns-clause-handed_on g c = rw (sym c.self.view_is) c.validate_in.ensures.handed_on
 
-pub returns-clause-complete : goal.returns-clause-complete
-returns-clause-complete g c = rw (sym c.self.view_is) c.validate_in.ensures.complete
+pub returns-clause-sound : goal.returns-clause-sound
+returns-clause-sound g c = rw (sym c.self.view_is) c.validate_in.ensures.sound
