@@ -41,19 +41,19 @@ module _ (w : World) (most : ℕ) (message : List ℕ) (table : Table) (before a
       by (Err e) f = tt
       by (Ok v) f =
           let so = subst (λ (x : Result Verdict Error). IsAnswer w most message h.call.asked x) f h.call.so in
-          let heard = subst (λ (x : Result Verdict Error). HandsOn w most message (WasHeld w.accepts before.held) h.call.asked x j.groups) f h.hands_on in
+          let heard = subst (λ (x : Result Verdict Error). HandsOn w most message (WasHeld w.accepts before.held) h.call.asked h.call.puts x j.groups) f h.hands_on in
           record {
             asked = h.call.asked;
             as_many = so.0;
             replied = h.call.counted.told;
-            puts = (after_heard w (first_run w heard.course) heard.inputs).puts;
+            puts = h.call.puts;
             heard = record {
               course = heard.course;
               begins = heard.begins;
               inputs = heard.inputs;
               heard = heard_wider w (WasHeld w.accepts before.held) (Contains kept) (was_among w.accepts kept before.held held is among) heard.inputs (first_run w heard.course) heard.heard;
               are = heard.are;
-              puts_are = refl;
+              puts_are = heard.puts_are;
             };
             ends = heard.ends;
           }

@@ -33,7 +33,7 @@ no_refusal : (x : Script) (y : ScriptError) (read : Result Script ScriptError) �
 no_refusal x y read h k = cc
 
 -- a script is within the limit
-within : (v : List ℕ) (script : Script) → script_of v ≡ Ok script → length v ≤ limit
+pub within : (v : List ℕ) (script : Script) → script_of v ≡ Ok script → length v ≤ limit
 within v script h = by (nat_lt limit (length v)) refl
   where
     by : (t : Bool) → nat_lt limit (length v) ≡ t → length v ≤ limit
@@ -95,6 +95,13 @@ more_statuses status (inr (inl e)) = inr (inl e)
 more_statuses status (inr (inr (inl e))) = inr (inr (inr (inl e)))
 more_statuses status (inr (inr (inr e))) = inr (inr (inr (inr e)))
 
+-- what was done with the content was read
+was_read : (status : ℕ) → (status ≡ 0) ⊎ ((status ≡ 3) ⊎ ((status ≡ 5) ⊎ (status ≡ 6))) → status ≡ 4 → ⊥
+was_read status (inl e) four = omega (arith, e, four)
+was_read status (inr (inl e)) four = omega (arith, e, four)
+was_read status (inr (inr (inl e))) four = omega (arith, e, four)
+was_read status (inr (inr (inr e))) four = omega (arith, e, four)
+
 -- what was done with the content is what the run did
 pub run_of : (accepts : Accepts) (status : ℕ) (left rest before after : Option (List ℕ)) (v : List ℕ) → Consumes left rest v → (length v ≤ limit → IsAtEnd rest)
     → (status ≡ 0 → Answered accepts v before after) → (status ≡ 3 → RefusedAt v before after)
@@ -105,6 +112,7 @@ run_of accepts status left rest before after v c e answers refuses short sent st
   told = λ s. told_answer accepts left rest before after (done_of accepts left rest before after v c e (answers s));
   refused = λ s. record { content = v; read = c; refused = refuses s };
   first = λ s. told_refusal left rest before after v c e (refuses s);
+  unread = λ s. absurd (was_read status statuses s);
   short = λ s. stopped_of accepts left rest before after v c e (short s);
   front = headline.script v c sent;
   made = made_of accepts left rest before after v c e sent;
@@ -118,6 +126,7 @@ idle_run accepts status left rest sent (inl e) = record {
   told = λ s. absurd (omega (arith, s, e));
   refused = λ s. absurd (omega (arith, s, e));
   first = λ s. absurd (omega (arith, s, e));
+  unread = λ s. Keeps-refl sent;
   short = λ s. inl (Keeps-refl sent);
   front = headline.nothing (Keeps-refl sent);
   made = made_nothing accepts left sent;
@@ -128,6 +137,7 @@ idle_run accepts status left rest sent (inr e) = record {
   told = λ s. absurd (omega (arith, s, e));
   refused = λ s. absurd (omega (arith, s, e));
   first = λ s. absurd (omega (arith, s, e));
+  unread = λ s. Keeps-refl sent;
   short = λ s. inl (Keeps-refl sent);
   front = headline.nothing (Keeps-refl sent);
   made = made_nothing accepts left sent;

@@ -67,13 +67,14 @@ pub data WentOut (accepts : Accepts) (left rest before after : Option (List ℕ)
   script : (content : List ℕ) → Consumes left rest content → SentFor accepts content before after → WentOut accepts left rest before after
 
 -- A run of `validate` ended with the status. 0 and 3 are said twice: of what was read, and, where the source tells its octets, of its whole
--- content. At 6 nothing went out, or a part of the outcomes' text, and never all of it. At any status nothing went out, or a front of what the
--- content makes.
+-- content. At 4 nothing went out, and at 6 nothing, or a part of the outcomes' text, and never all of it. At any status nothing went out, or a
+-- front of what the content makes.
 pub record IsValidateRun (accepts : Accepts) (status : ℕ) (left rest before after : Option (List ℕ)) : Type 0 where
   pub done : status ≡ 0 → Done accepts left rest before after
   pub told : status ≡ 0 → IfSome left (λ content. Answered accepts content before after)
   pub refused : status ≡ 3 → Refuses left rest before after
   pub first : status ≡ 3 → IfSome left (λ content. RefusedAt content before after)
+  pub unread : status ≡ 4 → Keeps before after
   pub short : status ≡ 6 → Keeps before after ⊎ Stopped accepts left rest before after
   pub front : WentOut accepts left rest before after
   pub made : IfSome left (λ content. SentFor accepts content before after)

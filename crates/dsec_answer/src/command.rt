@@ -1,6 +1,6 @@
 //! The commands by their words.
 
-ghost use Rattle.std.specs.Prelude.{◌≡◌, ◌+◌, ◌↔◌, ◌⊎◌, IsTrue, Some, map, string_bytes};
+ghost use Rattle.std.specs.Prelude.{◌≡◌, ◌+◌, ◌↔◌, ◌⊎◌, IsTrue, Some, true, map, string_bytes};
 ghost use Rattle.dsec_crypto.specs.StandIn.{stand_in};
 ghost use Rattle.dsec_spec.specs.Outside.{Rose};
 ghost use Rattle.dsec_outside.specs.Ends.{TakesAtMost};
@@ -47,6 +47,8 @@ pub fn run<S: Source, K: Sink>(alloc: Global, words: &[String], source: &mut S, 
     ensures writes { K.faults sink.new ≡ counted_at 5 result (K.faults sink.old) }
     ensures within { TakesAtMost (limit + 1) (S.left source.old) (S.left source.new) }
     ensures ended { result ≡ 4 → S.ended source.new ≡ S.ended source.old }
+    ensures finished { result ≡ 0 → S.ended source.new ≡ true }
+    ensures all_read { result ≡ 7 → S.ended source.new ≡ true }
     ensures statuses { (result ≡ 0) ⊎ ((result ≡ 2) ⊎ ((result ≡ 3) ⊎ ((result ≡ 4) ⊎ ((result ≡ 5) ⊎ ((result ≡ 6) ⊎ (result ≡ 7)))))) }
 {
     run_by::<StandIn, S, K>(alloc, words, source, sink)
@@ -74,6 +76,8 @@ pub fn run_by<V: Verifier, S: Source, K: Sink>(
     ensures writes { K.faults sink.new ≡ counted_at 5 result (K.faults sink.old) }
     ensures within { TakesAtMost (limit + 1) (S.left source.old) (S.left source.new) }
     ensures ended { result ≡ 4 → S.ended source.new ≡ S.ended source.old }
+    ensures finished { result ≡ 0 → S.ended source.new ≡ true }
+    ensures all_read { result ≡ 7 → S.ended source.new ≡ true }
     ensures statuses { (result ≡ 0) ⊎ ((result ≡ 2) ⊎ ((result ≡ 3) ⊎ ((result ≡ 4) ⊎ ((result ≡ 5) ⊎ ((result ≡ 6) ⊎ (result ≡ 7)))))) }
 {
     if is_validate(words) {

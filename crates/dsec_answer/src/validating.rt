@@ -1,6 +1,6 @@
 //! The command `validate` over any source and sink.
 
-ghost use Rattle.std.specs.Prelude.{◌≡◌, ◌+◌};
+ghost use Rattle.std.specs.Prelude.{◌≡◌, ◌+◌, true};
 ghost use Rattle.dsec_spec.specs.Outside.{Rose};
 ghost use Rattle.dsec_outside.specs.Ends.{TakesAtMost};
 ghost use Rattle.dsec_outside.specs.Limit.{limit};
@@ -22,6 +22,7 @@ pub fn validate<V: Verifier, S: Source, K: Sink>(alloc: Global, source: &mut S, 
     ensures writes { K.faults sink.new ≡ counted_at 5 result (K.faults sink.old) }
     ensures within { TakesAtMost (limit + 1) (S.left source.old) (S.left source.new) }
     ensures ended { result ≡ 4 → S.ended source.new ≡ S.ended source.old }
+    ensures finished { result ≡ 0 → S.ended source.new ≡ true }
 {
     match read_all(alloc, source) {
         Ok(content) => answer::<V, K>(alloc, content, sink),

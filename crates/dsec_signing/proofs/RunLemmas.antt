@@ -114,6 +114,14 @@ more_statuses status (inr (inr (inl e))) = inr (inr (inr (inl e)))
 more_statuses status (inr (inr (inr (inl e)))) = inr (inr (inr (inr (inl e))))
 more_statuses status (inr (inr (inr (inr e)))) = inr (inr (inr (inr (inr e))))
 
+-- what was done with the content was read
+was_read : (status : ℕ) → (status ≡ 0) ⊎ ((status ≡ 3) ⊎ ((status ≡ 5) ⊎ ((status ≡ 6) ⊎ (status ≡ 7)))) → status ≡ 4 → ⊥
+was_read status (inl e) four = omega (arith, e, four)
+was_read status (inr (inl e)) four = omega (arith, e, four)
+was_read status (inr (inr (inl e))) four = omega (arith, e, four)
+was_read status (inr (inr (inr (inl e)))) four = omega (arith, e, four)
+was_read status (inr (inr (inr (inr e)))) four = omega (arith, e, four)
+
 -- what was done with the content is what the run did
 pub run_of : (said : SignWords) (status : ℕ) (left rest before after : Option (List ℕ)) (content : List ℕ) → Consumes left rest content → (length content ≤ limit → IsAtEnd rest)
     → (status ≡ 0 → SignedFrom said content before after) → (status ≡ 3 → RefusedAt content before after) → (status ≡ 7 → UnsignedFrom said content before after)
@@ -126,6 +134,7 @@ run_of said status left rest before after content taken whole done refuses not_s
   first = λ s. told_refusal left rest before after content taken whole (refuses s);
   unsigned = λ s. unsigned_of said left rest before after content taken whole (not_signed s);
   why = λ s. told_unsigned said left rest before after content taken whole (not_signed s);
+  unread = λ s. absurd (was_read status statuses s);
   short = λ s. short_of said left rest before after content taken whole (wants s);
   front = inr (sent_of said left rest before after content taken sent);
   made = made_of said left rest before after content taken whole sent;
@@ -155,6 +164,7 @@ idle_run said left sent = record {
   first = λ s. absurd (omega (arith, s));
   unsigned = λ s. absurd (omega (arith, s));
   why = λ s. absurd (omega (arith, s));
+  unread = λ s. Keeps-refl sent;
   short = λ s. inl (Keeps-refl sent);
   front = inl (Keeps-refl sent);
   made = made_nothing said left sent;

@@ -72,8 +72,8 @@ pub record HasReadAll (left rest : Option (List ℕ)) (Holds : List ℕ → Type
   pub holds : Holds content
 
 -- A run of the command with these words ended with the status. Each of 0, 3 and 7 is said twice: of what was read, and, where the source
--- tells its octets, of its whole content. At 6 nothing went out, or a part of the signed text, and never all of it. At any status nothing
--- went out, or a front of what the content makes.
+-- tells its octets, of its whole content. At 4 nothing went out, and at 6 nothing, or a part of the signed text, and never all of it. At any
+-- status nothing went out, or a front of what the content makes.
 pub record IsSignRun (words : SignWords) (status : ℕ) (left rest before after : Option (List ℕ)) : Type 0 where
   pub done : status ≡ 0 → HasReadAll left rest (λ content. SignedFrom words content before after)
   pub told : status ≡ 0 → IfSome left (λ content. SignedFrom words content before after)
@@ -81,6 +81,7 @@ pub record IsSignRun (words : SignWords) (status : ℕ) (left rest before after 
   pub first : status ≡ 3 → IfSome left (λ content. RefusedAt content before after)
   pub unsigned : status ≡ 7 → HasReadAll left rest (λ content. UnsignedFrom words content before after)
   pub why : status ≡ 7 → IfSome left (λ content. UnsignedFrom words content before after)
+  pub unread : status ≡ 4 → Keeps before after
   pub short : status ≡ 6 → Keeps before after ⊎ HasReadAll left rest (λ content. PartFrom words content before after)
   pub front : Keeps before after ⊎ HasRead left rest (λ content. SentFor words content before after)
   pub made : IfSome left (λ content. SentFor words content before after)

@@ -1,6 +1,6 @@
 //! The command over any source and sink.
 
-ghost use Rattle.std.specs.Prelude.{◌≡◌, ◌≤◌, ◌⊎◌, ◌+◌, ◌++◌, All, IfOk, IsErrOf, OnOk, length};
+ghost use Rattle.std.specs.Prelude.{◌≡◌, ◌≤◌, ◌⊎◌, ◌+◌, ◌++◌, All, IfOk, IsErrOf, OnOk, length, true};
 ghost use Rattle.std.specs.Io.KnownBytes.{Appends, Keeps};
 ghost use Rattle.dsec_spec.specs.Numbers.{IN};
 ghost use Rattle.dsec_spec.specs.Outside.{Rose, SentFront};
@@ -37,6 +37,8 @@ pub fn sign<S: Source, K: Sink>(alloc: Global, words: SignWords, source: &mut S,
     ensures writes { K.faults sink.new ≡ counted_at 5 result (K.faults sink.old) }
     ensures within { TakesAtMost (limit + 1) (S.left source.old) (S.left source.new) }
     ensures ended { result ≡ 4 → S.ended source.new ≡ S.ended source.old }
+    ensures finished { result ≡ 0 → S.ended source.new ≡ true }
+    ensures all_read { result ≡ 7 → S.ended source.new ≡ true }
 {
     match read_all(alloc, source) {
         Ok(content) => sign_content(alloc, words, content, sink),

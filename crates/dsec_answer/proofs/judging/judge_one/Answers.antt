@@ -18,11 +18,11 @@ returns-clause-holds g c =
     (held_in c.validate_msg.new.self.nodes)
     c.validate_msg.result c.requires.config (c.in-Ok.ensures.value ∙ copied) long c.requires.holds
     (λ h. record {
-      by_table = c.validate_msg.ensures.told h;
+      by_table = c.validate_msg.ensures.handed_on.told h;
       sound = c.validate_msg.ensures.sound;
-      few = c.validate_msg.ensures.few;
-      asked = λ kept among. call_asked _ _ _ _ _ _ (held_in c.args.context.now.nodes) kept refl among _ _ c.validate_msg.ensures.handled;
-      put = λ kept among. call_put _ _ _ _ _ _ (held_in c.args.context.now.nodes) kept refl among _ _ (held_in c.validate_msg.new.self.nodes) refl c.validate_msg.ensures.handled;
+      few = c.validate_msg.ensures.handed_on.few;
+      asked = λ kept among. call_asked _ _ _ _ _ _ (held_in c.args.context.now.nodes) kept refl among _ _ c.validate_msg.ensures.handed_on.handled;
+      put = λ kept among. call_put _ _ _ _ _ _ (held_in c.args.context.now.nodes) kept refl among _ _ (held_in c.validate_msg.new.self.nodes) refl c.validate_msg.ensures.handed_on.handled;
       now_is = refl;
     }) in
     judged.holds
@@ -37,11 +37,11 @@ returns-clause-outcome g c =
     (held_in c.validate_msg.new.self.nodes)
     c.validate_msg.result c.requires.config (c.in-Ok.ensures.value ∙ copied) long c.requires.holds
     (λ h. record {
-      by_table = c.validate_msg.ensures.told h;
+      by_table = c.validate_msg.ensures.handed_on.told h;
       sound = c.validate_msg.ensures.sound;
-      few = c.validate_msg.ensures.few;
-      asked = λ kept among. call_asked _ _ _ _ _ _ (held_in c.args.context.now.nodes) kept refl among _ _ c.validate_msg.ensures.handled;
-      put = λ kept among. call_put _ _ _ _ _ _ (held_in c.args.context.now.nodes) kept refl among _ _ (held_in c.validate_msg.new.self.nodes) refl c.validate_msg.ensures.handled;
+      few = c.validate_msg.ensures.handed_on.few;
+      asked = λ kept among. call_asked _ _ _ _ _ _ (held_in c.args.context.now.nodes) kept refl among _ _ c.validate_msg.ensures.handed_on.handled;
+      put = λ kept among. call_put _ _ _ _ _ _ (held_in c.args.context.now.nodes) kept refl among _ _ (held_in c.validate_msg.new.self.nodes) refl c.validate_msg.ensures.handed_on.handled;
       now_is = refl;
     }) in
     IfOk-weaker c.told.result _ _ (λ o e kept among. judged.outcome kept among o e) c.told.ensures
