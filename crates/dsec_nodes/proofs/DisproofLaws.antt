@@ -1,5 +1,5 @@
 -- What is proved of a name by a message's authority section is denied by groups that are shown, and what is left open is by one.
-use Rattle.std.proofs.Common.{◌≡◌, ℕ, List, [], ◌∷◌, map, refl, subst}
+use Rattle.std.proofs.Common.{◌≡◌, ℕ, List, [], ◌∷◌, map, Option, refl, subst}
 use Rattle.std.specs.List.{AllByRecursion}
 use Rattle.dsec_spec.specs.Names.{Place, place, IsAtOrBelow}
 use Rattle.dsec_spec.specs.Messages.{Question}
@@ -12,6 +12,7 @@ use Rattle.dsec_nsec3.specs.HashedProofs.{IsHashedProof}
 use Rattle.dsec_nsec3.specs.Openings.{Opening, OpensAt, opening_index}
 use Rattle.dsec_nsec3.specs.Conclusions.{Conclusion, proved, hash_proved}
 use Rattle.dsec_nodes.specs.World.{World, limits_of}
+use Rattle.dsec_nodes.specs.Causes.{Cause}
 use Rattle.dsec_nodes.specs.Judging.{Judged}
 use Rattle.dsec_nodes.specs.Outcomes.{Used}
 use Rattle.dsec_nodes.specs.ByDenial.{evidence_of, source_of, used_by, used_by_hash, used_to_open}
@@ -72,17 +73,17 @@ module _ (w : World) (authorities : List Group) (beside : List Judged) (same : m
       }
 
   -- what is left open of it is by a group that is shown
-  pub record OpenedBy (signer : Place) (o : Opening) : Type 0 where
+  pub record OpenedBy (signer : Place) (cause : Option Cause) (o : Opening) : Type 0 where
     pub its : Used
     pub found : used_to_open beside o ≡ its ∷ []
-    pub left_open : IsLeftOpenBy w authorities question signer its
+    pub left_open : IsLeftOpenBy w authorities question signer its cause
 
-  pub opened_is : (signer : Place) (o : Opening) → IsAtOrBelow (place question.name) signer
-      → OpensAt (limits_of w.bounds) question.class signer (map evidence_of beside) (place question.name) (opening_index o) → OpenedBy signer o
-  opened_is signer o within p =
-      let u = open_is w beside question.class signer founds question o refl within p in
+  pub opened_is : (signer : Place) (cause : Option Cause) (o : Opening) → IsAtOrBelow (place question.name) signer
+      → OpensAt (limits_of w.bounds) question.class signer (map evidence_of beside) (place question.name) cause (opening_index o) → OpenedBy signer cause o
+  opened_is signer cause o within p =
+      let u = open_is w beside question.class signer founds question cause o refl within p in
       record {
         its = u.its;
         found = u.found;
-        left_open = subst (λ (gs : List Group). IsLeftOpenBy w gs question signer u.its) same u.left_open;
+        left_open = subst (λ (gs : List Group). IsLeftOpenBy w gs question signer u.its cause) same u.left_open;
       }

@@ -110,7 +110,7 @@ module _ (w : World) (most : ℕ) (message : List ℕ) (asked : Question) (js be
   conclusion_justified : (signer : Place) → IsAtOrBelow name signer → (j : Judged) (c : Conclusion)
       → Concludes (limits_of w.bounds) (its_source signer) name question.rtype c
       → ((us : List Used) → DisprovedBy w authorities beside refl other_founds question signer c us → Means w most message (finished (secure_by (j ∷ []) us)))
-      → ((cause : Option Cause) (used : Used) → IsLeftOpenBy w authorities question signer used → Means w most message (finished (open_by cause (j ∷ []) (used ∷ []))))
+      → ((cause : Option Cause) (used : Used) → IsLeftOpenBy w authorities question signer used cause → Means w most message (finished (open_by cause (j ∷ []) (used ∷ []))))
       → Means w most message (finished (on_conclusion beside j c))
   conclusion_justified signer within j c its where_proved where_open = by c its where_proved
     where
@@ -120,7 +120,7 @@ module _ (w : World) (most : ℕ) (message : List ℕ) (asked : Question) (js be
       by (proved d) p shows = shows (used_by beside d) (disproved_is w authorities beside refl other_founds question signer d p)
       by (hash_proved d) p shows = shows (used_by_hash beside d) (hash_disproved_is w authorities beside refl other_founds question signer d p)
       by (left_open cause o) p shows =
-          let u = opened_is w authorities beside refl other_founds question signer o within p in
+          let u = opened_is w authorities beside refl other_founds question signer cause o within p in
           subst (λ (us : List Used). Means w most message (finished (open_by cause (j ∷ []) us))) (sym u.found) (where_open cause u.its u.left_open)
       by (unproved cause) p shows = (refl, tt)
 

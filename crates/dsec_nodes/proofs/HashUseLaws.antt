@@ -10,8 +10,9 @@ use Rattle.dsec_absence.specs.Evidence.{Evidence}
 use Rattle.dsec_nsec3.specs.Counting.{Counts, CountsAt}
 use Rattle.dsec_nsec3.specs.HashedDenials.{HashedDenial, type_gone, name_gone, wildcard_type_gone, closer_gone, hashed_used_in}
 use Rattle.dsec_nsec3.specs.HashedProofs.{is_empty, is_read, AreHashedReadOf, type_read, name_read, wildcard_read, closer_read}
-use Rattle.dsec_nsec3.specs.Openings.{Opening, opening_index, Opens, iterates, opts_out_of, OpensAt}
+use Rattle.dsec_nsec3.specs.Openings.{Opening, opening_index, Opens, iterates, opts_out_of, OpensTold, OpensAt}
 use Rattle.dsec_nodes.specs.World.{World, limits_of}
+use Rattle.dsec_nodes.specs.Causes.{Cause}
 use Rattle.dsec_nodes.specs.Judging.{Judged}
 use Rattle.dsec_nodes.specs.Outcomes.{Used}
 use Rattle.dsec_nodes.specs.ByDenial.{evidence_of, used_at, used_by_hash, used_to_open}
@@ -132,24 +133,24 @@ module _ (w : World) (js : List Judged) (class : ℕ) (signer : Place) (founds :
   opening_counts n e (opts_out_of counts flag covers may leaves) = (counts.is_nsec3.secure, counts.is_nsec3.no_expansion)
 
   -- the group that leaves something open, by its index
-  pub record IsOpenAt (question : Question) (o : Opening) : Type 0 where
+  pub record IsOpenAt (question : Question) (cause : Option Cause) (o : Opening) : Type 0 where
     pub its : Used
     pub found : used_to_open js o ≡ its ∷ []
-    pub left_open : IsLeftOpenBy w (map (λ (j : Judged). j.group) js) question signer its
+    pub left_open : IsLeftOpenBy w (map (λ (j : Judged). j.group) js) question signer its cause
 
-  pub open_is : (question : Question) (o : Opening) → question.class ≡ class → IsAtOrBelow (place question.name) signer
-      → OpensAt (limits_of w.bounds) class signer (map evidence_of js) (place question.name) (opening_index o) → IsOpenAt question o
-  open_is question o of_class within at =
+  pub open_is : (question : Question) (cause : Option Cause) (o : Opening) → question.class ≡ class → IsAtOrBelow (place question.name) signer
+      → OpensAt (limits_of w.bounds) class signer (map evidence_of js) (place question.name) cause (opening_index o) → IsOpenAt question cause o
+  open_is question cause o of_class within at =
       let x = judged_at (opening_index o) at.evidence at.stands in
-      let opens = subst (λ (y : Evidence). Opens (limits_of w.bounds) class signer (place question.name) y) (sym x.is) at.opens in
-      let both = opening_counts (place question.name) (evidence_of x.judged) opens in
+      let opens = subst (λ (y : Evidence). OpensTold (limits_of w.bounds) class signer cause (place question.name) y) (sym x.is) at.opens in
+      let both = opening_counts (place question.name) (evidence_of x.judged) opens.0 in
       record {
         its = record { index = opening_index o; judged = x.judged };
         found = one_found js (opening_index o) (record { index = opening_index o; judged = x.judged }) x.found;
         left_open = record {
           within = within;
           stands = x.stands;
-          opens = subst (λ (c : ℕ). Opens (limits_of w.bounds) c signer (place question.name) (evidence_of x.judged)) (sym of_class) opens;
+          opens = subst (λ (c : ℕ). OpensTold (limits_of w.bounds) c signer cause (place question.name) (evidence_of x.judged)) (sym of_class) opens;
           itself = evidence_shown w x.judged x.so both.0 both.1;
         };
       }

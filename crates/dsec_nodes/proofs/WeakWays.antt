@@ -140,7 +140,7 @@ module _ (w : World) (most : ℕ) (message : List ℕ) (asked : Question) (js be
         by (unproved cause) p f = absurd cc
         by (left_open cause o) p f =
             let same : aliases.by_opening o ≡ d = cc in
-            let u = opened_is w authorities beside refl other_founds (reached asked name) a.judged.signer o so.0 p in
+            let u = opened_is w authorities beside refl other_founds (reached asked name) a.judged.signer cause o so.0 p in
             let step_is : filter_map (used_at beside) (used_beside step.denial) ≡ u.its ∷ [] =
             ap (λ (y : Option Beside). filter_map (used_at beside) (used_beside y)) is_d
             ∙ (ap (λ (y : Beside). filter_map (used_at beside) (used_beside (Some y))) (sym same) ∙ u.found) in
@@ -155,7 +155,12 @@ module _ (w : World) (most : ℕ) (message : List ℕ) (asked : Question) (js be
                   (subst (λ (us : List Used). Contains us u.its) (sym step_is) (first_in u.its []));
               name = name;
               at_name = at_name;
-              left_open = u.left_open;
+              left_open = record {
+                within = u.left_open.within;
+                stands = u.left_open.stands;
+                opens = (u.left_open.opens.0, tt);
+                itself = u.left_open.itself;
+              };
               no_cause = refl;
               others = others;
               used = used;

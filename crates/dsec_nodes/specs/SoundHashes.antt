@@ -6,8 +6,9 @@ use Rattle.dsec_spec.specs.Groups.{Group}
 use Rattle.dsec_spec.specs.DenyingRecords.{Nsec3At}
 use Rattle.dsec_nsec3.specs.Counting.{Counts}
 use Rattle.dsec_nsec3.specs.HashedDenials.{HashedDenial, type_gone, name_gone, wildcard_type_gone, closer_gone, IsHashedDenial}
-use Rattle.dsec_nsec3.specs.Openings.{Opens}
+use Rattle.dsec_nsec3.specs.Openings.{OpensTold}
 use Rattle.dsec_nodes.specs.World.{World, limits_of}
+use Rattle.dsec_nodes.specs.Causes.{Cause}
 use Rattle.dsec_nodes.specs.Outcomes.{Used}
 use Rattle.dsec_nodes.specs.ByDenial.{evidence_of}
 use Rattle.dsec_nodes.specs.SoundFindings.{IsShownItself}
@@ -48,9 +49,10 @@ pub record IsHashDenied (w : World) (authorities : List Group) (question : Quest
 
 -- What is asked of the question's name, which is at or below the zone's apex, is left open by this group of the authority section, which the zone
 -- has signed, and which links show as above: an NSEC3 record with more iterations than are followed, and not so many that it is bogus; or with
--- Opt-Out, covering the name, one above it, or the wildcard under one above it (RFC 5155 6, RFC 9276 3.2)
-pub record IsLeftOpenBy (w : World) (authorities : List Group) (question : Question) (signer : Place) (u : Used) : Type 0 where
+-- Opt-Out, covering the name, one above it, or the wildcard under one above it; a cause that is told is the record's (RFC 5155 6, RFC 8914 4,
+-- RFC 9276 3.2)
+pub record IsLeftOpenBy (w : World) (authorities : List Group) (question : Question) (signer : Place) (u : Used) (cause : Option Cause) : Type 0 where
   pub within : IsAtOrBelow (place question.name) signer
   pub stands : slice_get authorities u.index ≡ Some u.judged.group
-  pub opens : Opens (limits_of w.bounds) question.class signer (place question.name) (evidence_of u.judged)
+  pub opens : OpensTold (limits_of w.bounds) question.class signer cause (place question.name) (evidence_of u.judged)
   pub itself : IsShownItself w u.judged

@@ -137,24 +137,25 @@ pub record HasSignaturesAlone (w : World) (most : ℕ) (message : List ℕ) (o :
   pub cause : o.cause ≡ Some RrsigWithoutRrset
   pub why : o.why ≡ by_nothing
 
--- or the message denies, links show the SOA set by which it does, and an NSEC3 record leaves open what is denied (RFC 5155 6, RFC 9276 3.2)
+-- or the message denies, links show the SOA set by which it does, and an NSEC3 record leaves open what is denied; a cause that is told is the
+-- record's (RFC 5155 6, RFC 8914 4, RFC 9276 3.2)
 pub record IsOpenDenial (w : World) (most : ℕ) (message : List ℕ) (o : Outcome) : Type 0 where
   pub judged : Judged
   pub has_soa : HasSoa w most message judged.group
   pub shown : IsShown w judged
   pub used : Used
-  pub left_open : IsLeftOpenBy w has_soa.end.authorities has_soa.end.question judged.signer used
+  pub left_open : IsLeftOpenBy w has_soa.end.authorities has_soa.end.question judged.signer used o.cause
   pub why : o.why ≡ by_groups (has_soa.end.aliases ++ judged ∷ []) (has_soa.end.beside ++ used ∷ [])
 
--- or links show the answer's set as an expansion of a wildcard, and an NSEC3 record leaves open whether a closer name exists (RFC 5155 6, 8.8,
--- RFC 9276 3.2)
+-- or links show the answer's set as an expansion of a wildcard, and an NSEC3 record leaves open whether a closer name exists; a cause that is told
+-- is the record's (RFC 5155 6, 8.8, RFC 8914 4, RFC 9276 3.2)
 pub record IsOpenByWildcard (w : World) (most : ℕ) (message : List ℕ) (o : Outcome) : Type 0 where
   pub judged : Judged
   pub answered : IsAnswered w most message judged.group
   pub encloser : Place
   pub expanded : IsShownFrom w judged encloser
   pub used : Used
-  pub left_open : IsLeftOpenBy w answered.end.authorities answered.end.question judged.signer used
+  pub left_open : IsLeftOpenBy w answered.end.authorities answered.end.question judged.signer used o.cause
   pub why : o.why ≡ by_groups (answered.end.aliases ++ judged ∷ []) (answered.end.beside ++ used ∷ [])
 
 -- or so does a signed record of an alias on the way, which is kept with the alias; no cause is told (RFC 4033 5, RFC 4035 5.2)
@@ -183,7 +184,7 @@ pub record HasOpenAlias (w : World) (most : ℕ) (message : List ℕ) (o : Outco
   pub kept : Contains end.beside one
   pub name : Labels
   pub at_name : place alias.group.owner ≡ place name
-  pub left_open : IsLeftOpenBy w end.authorities (reached end.asked name) alias.signer one
+  pub left_open : IsLeftOpenBy w end.authorities (reached end.asked name) alias.signer one None
   pub no_cause : o.cause ≡ None
   pub others : List Judged
   pub used : List Used

@@ -26,7 +26,7 @@ use Rattle.dsec_nsec3.proofs.WalkLaws.{next_is}
 abbrev pub Concludes : HashLimits → Source → Place → ℕ → Conclusion → Type 0
 Concludes limits s n q (proved d) = Proves s n q d
 Concludes limits s n q (hash_proved d) = IsHashedProof limits s.class s.signer s.groups n q d
-Concludes limits s n q (left_open cause o) = OpensAt limits s.class s.signer s.groups n (opening_index o)
+Concludes limits s n q (left_open cause o) = OpensAt limits s.class s.signer s.groups n cause (opening_index o)
 Concludes limits s n q (unproved cause) = Unit {0}
 
 module _ (limits : HashLimits) (s : Source) (n : Place) (q : ℕ) where
@@ -95,7 +95,9 @@ module _ (limits : HashLimits) (s : Source) (n : Place) (within : IsAtOrBelow n 
             read = closer_read (record { evidence = x.0; stands = x.1; counts = x.2.counts });
             denial = λ small. laws.closer_denied s.signer x.2.r n c q (record { next = next_closer n c; closer = closer; covered = x.2.covered }) x.2.no_own w;
           }
-      told w (opened cause o) a = open_at limits s n (opening_index o) a
+      told w (opened cause o) a =
+          let x = open_at limits s n cause (opening_index o) a in
+          record { evidence = x.evidence; stands = x.stands; opens = (x.opens.0, tt) }
       told w (broken cause) a = tt
       told w (unshown cause) a = tt
 

@@ -1,6 +1,8 @@
 -- What the calls by NSEC3 records deny is denied by records that count, and what they leave open a record that counts leaves open (RFC 5155 8.4 to
 -- 8.8, RFC 9276 3.2).
 use Rattle.std.proofs.Common.{◌≡◌, ℕ, Bool, true, false, ◌∷◌, [], length, length-append, Option, Some, None, refl, ap, subst, inl, inr, arith}
+use Rattle.dsec_cause.specs.declared.cause.Cause.{Cause}
+use Rattle.dsec_cause.specs.declared.cause.Cause.TheVariants.{Nsec3OptOut}
 use Rattle.dsec_spec.specs.Names.{Place, asterisk, IsAtOrBelow, IsStrictlyBelow}
 use Rattle.dsec_spec.specs.Zones.{wildcard}
 use Rattle.dsec_spec.proofs.NamesBelow.{below_trans, at_or_below, same_or_below, strictly_below_trans, ancestors_comparable}
@@ -11,7 +13,7 @@ use Rattle.dsec_nsec3.specs.Counting.{HashLimits, End, too_many_iterations, many
 use Rattle.dsec_nsec3.specs.HashedDenials.{HashedDenial, type_gone, name_gone, wildcard_type_gone}
 use Rattle.dsec_nsec3.specs.HashedProofs.{type_read, name_read, wildcard_read, IsHashedProof}
 use Rattle.dsec_nsec3.specs.Walks.{Walk, gone, barred, halted, exhausted, unfound, nsec3_for_not_exists}
-use Rattle.dsec_nsec3.specs.Openings.{by_opt_out, opening_index, LeavesOpen, at_or_above, at_wildcard, Opens, OpensAt}
+use Rattle.dsec_nsec3.specs.Openings.{by_opt_out, opening_index, LeavesOpen, at_or_above, at_wildcard, OpensTold, OpensAt}
 use Rattle.dsec_nsec3.specs.HashedAnswers.{Hashed, disproved, opened, broken, unshown, told_by_end, next_closer, as_told, type_by_hash, nsec3_for_nodata, nsec3_for_not_exists_no_ce, told_under_opt_out, told_of_both, told_by_walk, nsec3_for_nodata_wildcard, nsec3_for_nxdomain}
 use Rattle.dsec_nsec3.proofs.CountingLaws.{StopsBy, At, at_index}
 use Rattle.dsec_nsec3.proofs.HashDenialLaws as laws
@@ -21,7 +23,7 @@ use Rattle.dsec_nsec3.proofs.TellingLaws.{IsOwn, IsClosed, TellsOf, many_open, t
 -- what is told of a denial at a name: the groups of a source prove it; or the group at an index leaves the name open
 abbrev pub Told : HashLimits → Source → Place → ℕ → Hashed (HashedDenial ℕ) → Type 0
 Told limits s n q (disproved d) = IsHashedProof limits s.class s.signer s.groups n q d
-Told limits s n q (opened cause o) = OpensAt limits s.class s.signer s.groups n (opening_index o)
+Told limits s n q (opened cause o) = OpensAt limits s.class s.signer s.groups n cause (opening_index o)
 Told limits s n q (broken cause) = Unit {0}
 Told limits s n q (unshown cause) = Unit {0}
 
@@ -46,8 +48,9 @@ under_wildcard signer n c nc cs m (at_or_above h w) =
 under_wildcard signer n c nc cs m (at_wildcard {c = e} h w) = at_wildcard (strictly_below_trans n c e nc (parent_below c e h)) w
 
 -- the group at an index, as one of a list
-pub open_at : (limits : HashLimits) (s : Source) (n : Place) (i : ℕ) → At (Opens limits s.class s.signer n) 0 s.groups i → OpensAt limits s.class s.signer s.groups n i
-open_at limits s n i a = let x = at_index (Opens limits s.class s.signer n) s.groups i a in record { evidence = x.0; stands = x.1; opens = x.2 }
+pub open_at : (limits : HashLimits) (s : Source) (n : Place) (cause : Option Cause) (i : ℕ) → At (OpensTold limits s.class s.signer cause n) 0 s.groups i
+    → OpensAt limits s.class s.signer s.groups n cause i
+open_at limits s n cause i a = let x = at_index (OpensTold limits s.class s.signer cause n) s.groups i a in record { evidence = x.0; stands = x.1; opens = x.2 }
 
 module _ (limits : HashLimits) (s : Source) (n : Place) (within : IsAtOrBelow n s.signer) where
   -- a group that ends a call
@@ -70,7 +73,7 @@ module _ (limits : HashLimits) (s : Source) (n : Place) (within : IsAtOrBelow n 
             read = type_read (record { evidence = x.0; stands = x.1; counts = x.2.counts });
             denial = λ small. laws.type_denied s.signer x.2.r n q small x.2.same x.2.without;
           }
-      by (opened cause o) a = open_at limits s n (opening_index o) a
+      by (opened cause o) a = open_at limits s n cause (opening_index o) a
       by (broken cause) a = tt
       by (unshown cause) a = tt
 
@@ -79,8 +82,8 @@ module _ (limits : HashLimits) (s : Source) (n : Place) (within : IsAtOrBelow n 
       → Told limits s n q (told_under_opt_out (by_opt_out i (next_closer n c)) t)
   under_opt_out q c h i g t = by t
     where
-      covering : OpensAt limits s.class s.signer s.groups n i
-      covering = open_at limits s n i (gone_opens limits s n c h i g n (next_leaves limits s n c h i true g))
+      covering : OpensAt limits s.class s.signer s.groups n (Some Nsec3OptOut) i
+      covering = open_at limits s n (Some Nsec3OptOut) i (gone_opens limits s n c h i g n (next_leaves limits s n c h i true g))
 
       by : (t : Hashed ℕ) → Told limits s n q (told_under_opt_out (by_opt_out i (next_closer n c)) t)
       by (disproved j) = covering
@@ -99,7 +102,7 @@ module _ (limits : HashLimits) (s : Source) (n : Place) (within : IsAtOrBelow n 
       where
         closed : IsShownGone limits s n c h i false → (t : Hashed ℕ) → TellsOf limits s (P (wildcard c)) n t → Told limits s n q (as_told (denial c h i) t)
         closed g (disproved j) a = proves c h i j g a
-        closed g (opened cause o) a = open_at limits s n (opening_index o) a
+        closed g (opened cause o) a = open_at limits s n cause (opening_index o) a
         closed g (broken cause) a = tt
         closed g (unshown cause) a = tt
 

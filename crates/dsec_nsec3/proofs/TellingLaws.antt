@@ -1,7 +1,7 @@
 -- What is told of a type at a name, and of a name that is to be covered, is told by records that count (RFC 5155 8.4 to 8.8, RFC 9276 3.2).
 use Rattle.std.proofs.Common.{◌≡◌, ℕ, ◌+◌, ◌==◌, Bool, true, false, cond, List, [], ◌∷◌, map, length, length-append, Option, Some, None, refl, sym, ap, ◌∙◌, arith}
 use Rattle.std.proofs.lemmas.Bool.{true≢false, and_from}
-use Rattle.dsec_cause.specs.declared.cause.Cause.TheVariants.{Nsec3DnameOrDelegation}
+use Rattle.dsec_cause.specs.declared.cause.Cause.TheVariants.{Nsec3DnameOrDelegation, Nsec3OptOut, Nsec3IterationsInsecure}
 use Rattle.dsec_spec.specs.Names.{Place, IsAtOrBelow}
 use Rattle.dsec_spec.specs.Numbers.{DS}
 use Rattle.dsec_spec.specs.DenyingRecords.{Nsec3At, opts_out, MatchesHash}
@@ -14,7 +14,7 @@ use Rattle.dsec_nsec3.specs.Counting.{HashLimits, Counts, End, too_many_iteratio
 use Rattle.dsec_nsec3.specs.HashedDenials.{IsCovered, IsNoOwnDname, IsAtEncloser, IsPlainEncloser}
 use Rattle.dsec_nsec3.specs.Tests.{matches_hash, covers_hash, own_hash_shows, is_own_dname}
 use Rattle.dsec_nsec3.specs.Walks.{Walk, gone, barred, halted, exhausted, unfound, nsec3_for_not_exists}
-use Rattle.dsec_nsec3.specs.Openings.{by_opt_out, opening_index, MayLeaveOpen, LeavesOpen, at_or_above, Opens, iterates, opts_out_of}
+use Rattle.dsec_nsec3.specs.Openings.{by_opt_out, opening_index, MayLeaveOpen, LeavesOpen, at_or_above, iterates, opts_out_of, OpensTold}
 use Rattle.dsec_nsec3.specs.HashedAnswers.{Hashed, disproved, opened, broken, unshown, told_by_end, told_by_shown, type_from, next_closer, ds_by_walk, type_by_hash, told_by_covering, cover_from}
 use Rattle.dsec_nsec3.proofs.HashTests.{matches_decides, covers_decides, IsWithout, without_is}
 use Rattle.dsec_nsec3.proofs.CountingLaws.{StopsBy, Sights, sighting_is, At, at_first, at_later}
@@ -24,23 +24,23 @@ module _ (limits : HashLimits) (class : ℕ) (signer : Place) where
   -- what is told, from an index on: of a group by which something is disproved, or which leaves a name open
   abbrev pub Tells : (Evidence → Type 0) → Place → ℕ → List Evidence → Hashed ℕ → Type 0
   Tells P x i es (disproved k) = At P i es k
-  Tells P x i es (opened cause o) = At (Opens limits class signer x) i es (opening_index o)
+  Tells P x i es (opened cause o) = At (OpensTold limits class signer cause x) i es (opening_index o)
   Tells P x i es (broken cause) = Unit {0}
   Tells P x i es (unshown cause) = Unit {0}
 
   tells_later : (P : Evidence → Type 0) (x : Place) (i : ℕ) (e : Evidence) (es : List Evidence) (t : Hashed ℕ) → Tells P x (i + 1) es t → Tells P x i (e ∷ es) t
   tells_later P x i e es (disproved k) h = at_later P i e es k h
-  tells_later P x i e es (opened cause o) h = at_later (Opens limits class signer x) i e es (opening_index o) h
+  tells_later P x i e es (opened cause o) h = at_later (OpensTold limits class signer cause x) i e es (opening_index o) h
   tells_later P x i e es (broken cause) h = tt
   tells_later P x i e es (unshown cause) h = tt
 
   -- a group that ends a call leaves any name open, where its iterations are many (RFC 9276 3.2)
-  pub many_open : (x : Place) (e : Evidence) → StopsBy limits class signer many_iterations e → Opens limits class signer x e
-  many_open x e h = iterates h.is_nsec3 h.ends.0 h.ends.1
+  pub many_open : (x : Place) (e : Evidence) → StopsBy limits class signer many_iterations e → OpensTold limits class signer (Some Nsec3IterationsInsecure) x e
+  many_open x e h = (iterates h.is_nsec3 h.ends.0 h.ends.1, refl)
 
   end_tells : (P : Evidence → Type 0) (x : Place) (i : ℕ) (e : Evidence) (es : List Evidence) (why : End) → StopsBy limits class signer why e → Tells P x i (e ∷ es) (told_by_end i why)
   end_tells P x i e es too_many_iterations h = tt
-  end_tells P x i e es many_iterations h = at_first (Opens limits class signer x) i e es (many_open x e h)
+  end_tells P x i e es many_iterations h = at_first (OpensTold limits class signer (Some Nsec3IterationsInsecure) x) i e es (many_open x e h)
   end_tells P x i e es bad_owner_hash h = tt
 
   -- the group counts, and its record is the name's own, without the type (RFC 5155 8.5, 8.6)
@@ -96,7 +96,7 @@ module _ (limits : HashLimits) (class : ℕ) (signer : Place) where
       covering : (r : Nsec3At) → Counts limits class signer e r → covers_hash r n ≡ true → (o : Bool) → is_own_dname signer r ≡ o → (p : Bool) → opts_out r ≡ p
           → Tells (IsClosed n) x i (e ∷ es) (cond o (unshown (Some Nsec3DnameOrDelegation)) (cond p (opened None (by_opt_out i n)) (disproved i)))
       covering r c f true g p h = tt
-      covering r c f false g true h = at_first (Opens limits class signer x) i e es (opts_out_of c h ((covers_decides r n).0 f) (λ _ _. not_own r g) leaves)
+      covering r c f false g true h = at_first (OpensTold limits class signer None x) i e es (opts_out_of c h ((covers_decides r n).0 f) (λ _ _. not_own r g) leaves, tt)
       covering r c f false g false h = at_first (IsClosed n) i e es (record { r = r; counts = c; covered = record { covers = (covers_decides r n).0 f; closed = h }; no_own = not_own r g })
 
       by_record : (r : Nsec3At) → Counts limits class signer e r → Tells (IsClosed n) x (i + 1) es (cover_from signer n (i + 1) rest) → (v : Bool) → covers_hash r n ≡ v
@@ -130,13 +130,13 @@ gone_may limits s n c h i opt_out g label is = by g.record_there g.encloser g.pl
 
 -- a name that is found missing with Opt-Out alone is left open, and with it each that is left open with the next closer name (RFC 5155 6)
 pub gone_opens : (limits : HashLimits) (s : Source) (n c : Place) (h : Option ℕ) (i : ℕ) (g : IsShownGone limits s n c h i true) (x : Place)
-    → LeavesOpen s.signer x (next_closer n c) → At (Opens limits s.class s.signer x) 0 s.groups i
+    → LeavesOpen s.signer x (next_closer n c) → At (OpensTold limits s.class s.signer (Some Nsec3OptOut) x) 0 s.groups i
 gone_opens limits s n c h i g x leaves = record {
   offset = i;
   is = omega arith;
   evidence = g.counts.evidence;
   stands = g.counts.stands;
-  holds = opts_out_of g.counts.counts g.flag g.covers (gone_may limits s n c h i true g) leaves;
+  holds = (opts_out_of g.counts.counts g.flag g.covers (gone_may limits s n c h i true g) leaves, refl);
 }
 
 -- the next closer name leaves the name open

@@ -1,5 +1,7 @@
 -- By what a reply leaves open whether a name or a type exists: its answer is insecure (RFC 5155 6, 8, RFC 9276 3.2).
-use Rattle.std.specs.Prelude.{◌≡◌, ◌<◌, ◌≤◌, ℕ, List, [], ◌∷◌, ◌++◌, slice_get, true, Some}
+use Rattle.std.specs.Prelude.{◌≡◌, ◌<◌, ◌≤◌, ℕ, List, [], ◌∷◌, ◌++◌, slice_get, true, Option, Some, None}
+use Rattle.dsec_cause.specs.declared.cause.Cause.{Cause}
+use Rattle.dsec_cause.specs.declared.cause.Cause.TheVariants.{Nsec3OptOut, Nsec3IterationsInsecure}
 use Rattle.dsec_spec.specs.Names.{Place, IsAtOrBelow, IsStrictlyBelow}
 use Rattle.dsec_spec.specs.RecordViews.{Nsec3}
 use Rattle.dsec_spec.specs.Zones.{wildcard}
@@ -37,8 +39,22 @@ pub data Opens (limits : HashLimits) (class : ℕ) (signer n : Place) (e : Evide
   opts_out_of : {r : Nsec3At} {m : Place} → Counts limits class signer e r → opts_out r ≡ true → CoversHash r m → MayLeaveOpen signer r m → LeavesOpen signer n m
       → Opens limits class signer n e
 
+-- the cause of what leaves a name open: iterations that aren't followed, or Opt-Out (RFC 8914 4)
+abbrev pub IsCauseOf : {limits : HashLimits} {class : ℕ} {signer n : Place} {e : Evidence} → Opens limits class signer n e → Cause → Type 0
+IsCauseOf (iterates is_nsec3 many few) cause = cause ≡ Nsec3IterationsInsecure
+IsCauseOf (opts_out_of counts flag covers may leaves) cause = cause ≡ Nsec3OptOut
+
+-- what may be told of it: its own cause, or none
+abbrev pub MayTell : {limits : HashLimits} {class : ℕ} {signer n : Place} {e : Evidence} → Opens limits class signer n e → Option Cause → Type 0
+MayTell opens None = Unit {0}
+MayTell opens (Some cause) = IsCauseOf opens cause
+
+-- the group leaves the name open, and what is told may be told of it
+abbrev pub OpensTold : HashLimits → ℕ → Place → Option Cause → Place → Evidence → Type 0
+OpensTold limits class signer cause n e = (opens : Opens limits class signer n e) × MayTell opens cause
+
 -- the group at the index does
-pub record OpensAt (limits : HashLimits) (class : ℕ) (signer : Place) (groups : List Evidence) (n : Place) (index : ℕ) : Type 0 where
+pub record OpensAt (limits : HashLimits) (class : ℕ) (signer : Place) (groups : List Evidence) (n : Place) (cause : Option Cause) (index : ℕ) : Type 0 where
   pub evidence : Evidence
   pub stands : slice_get groups index ≡ Some evidence
-  pub opens : Opens limits class signer n evidence
+  pub opens : OpensTold limits class signer cause n evidence
