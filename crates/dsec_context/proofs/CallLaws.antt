@@ -4,6 +4,7 @@ use Rattle.dsec_spec.specs.Outside.{Table, risen}
 use Rattle.dsec_nodes.specs.World.{World, Replies, moment}
 use Rattle.dsec_nodes.specs.Nodes.{Node, Kept}
 use Rattle.dsec_nodes.specs.Machine.{Question as Asked, Input, begin}
+use Rattle.dsec_nodes.specs.Likeness.{Likeness, but_for_times}
 use Rattle.dsec_nodes.specs.InStep.{AskedOf}
 use Rattle.dsec_nodes.specs.Outcomes.{Outcome}
 use Rattle.dsec_nodes.specs.SoundOutcomes.{IsJustified}
@@ -21,7 +22,7 @@ use Rattle.dsec_course.proofs.RunLaws.{run_begins, run_asks, run_ends, heard_hol
 use Rattle.dsec_cut.specs.Cuts.{to_rewrite}
 use Rattle.dsec_cut.proofs.CutLaws.{none_without_groups, none_while_waiting}
 use Rattle.dsec_node.specs.Caches.{Held}
-use Rattle.dsec_context.specs.Outside.{Outside, replies_of, WasHeld, HoldsMore, HoldsTable}
+use Rattle.dsec_context.specs.Outside.{Outside, replies_of, WasHeld, HoldsMore, HoldsAlike, HoldsTable}
 use Rattle.dsec_context.specs.Serving.{IsServing}
 use Rattle.dsec_context.specs.Calls.{Verdict, WereHeard, AgreesWith, IsCall, count_of, most_questions}
 use Rattle.dsec_context.specs.Judgements.{judgement_at, IsToRewrite, IsJudging}
@@ -31,20 +32,20 @@ use Rattle.dsec_context.proofs.ReadLaws.{begun_reads}
 use Rattle.dsec_context.proofs.ServingLaws.{serving_holds}
 
 -- where all that was held and heard is of a table, so is all that is held
-held_so : (w : World) (most : ℕ) (message : List ℕ) (table : Option Table) (before now : Outside) (r : Run) (replies : Replies)
-    → IsServing w most message table before now r → HoldsTable w replies before.held → AskedOf replies (asked_in r.course)
-    → HoldsTable w replies now.held
-held_so w most message table before now r replies s h asked =
-    holds_after w replies before.held now.held r.puts s.holds_more h
-    ((serving_holds w most message table before now r s).traced.of_table replies (held_of_table w replies before.held h) asked)
+held_so : (like : Likeness) (w : World) (most : ℕ) (message : List ℕ) (table : Option Table) (before now : Outside) (r : Run) (replies : Replies)
+    → IsServing w most message table before now r → HoldsAlike like w replies before.held → AskedOf replies (asked_in r.course)
+    → HoldsAlike like w replies now.held
+held_so like w most message table before now r replies s h asked =
+    holds_after like w replies before.held now.held r.puts s.holds_more h
+    ((serving_holds w most message table before now r s).traced.of_table like replies (held_of_table like w replies before.held h) asked)
 
 -- and the end is what the recursion comes to
 end_so : (w : World) (most : ℕ) (message : List ℕ) (table : Option Table) (before now : Outside) (r : Run) (replies : Replies) (x : Result Outcome Refusal)
     → IsServing w most message table before now r → r.step ≡ end_with x → HoldsTable w replies before.held → AskedOf replies (asked_in r.course)
     → x ≡ alone w most replies message
 end_so w most message table before now r replies x s e h asked =
-    run_ends w most message (WasHeld w.accepts before.held) r replies x (serving_holds w most message table before now r s)
-    (held_of_table w replies before.held h) asked e
+    run_ends but_for_times w most message (WasHeld w.accepts before.held) r replies x (serving_holds w most message table before now r s)
+    (held_of_table but_for_times w replies before.held h) asked e
 
 pub were_heard : (w : World) (most : ℕ) (message : List ℕ) (table : Option Table) (before now : Outside) (r : Run)
     → IsServing w most message table before now r → WereHeard w most message (WasHeld w.accepts before.held) (asked_in r.course) r.puts
@@ -95,8 +96,9 @@ ends_ok w most message table before now r o s e =
       so = (refl, sound_end w most message table before now r (Ok o) s e, begun_reads w.anchors most message s.course s.begins);
       agrees = λ replies h asked. record {
         says = sym (end_so w most message table before now r replies (Ok o) s e h asked);
-        holds = held_so w most message table before now r replies s h asked;
+        holds = held_so but_for_times w most message table before now r replies s h asked;
       };
+      stays = λ like replies h asked. held_so like w most message table before now r replies s h asked;
     } in
     record { call = call; hands_on = hands_on_at w most message table before now r (Ok o) s e }
 
@@ -121,8 +123,9 @@ ends_refused w most message table before now r s e =
       so = (begun_reads w.anchors most message s.course s.begins, (sound_end w most message table before now r (Err not_one_question) s e).1);
       agrees = λ replies h asked. record {
         says = ap answer_of (sym (end_so w most message table before now r replies (Err not_one_question) s e h asked));
-        holds = held_so w most message table before now r replies s h asked;
+        holds = held_so but_for_times w most message table before now r replies s h asked;
       };
+      stays = λ like replies h asked. held_so like w most message table before now r replies s h asked;
     } in
     record { call = call; hands_on = hands_on_at w most message table before now r (Err not_one_question) s e }
 
@@ -145,7 +148,8 @@ ends_without_memory w most message table before now r course s none =
       holds_more = s.holds_more;
       in_turn = inr (were_heard w most message table before now r s);
       so = tt;
-      agrees = λ replies h asked. record { says = tt; holds = held_so w most message table before now r replies s h asked };
+      agrees = λ replies h asked. record { says = tt; holds = held_so but_for_times w most message table before now r replies s h asked };
+      stays = λ like replies h asked. held_so like w most message table before now r replies s h asked;
     } in
     record { call = call; hands_on = none_without_groups (moment w) course none }
 
@@ -171,8 +175,9 @@ ends_at_a_question w most message table before now next r course s same a f hear
       so = tt;
       agrees = λ replies h asked. record {
         says = tt;
-        holds = subst (HoldsTable w replies) (sym same) (held_so w most message table before now r replies s h asked);
+        holds = subst (HoldsTable w replies) (sym same) (held_so but_for_times w most message table before now r replies s h asked);
       };
+      stays = λ like replies h asked. subst (HoldsAlike like w replies) (sym same) (held_so like w most message table before now r replies s h asked);
     } in
     record { call = call; hands_on = none_while_waiting (moment w) course waits }
 
@@ -197,6 +202,7 @@ ends_unread w most message table before e =
       in_turn = inl (refl, refl);
       so = ((begun_refused w.anchors most message unreadable e).none, refl);
       agrees = λ replies h asked. record { says = ap answer_of (refused_alone w most replies message unreadable e); holds = h };
+      stays = λ like replies h asked. h;
     } in
     record { call = call; hands_on = refl }
 
@@ -214,6 +220,7 @@ ends_unbegun w most message table before =
       in_turn = inl (refl, refl);
       so = tt;
       agrees = λ replies h asked. record { says = tt; holds = h };
+      stays = λ like replies h asked. h;
     } in
     record { call = call; hands_on = refl }
 

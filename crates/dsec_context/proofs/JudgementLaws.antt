@@ -5,6 +5,7 @@ use Rattle.dsec_spec.specs.Outside.{Table}
 use Rattle.dsec_nodes.specs.World.{World, Replies}
 use Rattle.dsec_nodes.specs.Nodes.{Node, Kept}
 use Rattle.dsec_nodes.specs.Machine.{Question as Asked}
+use Rattle.dsec_nodes.specs.Likeness.{but_for_times}
 use Rattle.dsec_nodes.specs.InStep.{AskedOf}
 use Rattle.dsec_nodes.specs.Outcomes.{Outcome}
 use Rattle.dsec_nodes.specs.Alone.{Refusal, not_one_question}
@@ -58,7 +59,7 @@ to_rewrite_told : (w : World) (most : ℕ) (message : List ℕ) (before : Outsid
 to_rewrite_told w most message before asked puts x groups replies t h of =
     t.groups_are
     ∙ rewriting_alone w most message held t.course t.inputs kept t.begins t.heard holds
-    (subst (λ (y : CourseStep). Awaits y last.course.waits) t.ends holds.awaits) replies (held_of_table w replies before.held h)
+    (subst (λ (y : CourseStep). Awaits y last.course.waits) t.ends holds.awaits) but_for_times replies (held_of_table but_for_times w replies before.held h)
     (subst (AllByRecursion (λ (q : Asked). replies q.name q.rtype ≡ q.reply)) t.are of)
   where
     held : Node → Type 0

@@ -6,6 +6,7 @@ use Rattle.dsec_spec.specs.Messages.{Question, questions_of}
 use Rattle.dsec_nodes.specs.World.{World, Replies}
 use Rattle.dsec_nodes.specs.Nodes.{Node}
 use Rattle.dsec_nodes.specs.Machine.{Question as Asked, Input}
+use Rattle.dsec_nodes.specs.Likeness.{Likeness}
 use Rattle.dsec_nodes.specs.InStep.{AskedOf}
 use Rattle.dsec_nodes.specs.Outcomes.{Outcome, bogus}
 use Rattle.dsec_nodes.specs.SoundOutcomes.{IsJustified}
@@ -18,7 +19,7 @@ use Rattle.dsec_course.specs.Course.{Course, groups_in, asked_in}
 use Rattle.dsec_course.specs.Advancing.{begun}
 use Rattle.dsec_course.specs.Hearing.{first_run, AreHeard, after_heard}
 pub use Rattle.dsec_context.specs.Verdicts.{Verdict}
-use Rattle.dsec_context.specs.Outside.{Outside, AreCounted, WasHeld, HoldsMore, HoldsTable}
+use Rattle.dsec_context.specs.Outside.{Outside, AreCounted, WasHeld, HoldsMore, HoldsAlike, HoldsTable}
 
 -- The questions, with their replies, and the nodes that were put are those of the message judged a step at a time: it heard inputs, whose nodes
 -- were held when the call began or were put on the way (RFC 4035 4.3, 4.5)
@@ -52,15 +53,16 @@ Says r (Ok v) = r ≡ Ok v.outcome
 Says r (Err NoMemory) = Unit {0}
 Says r (Err e) = answer_of r ≡ Err e
 
--- by a table of which is all that was held and heard the answer is that of the recursion, and all that is held afterwards is of it
--- (RFC 4033 5, RFC 4035 4.5)
+-- by a table of which is all that was held and heard, whenever what was held was made, the answer is that of the recursion, and all that is held
+-- afterwards is of it (RFC 4033 5, RFC 4035 4.5)
 pub record AgreesWith (w : World) (most : ℕ) (message : List ℕ) (after : Outside) (answer : Result Verdict Error) (replies : Replies) : Type 0 where
   pub says : Says (alone w most replies message) answer
   pub holds : HoldsTable w replies after.held
 
 -- What a call promises: there is a list of its questions with their replies, and one of the nodes that it put. The questions are counted, no other
 -- node is held afterwards that wasn't before, both lists are those of the message judged a step at a time, the answer is so by them, and where all
--- that was held and heard is of one table the answer is that of the table (RFC 4033 5, RFC 4035 4.3, 4.5)
+-- that was held and heard is of one table the answer is that of the table; where it is wholly of it, so is all that is held afterwards
+-- (RFC 4033 5, RFC 4035 4.3, 4.5)
 pub record IsCall (w : World) (most : ℕ) (message : List ℕ) (table : Option Table) (before after : Outside) (answer : Result Verdict Error) : Type 0 where
   pub asked : List Asked
   pub lost : ℕ
@@ -71,6 +73,7 @@ pub record IsCall (w : World) (most : ℕ) (message : List ℕ) (table : Option 
   pub in_turn : ((asked ≡ []) × (puts ≡ [])) ⊎ WereHeard w most message (WasHeld w.accepts before.held) asked puts
   pub so : IsAnswer w most message asked answer
   pub agrees : (replies : Replies) → HoldsTable w replies before.held → AskedOf replies asked → AgreesWith w most message after answer replies
+  pub stays : (like : Likeness) (replies : Replies) → HoldsAlike like w replies before.held → AskedOf replies asked → HoldsAlike like w replies after.held
 
 -- how many groups a message has that are to be judged (RFC 2181 5)
 abbrev pub count_of : Result Course Refusal → ℕ

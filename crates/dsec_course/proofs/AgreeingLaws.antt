@@ -10,6 +10,7 @@ use Rattle.dsec_nodes.specs.World.{World, Replies}
 use Rattle.dsec_nodes.specs.Nodes.{Node}
 use Rattle.dsec_nodes.specs.Walk.{node_of}
 use Rattle.dsec_nodes.specs.Machine.{Walking, Step, Input, begin, node, stored, reply, gets, in_phase, started, advanced, node_get, node_put, ask, done}
+use Rattle.dsec_nodes.specs.Likeness.{Likeness, Alike}
 use Rattle.dsec_nodes.specs.InStep.{StepIs, Goes}
 use Rattle.dsec_nodes.specs.Judging.{Finding, is_shown, has_no_set, is_insecure, is_bogus, is_indeterminate, Judged, AllJudged, one_bogus, and_others, by_node, target_of, judged_all}
 use Rattle.dsec_nodes.proofs.MachineLaws.{all_last, advanced_goes, started_in_step}
@@ -45,18 +46,18 @@ going_goes : (w : World) (most : ℕ) (message : List ℕ) (groups : List Group)
 unfolding going_on judged_all
 going_goes w most message [] c h = record {
   in_step = tt;
-  says = λ replies a.
-      ap (on_all w c.most c.message c.questions c.answers) (ap Rattle.dsec_nodes.specs.Judging.all (sym (append-nil c.judged))) ∙ h replies (all_front (WalkOf w replies) c.walks [] a);
+  says = λ like replies a.
+      ap (on_all w c.most c.message c.questions c.answers) (ap Rattle.dsec_nodes.specs.Judging.all (sym (append-nil c.judged))) ∙ h like replies (all_front (WalkOf like w replies) c.walks [] a);
 }
 going_goes w most message (g ∷ gs) c h = by (going_goes w most message gs) (way_of w g) (way_is w g)
   where
     by : ((d : Course) → Leads w most message d gs → CourseGoes w most message (going_on w gs d)) → (x : Way) → WayIs w g x → CourseGoes w most message (by_way g gs x (going_on w gs) c)
-    by later (at_once j) once = later (with_judged c j) (λ replies a.
-        ap (on_all w c.most c.message c.questions c.answers) (sym (judged_first w replies c.judged g gs j (once.same replies) once.goes_on)) ∙ h replies a)
+    by later (at_once j) once = later (with_judged c j) (λ like replies a.
+        ap (on_all w c.most c.message c.questions c.answers) (sym (judged_first w replies c.judged g gs j (once.same replies) once.goes_on)) ∙ h like replies a)
     by later (by_walk top) needs =
         let f = target_below w g top needs.from_island in
         let goes = advanced_goes w (started top (target_of g (Some top))) begin (started_in_step w top (target_of g (Some top)) f.below f.shorter) tt in
-        record { in_step = (sets_out w g top needs, goes.in_step, h); says = λ replies a. refl }
+        record { in_step = (sets_out w g top needs, goes.in_step, h); says = λ like replies a. refl }
 
 -- a walk that goes on is still for its group
 pub still_for : (w : World) (group : Group) (s t : Walking) → t.top ≡ s.top → t.target ≡ s.target → IsFor w group s → IsFor w group t
@@ -69,28 +70,29 @@ still_for w group s t a b f = record {
 -- a walk has come to its group's node
 found_goes : (w : World) (most : ℕ) (message : List ℕ) (c : Course) (group : Group) (s : Walking) (n : Node) → IsFor w group s
     → Leads w most message c (group ∷ c.left)
-    → ((replies : Replies) → WalkOf w replies s → node_of w replies s.top s.target ≡ n)
+    → ((like : Likeness) (replies : Replies) → WalkOf like w replies s → Alike like (node_of w replies s.top s.target) n)
     → CourseGoes w most message (by_step w c group s (done n))
 found_goes w most message c group s n f leads is = by (by_node w group n).finding refl
   where
     j : Judged
     j = by_node w group n
 
-    judged : (replies : Replies) → AllByRecursion (WalkOf w replies) (c.walks ++ s ∷ []) → Rattle.dsec_nodes.specs.Judging.judged_of w replies group ≡ j
-    judged replies a = by_its_node w replies group s n f (is replies (all_last (WalkOf w replies) c.walks s a).1)
+    judged : (like : Likeness) (replies : Replies) → AllByRecursion (WalkOf like w replies) (c.walks ++ s ∷ [])
+        → Rattle.dsec_nodes.specs.Judging.judged_of w replies group ≡ j
+    judged like replies a = by_its_node like w replies group s n f (is like replies (all_last (WalkOf like w replies) c.walks s a).1)
 
     further : (x : Finding) → j.finding ≡ x → passes x ≡ true → CourseGoes w most message (going_on w c.left (with_judged (with_walk c s) j))
-    further x e p = going_goes w most message c.left (with_judged (with_walk c s) j) (λ replies a.
-        ap (on_all w c.most c.message c.questions c.answers) (sym (judged_first w replies c.judged group c.left j (judged replies a) (ap passes e ∙ p)))
-        ∙ leads replies (all_last (WalkOf w replies) c.walks s a).0)
+    further x e p = going_goes w most message c.left (with_judged (with_walk c s) j) (λ like replies a.
+        ap (on_all w c.most c.message c.questions c.answers) (sym (judged_first w replies c.judged group c.left j (judged like replies a) (ap passes e ∙ p)))
+        ∙ leads like replies (all_last (WalkOf like w replies) c.walks s a).0)
 
     by : (x : Finding) → j.finding ≡ x → CourseGoes w most message (by_found w (with_judged (with_walk c s) j) x)
     by (is_bogus cause links) e = record {
       in_step = tt;
-      says = λ replies a.
-          let b = all_front (WalkOf w replies) (c.walks ++ s ∷ []) [] a in
-          ap (on_all w c.most c.message c.questions c.answers) (sym (ap (behind c.judged) (judged_bogus w replies group c.left j (is_bogus cause links) (one_bogus cause links) (judged replies b) e refl)))
-          ∙ leads replies (all_last (WalkOf w replies) c.walks s b).0;
+      says = λ like replies a.
+          let b = all_front (WalkOf like w replies) (c.walks ++ s ∷ []) [] a in
+          ap (on_all w c.most c.message c.questions c.answers) (sym (ap (behind c.judged) (judged_bogus w replies group c.left j (is_bogus cause links) (one_bogus cause links) (judged like replies b) e refl)))
+          ∙ leads like replies (all_last (WalkOf like w replies) c.walks s b).0;
     }
     by (is_shown links last signature) e = further (is_shown links last signature) e refl
     by has_no_set e = further has_no_set e refl
@@ -102,16 +104,17 @@ walk_goes : (w : World) (most : ℕ) (message : List ℕ) (c : Course) (group : 
     → Leads w most message c (group ∷ c.left) → CourseGoes w most message (by_step w c group p.0 p.1)
 walk_goes w most message c group p f g leads = by p.1 refl
   where
-    says : (replies : Replies) (x : Step) → p.1 ≡ x → AllByRecursion (WalkOf w replies) (c.walks ++ p.0 ∷ []) → StepIs w replies p.0 x
-    says replies x e a =
-        let its = (all_last (WalkOf w replies) c.walks p.0 a).1 in
-        subst (StepIs w replies p.0) e (g.says replies its.0 its.1)
+    says : (like : Likeness) (replies : Replies) (x : Step) → p.1 ≡ x → AllByRecursion (WalkOf like w replies) (c.walks ++ p.0 ∷ [])
+        → StepIs like w replies p.0 x
+    says like replies x e a =
+        let its = (all_last (WalkOf like w replies) c.walks p.0 a).1 in
+        subst (StepIs like w replies p.0) e (g.says like replies its.0 its.1)
 
     by : (x : Step) → p.1 ≡ x → CourseGoes w most message (by_step w c group p.0 x)
-    by (node_get name) e = record { in_step = (f, g.in_step, leads); says = λ replies a. says replies (node_get name) e a }
-    by (node_put name n) e = record { in_step = (f, g.in_step, leads); says = λ replies a. says replies (node_put name n) e a }
-    by (ask name rtype) e = record { in_step = (f, g.in_step, leads); says = λ replies a. says replies (ask name rtype) e a }
-    by (done n) e = found_goes w most message c group p.0 n f leads (λ replies a. subst (StepIs w replies p.0) e (g.says replies a.0 a.1))
+    by (node_get name) e = record { in_step = (f, g.in_step, leads); says = λ like replies a. says like replies (node_get name) e a }
+    by (node_put name n) e = record { in_step = (f, g.in_step, leads); says = λ like replies a. says like replies (node_put name n) e a }
+    by (ask name rtype) e = record { in_step = (f, g.in_step, leads); says = λ like replies a. says like replies (ask name rtype) e a }
+    by (done n) e = found_goes w most message c group p.0 n f leads (λ like replies a. subst (StepIs like w replies p.0) e (g.says like replies a.0 a.1))
 
 -- A message judged a step at a time goes on in step with the recursion: where the replies are those of a table and the nodes that its walks were
 -- given are of it, each node that it puts is of the table, and it ends with the outcome of the message.
@@ -122,7 +125,7 @@ course_goes w most message c input h a = by c.waits input h a
     by : (x : Waiting) (i : Input) → Rattle.dsec_course.specs.Agreeing.InStepAt w most message c x → CourseAnswers x i
         → CourseGoes w most message (by_waiting w c i x)
     by to_begin begin g b = going_goes w most message c.left c g
-    by (to_end o) begin g b = record { in_step = tt; says = λ replies _. sym (g replies) }
+    by (to_end o) begin g b = record { in_step = tt; says = λ like replies _. sym (g replies) }
     by (for_walk group s) i g b =
         let l = (advances w s i b).leaves in
         walk_goes w most message c group (advanced w s i) (still_for w group s (advanced w s i).0 l.same_top l.same_target g.0) (advanced_goes w s i g.1 b) g.2

@@ -30,7 +30,7 @@ begun_in_step w most message c e = by_sections (sections_of message) refl e
         → moved w.anchors most (groups_of s.1) ≡ m → CourseInStep w most message (begun_with most message s.0 m (groups_of s.2))
     by_moved s f None g = known s (Ok (bogus_by TooManyUnsignedCnames by_nothing)) f (λ replies.
         ap (λ (m : Option (List Group)). on_groups w most replies message s.0 m (groups_of s.2)) g)
-    by_moved s f (Some answers) g = λ replies a.
+    by_moved s f (Some answers) g = λ like replies a.
         on_both w most replies message s.0 answers (groups_of s.2)
         ∙ sym (ap (on_sections w most replies message) f
         ∙ ap (λ (m : Option (List Group)). on_groups w most replies message s.0 m (groups_of s.2)) g)

@@ -11,9 +11,11 @@ use Rattle.dsec_spec.specs.Islands.{island}
 use Rattle.dsec_nodes.specs.World.{World, Replies}
 use Rattle.dsec_nodes.specs.Nodes.{Node}
 use Rattle.dsec_nodes.specs.Walk.{node_of}
+use Rattle.dsec_nodes.specs.Likeness.{Likeness, Alike}
 use Rattle.dsec_nodes.specs.Machine.{Walking}
 use Rattle.dsec_nodes.specs.Judging.{Finding, is_shown, has_no_set, is_insecure, is_bogus, is_indeterminate, Judged, AllJudged, all, one_bogus, and_others, by_node, by_island, judged_of, judged_all}
 use Rattle.dsec_nodes.specs.Alone.{on_questions, on_judged}
+use Rattle.dsec_nodes.proofs.AlikeLaws.{judged_alike}
 use Rattle.dsec_nodes.proofs.JudgingLaws.{groups_same}
 use Rattle.dsec_course.specs.Course.{for_nothing, Course, end_with, Way, at_once, by_walk, way_under, way_of}
 use Rattle.dsec_course.specs.Advancing.{waiting, at_last, by_way, going_on}
@@ -79,13 +81,13 @@ way_is w group = by_records (length group.records == 0) refl
     }
     by_records false e = by_top e (island w.anchors (place group.owner) group.rtype) refl
 
--- a group whose walk comes to the recursion's node is judged by it as by the recursion
-pub by_its_node : (w : World) (replies : Replies) (group : Group) (s : Walking) (n : Node) → IsFor w group s
-    → node_of w replies s.top s.target ≡ n → judged_of w replies group ≡ by_node w group n
-by_its_node w replies group s n f e =
+-- a group whose walk comes to a node like the recursion's is judged by it as by the recursion
+pub by_its_node : (like : Likeness) (w : World) (replies : Replies) (group : Group) (s : Walking) (n : Node) → IsFor w group s
+    → Alike like (node_of w replies s.top s.target) n → judged_of w replies group ≡ by_node w group n
+by_its_node like w replies group s n f e =
     cond-false (length group.records == 0) (record { group = group; signer = []; finding = has_no_set }) (by_island w replies group (island w.anchors (place group.owner) group.rtype)) f.has_records
     ∙ (ap (by_island w replies group) f.from_island
-    ∙ (ap (λ (t : Place). by_node w group (node_of w replies s.top t)) (sym f.to_signer) ∙ ap (by_node w group) e))
+    ∙ (ap (λ (t : Place). by_node w group (node_of w replies s.top t)) (sym f.to_signer) ∙ judged_alike like w group (node_of w replies s.top s.target) n e))
 
 -- a judged group that isn't bogus goes to those before it
 pub behind_one : (js : List Judged) (j : Judged) (f : Finding) (rest : AllJudged) → passes f ≡ true

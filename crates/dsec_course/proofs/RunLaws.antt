@@ -7,6 +7,7 @@ use Rattle.dsec_spec.specs.Groups.{Group}
 use Rattle.dsec_spec.proofs.Members.{in_either, not_in_none}
 use Rattle.dsec_nodes.specs.World.{World, Replies}
 use Rattle.dsec_nodes.specs.Nodes.{Node, Kept}
+use Rattle.dsec_nodes.specs.Likeness.{Likeness, wholly}
 use Rattle.dsec_nodes.specs.Taking.{RestsAt}
 use Rattle.dsec_nodes.specs.Machine.{Question as Asked, Input, begin, node, stored, reply}
 use Rattle.dsec_nodes.specs.InStep.{AskedOf}
@@ -44,11 +45,11 @@ run_on w most message held r input kept sound steps t named a from = record {
       | inl old ↦ t.kept n old
       | inr new ↦ put_kept w most message p.1 p.0.waits going.1 n new
     ];
-    of_table = λ replies h asked n there.
-        let old : (m : Node) → Contains r.puts m → IsOfTable w replies m = t.of_table replies h (before replies asked) in
+    of_table = λ like replies h asked n there.
+        let old : (m : Node) → Contains r.puts m → IsOfTable like w replies m = t.of_table like replies h (before replies asked) in
         elim (in_either n r.puts (put_by p.1) there) [
           | inl x ↦ old n x
-          | inr x ↦ put_of_table w most replies message p.1 p.0.waits going.1 (goes.says replies (walks_of w replies held r.puts (walks_in p.0) h old given asked)) n x
+          | inr x ↦ put_of_table like w most replies message p.1 p.0.waits going.1 (goes.says like replies (walks_of like w replies held r.puts (walks_in p.0) h old given asked)) n x
         ];
   };
 }
@@ -88,7 +89,7 @@ run_begins w most message held c kept e =
     run_on w most message held (record { course = c; step = get_node []; puts = [] }) begin kept (begun_sound w most message c e) (begun_in_step w most message c e) (record {
       given = subst (AllByRecursion (Trace w held [])) (sym n.no_walks) tt;
       kept = λ x there. absurd (not_in_none x there);
-      of_table = λ replies h asked x there. absurd (not_in_none x there);
+      of_table = λ like replies h asked x there. absurd (not_in_none x there);
     }) (subst (AllByRecursion (λ (g : Group). IsName g.owner)) (sym n.groups_are) (begun_named w.anchors most message c e)) n.begins tt
 
 -- a run asks at most 255 questions for each group of its message (RFC 1035 2.3.4, RFC 4035 5.2)
@@ -133,26 +134,26 @@ run_put w most message held r name n h e =
     ∙ (ap (λ (qs : List Asked). asked_in r.course ++ qs) (unasked_put r.course.waits) ∙ append-nil (asked_in r.course))
 
 -- where what was held is of a table, and the replies are the table's, so are the nodes that a message was given
-pub run_of_table : (w : World) (most : ℕ) (message : List ℕ) (held : Node → Type 0) (r : Run) (replies : Replies) → HoldsRun w most message held r
-    → ((n : Node) → held n → IsOfTable w replies n) → AskedOf replies (asked_in r.course) → CourseOf w replies r.course
-run_of_table w most message held r replies h of asked =
-    walks_of w replies held r.puts (walks_in r.course) of (h.traced.of_table replies of asked) h.traced.given asked
+pub run_of_table : (like : Likeness) (w : World) (most : ℕ) (message : List ℕ) (held : Node → Type 0) (r : Run) (replies : Replies) → HoldsRun w most message held r
+    → ((n : Node) → held n → IsOfTable like w replies n) → AskedOf replies (asked_in r.course) → CourseOf like w replies r.course
+run_of_table like w most message held r replies h of asked =
+    walks_of like w replies held r.puts (walks_in r.course) of (h.traced.of_table like replies of asked) h.traced.given asked
 
 -- an end comes where nothing is waited for, with the outcome of the recursion
-ends_so : (w : World) (most : ℕ) (replies : Replies) (message : List ℕ) (waits : Waiting) (x : Result Outcome Refusal)
-    → CourseStepIs w most replies message waits (end_with x) → x ≡ alone w most replies message
-ends_so w most replies message for_nothing x h = h
-ends_so w most replies message to_begin x h = absurd h
-ends_so w most replies message (to_end o) x h = absurd h
-ends_so w most replies message (for_walk group s) x h = absurd h
+ends_so : (like : Likeness) (w : World) (most : ℕ) (replies : Replies) (message : List ℕ) (waits : Waiting) (x : Result Outcome Refusal)
+    → CourseStepIs like w most replies message waits (end_with x) → x ≡ alone w most replies message
+ends_so like w most replies message for_nothing x h = h
+ends_so like w most replies message to_begin x h = absurd h
+ends_so like w most replies message (to_end o) x h = absurd h
+ends_so like w most replies message (for_walk group s) x h = absurd h
 
--- A message that was judged over nodes of a table, with the table's replies, ends with the outcome of the recursion
-pub run_ends : (w : World) (most : ℕ) (message : List ℕ) (held : Node → Type 0) (r : Run) (replies : Replies) (x : Result Outcome Refusal)
-    → HoldsRun w most message held r → ((n : Node) → held n → IsOfTable w replies n) → AskedOf replies (asked_in r.course)
+-- A message that was judged over nodes of a table, with the table's replies, ends with the outcome of the recursion, whenever the nodes were made
+pub run_ends : (like : Likeness) (w : World) (most : ℕ) (message : List ℕ) (held : Node → Type 0) (r : Run) (replies : Replies) (x : Result Outcome Refusal)
+    → HoldsRun w most message held r → ((n : Node) → held n → IsOfTable like w replies n) → AskedOf replies (asked_in r.course)
     → r.step ≡ end_with x → x ≡ alone w most replies message
-run_ends w most message held r replies x h of asked e =
-    ends_so w most replies message r.course.waits x
-    (subst (CourseStepIs w most replies message r.course.waits) e (h.goes.says replies (run_of_table w most message held r replies h of asked)))
+run_ends like w most message held r replies x h of asked e =
+    ends_so like w most replies message r.course.waits x
+    (subst (CourseStepIs like w most replies message r.course.waits) e (h.goes.says like replies (run_of_table like w most message held r replies h of asked)))
 
 -- what was heard leaves a run so
 pub heard_holds : (w : World) (most : ℕ) (message : List ℕ) (held : Node → Type 0) (inputs : List Input) (r : Run)
@@ -183,4 +184,4 @@ pub ends_from_nothing : (w : World) (most : ℕ) (message : List ℕ) (c : Cours
 ends_from_nothing w most message c inputs x e heard ends replies asked =
     let none : Node → Type 0 = λ n. ⊥ in
     let h = heard_holds w most message none inputs (first_run w c) (λ n b. absurd b) (run_begins w most message none c (λ n b. absurd b) e) heard in
-    run_ends w most message none (after_heard w (first_run w c) inputs) replies x h (λ n b. absurd b) asked ends
+    run_ends wholly w most message none (after_heard w (first_run w c) inputs) replies x h (λ n b. absurd b) asked ends

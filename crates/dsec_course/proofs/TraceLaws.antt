@@ -10,6 +10,7 @@ use Rattle.dsec_spec.proofs.Members.{first_in, later_in, in_more, not_in_none}
 use Rattle.dsec_nodes.specs.World.{World, Replies}
 use Rattle.dsec_nodes.specs.Nodes.{Node, Kept}
 use Rattle.dsec_nodes.specs.Walk.{node_of}
+use Rattle.dsec_nodes.specs.Likeness.{Likeness, seen, Alike}
 use Rattle.dsec_nodes.specs.Taking.{RestsAt}
 use Rattle.dsec_nodes.specs.Machine.{Question as Asked, Walking, Step, Input, begin, node, stored, reply, gets, in_phase, started, advanced, node_get, node_put, ask, done}
 use Rattle.dsec_nodes.specs.InStep.{AskedOf}
@@ -49,20 +50,20 @@ same_island anchors a b n r s =
     sym r.at ∙ (ap (λ (x : Record). place x.owner) (same_Some r.anchor s.anchor (sym r.its ∙ s.its)) ∙ s.at)
 
 -- walks whose nodes are of a table, and whose replies are
-pub walks_of : (w : World) (replies : Replies) (held : Node → Type 0) (puts : List Node) (ws : List Walking)
-    → ((n : Node) → held n → IsOfTable w replies n) → ((n : Node) → Contains puts n → IsOfTable w replies n)
+pub walks_of : (like : Likeness) (w : World) (replies : Replies) (held : Node → Type 0) (puts : List Node) (ws : List Walking)
+    → ((n : Node) → held n → IsOfTable like w replies n) → ((n : Node) → Contains puts n → IsOfTable like w replies n)
     → AllByRecursion (Trace w held puts) ws → AskedOf replies (flat_map (λ (s : Walking). s.asked) ws)
-    → AllByRecursion (WalkOf w replies) ws
-walks_of w replies held puts [] h p t a = tt
-walks_of w replies held puts (s ∷ ws) h p t a =
+    → AllByRecursion (WalkOf like w replies) ws
+walks_of like w replies held puts [] h p t a = tt
+walks_of like w replies held puts (s ∷ ws) h p t a =
     let Answered : Asked → Type 0 = λ q. replies q.name q.rtype ≡ q.reply in
     let later : List Asked = flat_map (λ (x : Walking). x.asked) ws in (
       (
         all_front Answered s.asked later a,
-        all_map (λ (n : Node). (held n ⊎ Contains puts n) × RestsAt w.anchors s.top n) (λ (n : Node). node_of w replies s.top n.name ≡ n) s.got
+        all_map (λ (n : Node). (held n ⊎ Contains puts n) × RestsAt w.anchors s.top n) (λ (n : Node). Alike like (node_of w replies s.top n.name) n) s.got
             (λ n f. elim f.0 [ inl x ↦ h n x s.top f.1 | inr x ↦ p n x s.top f.1 ]) t.0,
       ),
-      walks_of w replies held puts ws h p t.1 (all_back Answered s.asked later a),
+      walks_of like w replies held puts ws h p t.1 (all_back Answered s.asked later a),
     )
 
 -- what holds of the walks that have ended, and of each walk that sets out, holds of all of them while judging goes on
@@ -152,19 +153,19 @@ put_kept w most message (ask_for name rtype) waits h n there = absurd (not_in_no
 put_kept w most message (end_with r) waits h n there = absurd (not_in_none n there)
 
 -- and of the table, where what was given is
-pub put_of_table : (w : World) (most : ℕ) (replies : Replies) (message : List ℕ) (x : CourseStep) (waits : Waiting)
+pub put_of_table : (like : Likeness) (w : World) (most : ℕ) (replies : Replies) (message : List ℕ) (x : CourseStep) (waits : Waiting)
     → CourseStepSound w most message x waits
-    → CourseStepIs w most replies message waits x → (n : Node) → Contains (put_by x) n → IsOfTable w replies n
-put_of_table w most replies message (put_node name m) (for_walk group s) h is n there =
-    subst (IsOfTable w replies) (only m n there) (λ top r.
+    → CourseStepIs like w most replies message waits x → (n : Node) → Contains (put_by x) n → IsOfTable like w replies n
+put_of_table like w most replies message (put_node name m) (for_walk group s) h is n there =
+    subst (IsOfTable like w replies) (only m n there) (λ top r.
     let same : top ≡ s.top = same_island w.anchors top s.top m r (h.0.1 h.1) in
-    ap (λ (p : Place). node_of w replies p m.name) same ∙ (ap (λ (p : Place). node_of w replies s.top p) h.0.0.1 ∙ is))
-put_of_table w most replies message (put_node name m) to_begin h is n there = absurd h
-put_of_table w most replies message (put_node name m) (to_end o) h is n there = absurd h
-put_of_table w most replies message (put_node name m) for_nothing h is n there = absurd h
-put_of_table w most replies message (get_node name) waits h is n there = absurd (not_in_none n there)
-put_of_table w most replies message (ask_for name rtype) waits h is n there = absurd (not_in_none n there)
-put_of_table w most replies message (end_with r) waits h is n there = absurd (not_in_none n there)
+    ap (λ (p : Place). seen like (node_of w replies p m.name)) same ∙ (ap (λ (p : Place). seen like (node_of w replies s.top p)) h.0.0.1 ∙ is))
+put_of_table like w most replies message (put_node name m) to_begin h is n there = absurd h
+put_of_table like w most replies message (put_node name m) (to_end o) h is n there = absurd h
+put_of_table like w most replies message (put_node name m) for_nothing h is n there = absurd h
+put_of_table like w most replies message (get_node name) waits h is n there = absurd (not_in_none n there)
+put_of_table like w most replies message (ask_for name rtype) waits h is n there = absurd (not_in_none n there)
+put_of_table like w most replies message (end_with r) waits h is n there = absurd (not_in_none n there)
 
 -- a kept input, where what was held is kept
 pub input_kept : (w : World) (held : Node → Type 0) (puts : List Node) (i : Input) → ((n : Node) → held n → Kept w.accepts n)

@@ -5,6 +5,7 @@ use Rattle.dsec_spec.specs.Names.{Place, IsName}
 use Rattle.dsec_nodes.specs.World.{World, Replies}
 use Rattle.dsec_nodes.specs.Nodes.{Node, Kept}
 use Rattle.dsec_nodes.specs.Walk.{node_of}
+use Rattle.dsec_nodes.specs.Likeness.{Likeness, Alike}
 use Rattle.dsec_nodes.specs.Taking.{RestsAt}
 use Rattle.dsec_nodes.specs.Machine.{Input, begin, node, stored, reply}
 use Rattle.dsec_nodes.specs.InStep.{AskedOf}
@@ -60,18 +61,18 @@ abbrev pub after_heard : World → Run → List Input → Run
 after_heard w r [] = r
 after_heard w r (i ∷ inputs) = after_heard w (ran_on w r i) inputs
 
--- a node is of a table at the moment of judging: it is the one that the recursion makes then at its name, from the island at which its anchor
--- stands, by these replies; one that was made earlier is none
-abbrev pub IsOfTable : World → Replies → Node → Type 0
-IsOfTable w replies n = (top : Place) → RestsAt w.anchors top n → node_of w replies top n.name ≡ n
+-- a node is of a table: wholly or but for times it is the one that the recursion makes at its name at the moment of judging, from the island at
+-- which its anchor stands, by these replies; one that was made earlier is so but for times
+abbrev pub IsOfTable : Likeness → World → Replies → Node → Type 0
+IsOfTable like w replies n = (top : Place) → RestsAt w.anchors top n → Alike like (node_of w replies top n.name) n
 
 -- The nodes that a message was given were held before, or it has put them, and their anchors are those of the islands; the nodes that it has
--- put are kept, and by each table of which the held nodes and its replies are, so are they (RFC 4035 4.5)
+-- put are kept, and by each table of which, wholly or but for times, the held nodes and its replies are, so are they (RFC 4035 4.5)
 pub record Traces (w : World) (held : Node → Type 0) (r : Run) : Type 0 where
   pub given : AllByRecursion (λ s. AllByRecursion (λ n. (held n ⊎ Contains r.puts n) × RestsAt w.anchors s.top n) s.got) (walks_in r.course)
   pub kept : (n : Node) → Contains r.puts n → Kept w.accepts n
-  pub of_table : (replies : Replies) → ((n : Node) → held n → IsOfTable w replies n) → AskedOf replies (asked_in r.course)
-      → (n : Node) → Contains r.puts n → IsOfTable w replies n
+  pub of_table : (like : Likeness) (replies : Replies) → ((n : Node) → held n → IsOfTable like w replies n) → AskedOf replies (asked_in r.course)
+      → (n : Node) → Contains r.puts n → IsOfTable like w replies n
 
 -- a run that is sound, in step with the recursion, and of what it was given; it waits for what answers its step; and the owners of its groups are
 -- names (RFC 1035 2.3.4)

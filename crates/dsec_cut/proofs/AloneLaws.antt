@@ -12,6 +12,7 @@ use Rattle.dsec_nodes.specs.World.{World, Replies}
 use Rattle.dsec_nodes.specs.Nodes.{Node}
 use Rattle.dsec_nodes.specs.Walk.{node_of}
 use Rattle.dsec_nodes.specs.Machine.{Walking, Step, Input, begin, node, stored, reply, advanced, node_get, node_put, ask, done}
+use Rattle.dsec_nodes.specs.Likeness.{Likeness, Alike}
 use Rattle.dsec_nodes.specs.InStep.{StepIs, Goes}
 use Rattle.dsec_nodes.specs.Judging.{Finding, is_shown, has_no_set, is_insecure, is_bogus, is_indeterminate, Judged, AllJudged, all, one_bogus, by_node, judged_of, judged_all}
 use Rattle.dsec_nodes.specs.Alone.{sections_of}
@@ -31,7 +32,7 @@ use Rattle.dsec_cut.proofs.WhereLaws.{any_bogus, SaysNoOfNone, none_told, no_gro
 -- ended walks are
 pub record LeadsOn (w : World) (most : ℕ) (message : List ℕ) (c : Course) (groups : List Group) : Type 0 where
   pub none_bogus : any_bogus c.judged ≡ false
-  pub comes_to : (replies : Replies) → AllByRecursion (WalkOf w replies) c.walks
+  pub comes_to : (like : Likeness) (replies : Replies) → AllByRecursion (WalkOf like w replies) c.walks
       → split_by c.answers (behind c.judged (judged_all w replies groups)) ≡ judged_alone w most replies message
 
 -- the same, by what it waits for
@@ -44,7 +45,7 @@ LeadsAt w most message c for_nothing = Unit {0}
 -- it leads on, and at its end has the judged groups of the recursion, by each table of which its replies and nodes are
 pub record LeadsTo (w : World) (most : ℕ) (message : List ℕ) (c : Course) : Type 0 where
   pub leads : LeadsAt w most message c c.waits
-  pub ends : c.waits ≡ for_nothing → (test : Both → Bool) → SaysNoOfNone test → (replies : Replies) → CourseOf w replies c
+  pub ends : c.waits ≡ for_nothing → (test : Both → Bool) → SaysNoOfNone test → (like : Likeness) (replies : Replies) → CourseOf like w replies c
       → whole_where test c ≡ only_where test (judged_alone w most replies message)
 
 none_more : (js : List Judged) (j : Judged) → any_bogus js ≡ false → is_found_bogus j.finding ≡ false → any_bogus (js ++ j ∷ []) ≡ false
@@ -77,9 +78,9 @@ going_leads : (w : World) (most : ℕ) (message : List ℕ) (groups : List Group
 unfolding going_on judged_all
 going_leads w most message [] c h = record {
   leads = tt;
-  ends = λ over test says replies of.
+  ends = λ over test says like replies of.
       let its : split_by c.answers (all (c.judged ++ [])) ≡ judged_alone w most replies message =
-      h.comes_to replies (all_front (WalkOf w replies) c.walks [] of) in
+      h.comes_to like replies (all_front (WalkOf like w replies) c.walks [] of) in
       ap (λ (b : Bool). if not b && test (both_in c) then Some (both_in c) else None) h.none_bogus
       ∙ ap (only_where test) (ap (λ (js : List Judged). split_by c.answers (all js)) (sym (append-nil c.judged)) ∙ its);
 }
@@ -89,18 +90,18 @@ going_leads w most message (g ∷ gs) c h = by (going_leads w most message gs) (
         → LeadsTo w most message (by_way g gs x (going_on w gs) c).0
     by later (at_once j) once = later (with_judged c j) (record {
       none_bogus = none_more c.judged j h.none_bogus (passed_one j.finding once.goes_on);
-      comes_to = λ replies a.
-          ap (split_by c.answers) (sym (judged_first w replies c.judged g gs j (once.same replies) once.goes_on)) ∙ h.comes_to replies a;
+      comes_to = λ like replies a.
+          ap (split_by c.answers) (sym (judged_first w replies c.judged g gs j (once.same replies) once.goes_on)) ∙ h.comes_to like replies a;
     })
     by later (by_walk top) needs = record {
       leads = record { none_bogus = h.none_bogus; comes_to = h.comes_to };
-      ends = λ over test says replies of. absurd cc;
+      ends = λ over test says like replies of. absurd cc;
     }
 
 -- a walk has come to its group's node
 found_leads : (w : World) (most : ℕ) (message : List ℕ) (c : Course) (group : Group) (s : Walking) (n : Node) → IsFor w group s
     → LeadsOn w most message c (group ∷ c.left)
-    → ((replies : Replies) → WalkOf w replies s → node_of w replies s.top s.target ≡ n)
+    → ((like : Likeness) (replies : Replies) → WalkOf like w replies s → Alike like (node_of w replies s.top s.target) n)
     → LeadsTo w most message (by_step w c group s (done n)).0
 found_leads w most message c group s n f leads is = by (by_node w group n).finding refl
   where
@@ -110,25 +111,25 @@ found_leads w most message c group s n f leads is = by (by_node w group n).findi
     d : Course
     d = with_judged (with_walk c s) j
 
-    judged : (replies : Replies) → AllByRecursion (WalkOf w replies) (c.walks ++ s ∷ []) → judged_of w replies group ≡ j
-    judged replies a = by_its_node w replies group s n f (is replies (all_last (WalkOf w replies) c.walks s a).1)
+    judged : (like : Likeness) (replies : Replies) → AllByRecursion (WalkOf like w replies) (c.walks ++ s ∷ []) → judged_of w replies group ≡ j
+    judged like replies a = by_its_node like w replies group s n f (is like replies (all_last (WalkOf like w replies) c.walks s a).1)
 
     further : (x : Finding) → j.finding ≡ x → passes x ≡ true → LeadsTo w most message (going_on w c.left d).0
     further x e p = going_leads w most message c.left d (record {
       none_bogus = none_more c.judged j leads.none_bogus (passed_one j.finding (ap passes e ∙ p));
-      comes_to = λ replies a.
-          ap (split_by c.answers) (sym (judged_first w replies c.judged group c.left j (judged replies a) (ap passes e ∙ p)))
-          ∙ leads.comes_to replies (all_last (WalkOf w replies) c.walks s a).0;
+      comes_to = λ like replies a.
+          ap (split_by c.answers) (sym (judged_first w replies c.judged group c.left j (judged like replies a) (ap passes e ∙ p)))
+          ∙ leads.comes_to like replies (all_last (WalkOf like w replies) c.walks s a).0;
     })
 
     by : (x : Finding) → j.finding ≡ x → LeadsTo w most message (by_found w d x).0
     by (is_bogus cause links) e = record {
       leads = tt;
-      ends = λ over test says replies of.
-          let b = all_front (WalkOf w replies) (c.walks ++ s ∷ []) [] of in
+      ends = λ over test says like replies of.
+          let b = all_front (WalkOf like w replies) (c.walks ++ s ∷ []) [] of in
           none_told (length c.left == 0) (any_bogus (c.judged ++ j ∷ [])) (test (both_in d)) (both_in d) (one_more c.judged j (ap is_found_bogus e))
-          ∙ ap (only_where test) (ap (split_by c.answers) (sym (ap (behind c.judged) (judged_bogus w replies group c.left j (is_bogus cause links) (one_bogus cause links) (judged replies b) e refl)))
-          ∙ leads.comes_to replies (all_last (WalkOf w replies) c.walks s b).0);
+          ∙ ap (only_where test) (ap (split_by c.answers) (sym (ap (behind c.judged) (judged_bogus w replies group c.left j (is_bogus cause links) (one_bogus cause links) (judged like replies b) e refl)))
+          ∙ leads.comes_to like replies (all_last (WalkOf like w replies) c.walks s b).0);
     }
     by (is_shown links last signature) e = further (is_shown links last signature) e refl
     by has_no_set e = further has_no_set e refl
@@ -144,10 +145,10 @@ walk_leads w most message c group p f g leads = by p.1 refl
     same = record { none_bogus = leads.none_bogus; comes_to = leads.comes_to }
 
     by : (x : Step) → p.1 ≡ x → LeadsTo w most message (by_step w c group p.0 x).0
-    by (node_get name) e = record { leads = same; ends = λ over test says replies of. absurd cc }
-    by (node_put name n) e = record { leads = same; ends = λ over test says replies of. absurd cc }
-    by (ask name rtype) e = record { leads = same; ends = λ over test says replies of. absurd cc }
-    by (done n) e = found_leads w most message c group p.0 n f leads (λ replies a. subst (StepIs w replies p.0) e (g.says replies a.0 a.1))
+    by (node_get name) e = record { leads = same; ends = λ over test says like replies of. absurd cc }
+    by (node_put name n) e = record { leads = same; ends = λ over test says like replies of. absurd cc }
+    by (ask name rtype) e = record { leads = same; ends = λ over test says like replies of. absurd cc }
+    by (done n) e = found_leads w most message c group p.0 n f leads (λ like replies a. subst (StepIs like w replies p.0) e (g.says like replies a.0 a.1))
 
 -- A message that is judged a step at a time leads on to the judged groups of the recursion
 pub step_leads : (w : World) (most : ℕ) (message : List ℕ) (c : Course) (input : Input) → CourseInStep w most message c
@@ -159,7 +160,7 @@ step_leads w most message c input h l a = by c.waits input h l a
     by to_begin begin g m b = going_leads w most message c.left c m
     by (to_end o) begin g m b = record {
       leads = tt;
-      ends = λ over test says replies of.
+      ends = λ over test says like replies of.
           no_groups test says ((length c.left == 0) && not (any_bogus c.judged)) c.answers c.judged m.1 ∙ ap (only_where test) (sym (m.0 replies));
     }
     by (for_walk group s) i g m b =
@@ -192,7 +193,7 @@ begun_leads w most message c e = by_sections (sections_of message) refl e
     by_moved s f None g = (λ replies. known s replies f ∙ ap (by_answers replies (groups_of s.2)) g, refl)
     by_moved s f (Some answers) g = record {
       none_bogus = refl;
-      comes_to = λ replies a.
+      comes_to = λ like replies a.
           ap (λ (n : ℕ). split_by n (behind [] (judged_all w replies (answers ++ groups_of s.2)))) (sym (zero-add (length answers)))
           ∙ (judged_apart w replies answers (groups_of s.2) []
           ∙ (ap (λ (x : AllJudged). both_of x (judged_all w replies (groups_of s.2))) (first_of (judged_all w replies answers))

@@ -10,6 +10,7 @@ use Rattle.dsec_spec.specs.Records.{Record}
 use Rattle.dsec_nodes.specs.World.{World, Replies, moment}
 use Rattle.dsec_nodes.specs.Nodes.{Node, Kept}
 use Rattle.dsec_nodes.specs.Machine.{Input}
+use Rattle.dsec_nodes.specs.Likeness.{Likeness}
 use Rattle.dsec_nodes.specs.InStep.{AskedOf}
 use Rattle.dsec_nodes.specs.Judging.{Finding, is_shown, has_no_set, is_insecure, is_bogus, is_indeterminate, Judged}
 use Rattle.dsec_nodes.specs.SoundFindings.{Justifies, IsFound}
@@ -56,11 +57,11 @@ rewriting_judged w most message held c inputs both kept e heard is =
 pub rewriting_alone : (w : World) (most : ℕ) (message : List ℕ) (held : Node → Type 0) (c : Course) (inputs : List Input)
     → ((n : Node) → held n → Kept w.accepts n) → begun w.anchors most message ≡ Ok c → AreHeard w held (first_run w c) inputs
     → HoldsRun w most message held (after_heard w (first_run w c) inputs) → (after_heard w (first_run w c) inputs).course.waits ≡ for_nothing
-    → (replies : Replies) → ((n : Node) → held n → IsOfTable w replies n)
+    → (like : Likeness) (replies : Replies) → ((n : Node) → held n → IsOfTable like w replies n)
     → AskedOf replies (asked_in (after_heard w (first_run w c) inputs).course)
     → to_rewrite (moment w) (after_heard w (first_run w c) inputs).course ≡ to_rewrite_alone w most replies message
-rewriting_alone w most message held c inputs kept e heard h over replies of asked =
-    run_judged_alone w most message held c inputs kept e heard h over (are_due (moment w)) (none_due (moment w)) replies of asked
+rewriting_alone w most message held c inputs kept e heard h over like replies of asked =
+    run_judged_alone w most message held c inputs kept e heard h over (are_due (moment w)) (none_due (moment w)) like replies of asked
 
 -- what is cut to less than it is
 less_than : (s most bound : ℕ) → (if nat_lt s most then Some s else None) ≡ Some bound → (bound ≡ s) × (s < most)

@@ -3,6 +3,7 @@ use Rattle.std.proofs.Common.{◌≡◌, ℕ, Bool, List, [], ◌∷◌, Ok}
 use Rattle.dsec_nodes.specs.World.{World, Replies}
 use Rattle.dsec_nodes.specs.Nodes.{Node, Kept}
 use Rattle.dsec_nodes.specs.Machine.{Input, begin}
+use Rattle.dsec_nodes.specs.Likeness.{Likeness}
 use Rattle.dsec_nodes.specs.InStep.{AskedOf}
 use Rattle.dsec_course.specs.Course.{Course, for_nothing, asked_in}
 use Rattle.dsec_course.specs.Advancing.{begun}
@@ -49,10 +50,10 @@ run_judged w most message held c inputs kept e heard =
 pub run_judged_alone : (w : World) (most : ℕ) (message : List ℕ) (held : Node → Type 0) (c : Course) (inputs : List Input)
     → ((n : Node) → held n → Kept w.accepts n) → begun w.anchors most message ≡ Ok c → AreHeard w held (first_run w c) inputs
     → HoldsRun w most message held (after_heard w (first_run w c) inputs) → (after_heard w (first_run w c) inputs).course.waits ≡ for_nothing
-    → (test : Both → Bool) → SaysNoOfNone test → (replies : Replies) → ((n : Node) → held n → IsOfTable w replies n)
+    → (test : Both → Bool) → SaysNoOfNone test → (like : Likeness) (replies : Replies) → ((n : Node) → held n → IsOfTable like w replies n)
     → AskedOf replies (asked_in (after_heard w (first_run w c) inputs).course)
     → whole_where test (after_heard w (first_run w c) inputs).course ≡ only_where test (judged_alone w most replies message)
-run_judged_alone w most message held c inputs kept e heard h over test says replies of asked =
+run_judged_alone w most message held c inputs kept e heard h over test says like replies of asked =
     let r = after_heard w (first_run w c) inputs in
     (heard_judged w most message held inputs (first_run w c) kept (run_begins w most message held c kept e) (first_judged w most message c e) heard).leads.ends
-    over test says replies (run_of_table w most message held r replies h of asked)
+    over test says like replies (run_of_table like w most message held r replies h of asked)

@@ -6,9 +6,10 @@ use Rattle.dsec_spec.specs.Accepts.{Accepts}
 use Rattle.dsec_spec.proofs.Members.{in_front}
 use Rattle.dsec_nodes.specs.World.{World, Replies}
 use Rattle.dsec_nodes.specs.Nodes.{Node, Kept}
+use Rattle.dsec_nodes.specs.Likeness.{Likeness}
 use Rattle.dsec_node.specs.Caches.{Held, IsHeld, Keeps, Adds}
 use Rattle.dsec_course.specs.Hearing.{IsOfTable}
-use Rattle.dsec_lookup.specs.Outside.{WasHeld, HoldsMore, HoldsTable}
+use Rattle.dsec_lookup.specs.Outside.{WasHeld, HoldsMore, HoldsAlike}
 
 pub more_none : (held : Option Held) → HoldsMore held held []
 more_none None = refl
@@ -48,14 +49,14 @@ given_from accepts (Some old) None puts name n h k e = absurd h
 given_from accepts (Some old) (Some now) puts name n h k e = elim (h name n e) [ inl x ↦ inl (k, (name, x)) | inr x ↦ inr x.0 ]
 
 -- what was held is of a table where all that is told is
-pub held_of_table : (w : World) (replies : Replies) (held : Option Held) → HoldsTable w replies held → (n : Node) → WasHeld w.accepts held n
-    → IsOfTable w replies n
-held_of_table w replies None h n x = absurd h
-held_of_table w replies (Some held) h n x = h x.1.0 n x.1.1
+pub held_of_table : (like : Likeness) (w : World) (replies : Replies) (held : Option Held) → HoldsAlike like w replies held → (n : Node) → WasHeld w.accepts held n
+    → IsOfTable like w replies n
+held_of_table like w replies None h n x = absurd h
+held_of_table like w replies (Some held) h n x = h x.1.0 n x.1.1
 
 -- and so is all that is held afterwards, where the puts are
-pub holds_after : (w : World) (replies : Replies) (old now : Option Held) (puts : List Node) → HoldsMore old now puts → HoldsTable w replies old
-    → ((n : Node) → Contains puts n → IsOfTable w replies n) → HoldsTable w replies now
-holds_after w replies None now puts m h of = absurd h
-holds_after w replies (Some old) None puts m h of = absurd m
-holds_after w replies (Some old) (Some now) puts m h of = λ p n e. elim (m p n e) [ inl x ↦ h p n x | inr x ↦ of n x.0 ]
+pub holds_after : (like : Likeness) (w : World) (replies : Replies) (old now : Option Held) (puts : List Node) → HoldsMore old now puts → HoldsAlike like w replies old
+    → ((n : Node) → Contains puts n → IsOfTable like w replies n) → HoldsAlike like w replies now
+holds_after like w replies None now puts m h of = absurd h
+holds_after like w replies (Some old) None puts m h of = absurd m
+holds_after like w replies (Some old) (Some now) puts m h of = λ p n e. elim (m p n e) [ inl x ↦ h p n x | inr x ↦ of n x.0 ]

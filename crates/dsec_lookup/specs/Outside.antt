@@ -6,6 +6,7 @@ use Rattle.dsec_spec.specs.Outside.{Entry, Table, reply_of, risen, risen_by}
 use Rattle.dsec_nodes.specs.World.{World, Replies}
 use Rattle.dsec_nodes.specs.Nodes.{Node, Kept}
 use Rattle.dsec_nodes.specs.Machine.{Question as Asked, Input, node, stored, reply}
+use Rattle.dsec_nodes.specs.Likeness.{Likeness, but_for_times}
 use Rattle.dsec_nodes.specs.InStep.{AskedOf}
 use Rattle.dsec_node.specs.Caches.{Held, IsHeld, Keeps, Adds}
 use Rattle.dsec_course.specs.Course.{CourseStep, get_node, put_node, ask_for}
@@ -59,10 +60,14 @@ HoldsMore None new puts = new ≡ None
 HoldsMore (Some old) None puts = ⊥
 HoldsMore (Some old) (Some new) puts = (p : Place) (n : Node) → new p ≡ Some n → (old p ≡ Some n) ⊎ (Contains puts n × (n.name ≡ p))
 
--- it is told which nodes are held, and each is of a table
+-- it is told which nodes are held, and each is of a table, wholly or but for times
+abbrev pub HoldsAlike : Likeness → World → Replies → Option Held → Type 0
+HoldsAlike like w replies None = ⊥
+HoldsAlike like w replies (Some held) = (p : Place) (n : Node) → held p ≡ Some n → IsOfTable like w replies n
+
+-- it is told which nodes are held, and each is of a table, whenever it was made and however long it is kept
 abbrev pub HoldsTable : World → Replies → Option Held → Type 0
-HoldsTable w replies None = ⊥
-HoldsTable w replies (Some held) = (p : Place) (n : Node) → held p ≡ Some n → IsOfTable w replies n
+HoldsTable w replies held = HoldsAlike but_for_times w replies held
 
 -- a question was asked, and failed or not: a failure counts as one
 abbrev pub faults_after : ℕ → Option (List ℕ) → ℕ

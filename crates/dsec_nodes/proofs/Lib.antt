@@ -14,6 +14,7 @@ pub mod WalkLaws
 pub mod AmongLaws
 pub mod TakingLaws
 pub mod WayLaws
+pub mod AlikeLaws
 pub mod DnameLaws
 pub mod NextLaws
 pub mod AnswerCases

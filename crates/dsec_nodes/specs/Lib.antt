@@ -11,6 +11,7 @@ pub mod MissingByHash
 pub mod MissingDs
 pub mod ByDs
 pub mod Walk
+pub mod Likeness
 pub mod Held
 pub mod WithinCauses
 pub mod Taking

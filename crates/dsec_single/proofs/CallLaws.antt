@@ -8,6 +8,7 @@ use Rattle.dsec_nodes.specs.World.{World, Replies, moment}
 use Rattle.dsec_nodes.specs.Nodes.{Node}
 use Rattle.dsec_nodes.specs.Walk.{node_of}
 use Rattle.dsec_nodes.specs.Machine.{started}
+use Rattle.dsec_nodes.specs.Likeness.{but_for_times, Alike}
 use Rattle.dsec_nodes.specs.InStep.{AskedOf, GotOf, StepIs}
 use Rattle.dsec_nodes.specs.Judging.{Judged, by_node, target_of, judged_of}
 use Rattle.dsec_course.specs.Course.{Way, at_once, by_walk, way_of}
@@ -26,6 +27,7 @@ use Rattle.dsec_walk.specs.Checks.{sets_in}
 use Rattle.dsec_single.specs.Checked.{IsSingleCallWithin}
 use Rattle.dsec_single.proofs.ChecksLaws.{one_more}
 use Rattle.dsec_single.proofs.EndLaws.{needs_walk}
+use Rattle.dsec_single.proofs.ShownLaws.{shown_alike}
 use Rattle.dsec_single.proofs.TripLaws.{HoldsTrip, got_of}
 use Rattle.dsec_single.proofs.ServeLaws.{trip_holds, trip_first}
 
@@ -39,14 +41,14 @@ module _ (w : World) (group : Group) (table : Option Table) (before after : Outs
       let target : Place = target_of group (Some top) in
       let held : Node → Type 0 = WasHeld w.accepts before.held in
       let holds : HoldsTrip w held top target t = trip_holds w table before after top target lost t s in
-      let of : (m : Node) → held m → IsOfTable w replies m = held_of_table w replies before.held h in
-      let got : GotOf w replies t.walk.top t.walk.got = got_of w replies held t.puts t.walk of (holds.of_table replies of asked) holds.given in
-      let is : node_of w replies t.walk.top t.walk.target ≡ n = subst (StepIs w replies t.walk) e (holds.goes.says replies asked got) in
-      let there : node_of w replies top target ≡ n = subst (λ (p : Place). node_of w replies p target ≡ n) holds.same_top
-      (subst (λ (p : Place). node_of w replies t.walk.top p ≡ n) holds.same_target is) in
-      let same : judged_of w replies group ≡ by_node w group n = by_its_node w replies group (started top target) n
+      let of : (m : Node) → held m → IsOfTable but_for_times w replies m = held_of_table but_for_times w replies before.held h in
+      let got : GotOf but_for_times w replies t.walk.top t.walk.got = got_of but_for_times w replies held t.puts t.walk of (holds.of_table but_for_times replies of asked) holds.given in
+      let is : Alike but_for_times (node_of w replies t.walk.top t.walk.target) n = subst (StepIs but_for_times w replies t.walk) e (holds.goes.says but_for_times replies asked got) in
+      let there : Alike but_for_times (node_of w replies top target) n = subst (λ (p : Place). Alike but_for_times (node_of w replies p target) n) holds.same_top
+      (subst (λ (p : Place). Alike but_for_times (node_of w replies t.walk.top p) n) holds.same_target is) in
+      let same : judged_of w replies group ≡ by_node w group n = by_its_node but_for_times w replies group (started top target) n
       (record { has_records = needs.has_records; from_island = needs.from_island; to_signer = refl }) there in
-      (f ∙ ap (λ (j : Judged). answer_by group (moment w) j.finding) (sym same), subst (λ (m : Node). IsShownBy w group m a) (sym there) shows)
+      (f ∙ ap (λ (j : Judged). answer_by group (moment w) j.finding) (sym same), shown_alike w group (node_of w replies top target) n a there shows)
 
   -- a walk that has come so far
   pub walked_call : (top : Place) (lost : ℕ) (t : Trip) (told : Option Told) (from to : ℕ) → way_of w group ≡ by_walk top
@@ -70,14 +72,16 @@ module _ (w : World) (group : Group) (table : Option Table) (before after : Outs
         });
         agrees = λ replies h asked.
             let target : Place = target_of group (Some top) in
-            let of : (m : Node) → WasHeld w.accepts before.held m → IsOfTable w replies m = held_of_table w replies before.held h in
+            let of : (m : Node) → WasHeld w.accepts before.held m → IsOfTable but_for_times w replies m = held_of_table but_for_times w replies before.held h in
             let is = told_by top lost t told replies (needs_walk w group top way) s tells h asked in
             record {
               tells = is.0;
               shows = subst (ShowsOn w replies group told) (sym way) is.1;
-              holds = holds_after w replies before.held after.held t.puts s.holds_more h
-                  ((trip_holds w table before after top target lost t s).of_table replies of asked);
+              holds = holds_after but_for_times w replies before.held after.held t.puts s.holds_more h
+                  ((trip_holds w table before after top target lost t s).of_table but_for_times replies of asked);
             };
+        stays = λ like replies h asked. holds_after like w replies before.held after.held t.puts s.holds_more h
+            ((trip_holds w table before after top (target_of group (Some top)) lost t s).of_table like replies (held_of_table like w replies before.held h) asked);
       } in
       record { call = call; few = checks }
 
@@ -137,6 +141,7 @@ module _ (w : World) (group : Group) (table : Option Table) (before : Outside) (
           shows = subst (ShowsOn w replies group told) (sym way) (unshown replies j told bare);
           holds = h;
         };
+        stays = λ like replies h asked. h;
       } in
       record { call = call; few = omega arith }
 

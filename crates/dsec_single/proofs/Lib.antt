@@ -6,6 +6,7 @@ pub mod StepLaws
 pub mod TurnLaws
 pub mod WayLaws
 pub mod EndLaws
+pub mod ShownLaws
 pub mod CallLaws
 pub mod SoundLaws
 pub mod ClosingLaws

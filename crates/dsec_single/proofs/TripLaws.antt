@@ -10,6 +10,7 @@ use Rattle.dsec_nodes.specs.Nodes.{Node, Kept}
 use Rattle.dsec_nodes.specs.Walk.{node_of}
 use Rattle.dsec_nodes.specs.Taking.{RestsAt}
 use Rattle.dsec_nodes.specs.Machine.{Question as Asked, Walking, Step, node_get, node_put, ask, done, Input, begin, node, stored, reply, started, name_at, asked_type, advanced, Answers}
+use Rattle.dsec_nodes.specs.Likeness.{Likeness, seen, Alike}
 use Rattle.dsec_nodes.specs.InStep.{AskedOf, GotOf, InStep, StepIs, Goes}
 use Rattle.dsec_nodes.specs.SoundSteps.{InputKept, StepKept, Sound}
 use Rattle.dsec_nodes.proofs.CountLaws.{started_counted}
@@ -40,8 +41,8 @@ pub record HoldsTrip (w : World) (held : Node → Type 0) (top target : Place) (
   pub at_end : EndsAtTarget t.walk t.step
   pub given : Trace w held t.puts t.walk
   pub kept : (n : Node) → Contains t.puts n → Kept w.accepts n
-  pub of_table : (replies : Replies) → ((n : Node) → held n → IsOfTable w replies n) → AskedOf replies t.walk.asked
-      → (n : Node) → Contains t.puts n → IsOfTable w replies n
+  pub of_table : (like : Likeness) (replies : Replies) → ((n : Node) → held n → IsOfTable like w replies n) → AskedOf replies t.walk.asked
+      → (n : Node) → Contains t.puts n → IsOfTable like w replies n
 
 -- a node has one anchor, and so one island
 same_island : (anchors : List Record) (a b : Place) (n : Node) → RestsAt anchors a n → RestsAt anchors b n → a ≡ b
@@ -49,10 +50,10 @@ same_island anchors a b n r s =
     sym r.at ∙ (ap (λ (x : Record). place x.owner) (same_Some r.anchor s.anchor (sym r.its ∙ s.its)) ∙ s.at)
 
 -- where the held nodes and the puts are of a table, so are those that were given
-pub got_of : (w : World) (replies : Replies) (held : Node → Type 0) (puts : List Node) (s : Walking) → ((n : Node) → held n → IsOfTable w replies n)
-    → ((n : Node) → Contains puts n → IsOfTable w replies n) → Trace w held puts s → GotOf w replies s.top s.got
-got_of w replies held puts s h p t =
-    all_map (λ (n : Node). (held n ⊎ Contains puts n) × RestsAt w.anchors s.top n) (λ (n : Node). node_of w replies s.top n.name ≡ n) s.got
+pub got_of : (like : Likeness) (w : World) (replies : Replies) (held : Node → Type 0) (puts : List Node) (s : Walking) → ((n : Node) → held n → IsOfTable like w replies n)
+    → ((n : Node) → Contains puts n → IsOfTable like w replies n) → Trace w held puts s → GotOf like w replies s.top s.got
+got_of like w replies held puts s h p t =
+    all_map (λ (n : Node). (held n ⊎ Contains puts n) × RestsAt w.anchors s.top n) (λ (n : Node). Alike like (node_of w replies s.top n.name) n) s.got
     (λ n f. elim f.0 [ inl x ↦ h n x s.top f.1 | inr x ↦ p n x s.top f.1 ]) t
 
 -- a node that a step puts is kept
@@ -63,15 +64,15 @@ put_kept w top (ask name rtype) h n there = absurd (not_in_none n there)
 put_kept w top (done m) h n there = absurd (not_in_none n there)
 
 -- and of the table, where what was given is
-put_of_table : (w : World) (replies : Replies) (s : Walking) (x : Step) → PutUnder w s.top x → StepIs w replies s x → (n : Node) → Contains (put_in x) n
-    → IsOfTable w replies n
-put_of_table w replies s (node_put name m) h is n there =
-    subst (IsOfTable w replies) (only m n there) (λ top r.
+put_of_table : (like : Likeness) (w : World) (replies : Replies) (s : Walking) (x : Step) → PutUnder w s.top x → StepIs like w replies s x → (n : Node) → Contains (put_in x) n
+    → IsOfTable like w replies n
+put_of_table like w replies s (node_put name m) h is n there =
+    subst (IsOfTable like w replies) (only m n there) (λ top r.
     let same : top ≡ s.top = same_island w.anchors top s.top m r (h.0.1 h.1) in
-    ap (λ (p : Place). node_of w replies p m.name) same ∙ (ap (λ (p : Place). node_of w replies s.top p) h.0.0.1 ∙ is))
-put_of_table w replies s (node_get name) h is n there = absurd (not_in_none n there)
-put_of_table w replies s (ask name rtype) h is n there = absurd (not_in_none n there)
-put_of_table w replies s (done m) h is n there = absurd (not_in_none n there)
+    ap (λ (p : Place). seen like (node_of w replies p m.name)) same ∙ (ap (λ (p : Place). seen like (node_of w replies s.top p)) h.0.0.1 ∙ is))
+put_of_table like w replies s (node_get name) h is n there = absurd (not_in_none n there)
+put_of_table like w replies s (ask name rtype) h is n there = absurd (not_in_none n there)
+put_of_table like w replies s (done m) h is n there = absurd (not_in_none n there)
 
 -- what was asked before an input is of a table where what is asked after it is
 asked_before : (replies : Replies) (s : Walking) (i : Input) → AskedOf replies (asked_after s i) → AskedOf replies s.asked
@@ -85,7 +86,8 @@ asked_before replies s (reply octets) h =
 go_on : (w : World) (held : Node → Type 0) (top target : Place) (puts : List Node) (s : Walking) (input : Input) → ((n : Node) → held n → Kept w.accepts n)
     → s.top ≡ top → s.target ≡ target → IsUnderWay w s → InStep w s → IsNamed s s.reached → Trace w held puts s
     → ((n : Node) → Contains puts n → Kept w.accepts n)
-    → ((replies : Replies) → ((n : Node) → held n → IsOfTable w replies n) → AskedOf replies s.asked → (n : Node) → Contains puts n → IsOfTable w replies n)
+    → ((like : Likeness) (replies : Replies) → ((n : Node) → held n → IsOfTable like w replies n) → AskedOf replies s.asked → (n : Node) → Contains puts n
+    → IsOfTable like w replies n)
     → Answers s.phase input → GivenFrom held puts input → HoldsTrip w held top target (trip_at puts (advanced w s input))
 go_on w held top target puts s input kept same_top same_target under_way steps named given puts_kept of_table a from = record {
   same_top = l.leaves.same_top ∙ same_top;
@@ -104,13 +106,13 @@ go_on w held top target puts s input kept same_top same_target under_way steps n
     | inl old ↦ puts_kept n old
     | inr new ↦ put_kept w s.top p.1 under n new
   ];
-  of_table = λ replies h asked n there.
+  of_table = λ like replies h asked n there.
       let before : AskedOf replies s.asked = asked_before replies s input (subst (AskedOf replies) (l.leaves.asked_is under_way.is_counted.waits) asked) in
-      let old : (m : Node) → Contains puts m → IsOfTable w replies m = of_table replies h before in
+      let old : (m : Node) → Contains puts m → IsOfTable like w replies m = of_table like replies h before in
       elim (in_either n puts (put_in p.1) there) [
         | inl x ↦ old n x
-        | inr x ↦ put_of_table w replies p.0 p.1 (subst (λ (q : Place). PutUnder w q p.1) (sym l.leaves.same_top) under)
-            (goes.says replies asked (got_of w replies held puts p.0 h old traced)) n x
+        | inr x ↦ put_of_table like w replies p.0 p.1 (subst (λ (q : Place). PutUnder w q p.1) (sym l.leaves.same_top) under)
+            (goes.says like replies asked (got_of like w replies held puts p.0 h old traced)) n x
       ];
 }
   where
@@ -152,7 +154,7 @@ pub trip_begins : (w : World) (held : Node → Type 0) (top target : Place) → 
     → length top ≤ length target → HoldsTrip w held top target (first_trip w top target)
 trip_begins w held top target kept below le =
     go_on w held top target [] (started top target) begin kept refl refl under_way
-    (started_in_step w top target below le) tt tt (λ n there. absurd (not_in_none n there)) (λ replies h asked n there. absurd (not_in_none n there)) tt tt
+    (started_in_step w top target below le) tt tt (λ n there. absurd (not_in_none n there)) (λ like replies h asked n there. absurd (not_in_none n there)) tt tt
   where
     under_way : IsUnderWay w (started top target)
     under_way = record { is_sound = started_sound w top target below le; is_counted = started_counted top target; in_zone = tt }

@@ -9,11 +9,12 @@ use Rattle.dsec_nodes.specs.Causes.{RrsigWithoutRrset, NoTrustAnchor}
 use Rattle.dsec_nodes.specs.Nodes.{Node}
 use Rattle.dsec_nodes.specs.Walk.{node_of}
 use Rattle.dsec_nodes.specs.Machine.{Question as Asked, Step, Input, done}
+use Rattle.dsec_nodes.specs.Likeness.{Likeness}
 use Rattle.dsec_nodes.specs.InStep.{AskedOf}
 use Rattle.dsec_nodes.specs.Judging.{by_node, target_of, judged_of}
 use Rattle.dsec_course.specs.Course.{Way, at_once, by_walk, way_of}
 use Rattle.dsec_course.specs.Justified.{most_on}
-use Rattle.dsec_lookup.specs.Outside.{Outside, AreCounted, WasHeld, HoldsMore, HoldsTable}
+use Rattle.dsec_lookup.specs.Outside.{Outside, AreCounted, WasHeld, HoldsMore, HoldsAlike, HoldsTable}
 use Rattle.dsec_by_node.specs.Answers.{Answer, answer_by, Told}
 use Rattle.dsec_by_node.specs.WithNode.{IsShownBy}
 use Rattle.dsec_single.specs.Trips.{first_trip, AreGiven, after_given}
@@ -84,8 +85,8 @@ abbrev pub IsWanting : Option Told → ℕ → Type 0
 IsWanting (Some told) lost = lost ≡ 0
 IsWanting None lost = lost ≤ 1
 
--- by a table of which is all that was held and heard the answer is that of the recursion, shown by the recursion's node, and all that is held
--- afterwards is of it (RFC 4033 2, 5, RFC 4035 4.5)
+-- by a table of which is all that was held and heard, whenever what was held was made, the answer is that of the recursion, shown by the recursion's
+-- node, and all that is held afterwards is of it (RFC 4033 2, 5, RFC 4035 4.5)
 pub record AgreesOn (w : World) (group : Group) (after : Outside) (told : Option Told) (replies : Replies) : Type 0 where
   pub tells : Tells (answer_by group (moment w) (judged_of w replies group).finding) told
   pub shows : ShowsOn w replies group told (way_of w group)
@@ -93,8 +94,8 @@ pub record AgreesOn (w : World) (group : Group) (after : Outside) (told : Option
 
 -- What a call promises: there is a list of its questions with their replies, and one of the nodes that it put. The questions are counted, and few;
 -- no other node is held afterwards that wasn't before; the group was judged by them, and where all that was held and heard is of one table what is
--- told is that of the table. An upstream that tells nothing has many tables: by each of them that has these replies, it is that of the table
--- (RFC 4033 5, RFC 4035 4.3, 4.5, 5)
+-- told is that of the table; where it is wholly of it, so is all that is held afterwards. An upstream that tells nothing has many tables: by each of
+-- them that has these replies, it is that of the table (RFC 4033 5, RFC 4035 4.3, 4.5, 5)
 pub record IsSingleCall (w : World) (group : Group) (table : Option Table) (before after : Outside) (told : Option Told) : Type 0 where
   pub asked : List Asked
   pub lost : ℕ
@@ -105,3 +106,4 @@ pub record IsSingleCall (w : World) (group : Group) (table : Option Table) (befo
   pub holds_more : HoldsMore before.held after.held puts
   pub judged : WasJudged w group (WasHeld w.accepts before.held) asked puts told (way_of w group)
   pub agrees : (replies : Replies) → HoldsTable w replies before.held → AskedOf replies asked → AgreesOn w group after told replies
+  pub stays : (like : Likeness) (replies : Replies) → HoldsAlike like w replies before.held → AskedOf replies asked → HoldsAlike like w replies after.held
