@@ -5,6 +5,7 @@ pub mod FirstLaws
 pub mod MemberLaws
 pub mod GroupLaws
 pub mod PlacedLemmas
+pub mod TogetherLaws
 pub mod TypeLaws
 pub mod TrialLaws
 pub mod CheckLaws

@@ -8,6 +8,7 @@ use Rattle.dsec_spec.specs.Groups.{is_signature}
 use Rattle.dsec_group.specs.Adding.{canonical_of, has_data, led, with_record, AreAlike, AreGrouped, AreSignatures}
 use Rattle.dsec_group.proofs.PlacedLemmas.{stays_led, stays_signed}
 use Rattle.dsec_group.proofs.MemberLaws.{group_itself, grouped_plain, one_group}
+use Rattle.dsec_group.proofs.TogetherLaws.{plain_alone, signed_alone, together_plain, together_signed}
 
 -- one more signature
 pub signed_more : (r : Record) (ss : List Record) → is_signature r ≡ true → AreSignatures ss → AreSignatures (with_record r ss)
@@ -37,19 +38,20 @@ pub signed_one : (r : Record) → is_signature r ≡ true → AreSignatures (r �
 signed_one r e = signed_more r [] e (All-nil (λ x. x.rtype ≡ RRSIG))
 
 -- a group that took a signature, or a record that is none
-pub put_signed : (r : Record) (ps ss more : List Record) → is_signature r ≡ true → more ≡ with_record r ss → AreGrouped ps ss → AreGrouped ps more
-put_signed r ps ss more e is h = subst (AreGrouped ps) (sym is) (stays_signed (length ps) r ss h.0, h.1, signed_more r ss e h.2)
+pub put_signed : (r : Record) (ps ss more : List Record) → is_signature r ≡ true → led r ps ss ≡ true → more ≡ with_record r ss → AreGrouped ps ss → AreGrouped ps more
+put_signed r ps ss more e belongs is h = subst (AreGrouped ps) (sym is) (stays_signed (length ps) r ss h.0, together_signed r ps ss belongs h.1, h.2, signed_more r ss e h.3)
 
 pub put_plain : (r : Record) (ps ss more : List Record) → is_signature r ≡ false → led r ps ss ≡ true → more ≡ with_record r ps → AreGrouped ps ss → AreGrouped more ss
-put_plain r ps ss more e belongs is h = subst (λ xs. AreGrouped xs ss) (sym is) (stays_led (length ss) r ps h.0, alike_more r ps ss e belongs h.1, h.2)
+put_plain r ps ss more e belongs is h =
+    subst (λ xs. AreGrouped xs ss) (sym is) (stays_led (length ss) r ps h.0, together_plain r ps ss belongs h.1, alike_more r ps ss e belongs h.2, h.3)
 
 -- a group of one
 pub new_signed : (r : Record) (ps ss more : List Record) → is_signature r ≡ true → ps ≡ [] → ss ≡ [] → more ≡ with_record r ss → AreGrouped ps more
 new_signed r ps ss more e no_records none is =
     subst (λ xs. AreGrouped xs more) (sym no_records)
-    (subst (AreGrouped []) (sym (is ∙ ap (with_record r) none)) (omega arith, All-nil (λ x. (x.rtype ≡ RRSIG) × (is_signature x ≡ false)), signed_one r e))
+    (subst (AreGrouped []) (sym (is ∙ ap (with_record r) none)) (omega arith, signed_alone r, All-nil (λ x. (x.rtype ≡ RRSIG) × (is_signature x ≡ false)), signed_one r e))
 
 pub new_plain : (r : Record) (ps ss more : List Record) → is_signature r ≡ false → ps ≡ [] → ss ≡ [] → more ≡ with_record r ps → AreGrouped more ss
 new_plain r ps ss more e none no_signatures is =
     subst (AreGrouped more) (sym no_signatures)
-    (subst (λ xs. AreGrouped xs []) (sym (is ∙ ap (with_record r) none)) (omega arith, alike_one r e, All-nil (λ x. x.rtype ≡ RRSIG)))
+    (subst (λ xs. AreGrouped xs []) (sym (is ∙ ap (with_record r) none)) (omega arith, plain_alone r, alike_one r e, All-nil (λ x. x.rtype ≡ RRSIG)))

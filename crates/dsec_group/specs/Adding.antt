@@ -56,9 +56,19 @@ AreAlike records = All (λ r. (r.rtype ≡ type_in records) × (is_signature r �
 abbrev pub AreSignatures : List Record → Type 0
 AreSignatures records = All (λ r. r.rtype ≡ RRSIG) records
 
+-- whether a record is of one group with the first of these
+abbrev pub led : Record → List Record → List Record → Bool
+led r (first ∷ rs) signatures = of_one_group first r
+led r [] (first ∷ ss) = of_one_group first r
+led r [] [] = false
+
+-- records and signatures that belong together: each is of one group with the first of them (RFC 2181 5, RFC 4035 2.2)
+abbrev pub AreTogether : List Record → List Record → Type 0
+AreTogether records signatures = All (λ r. led r records signatures ≡ true) records × All (λ r. led r records signatures ≡ true) signatures
+
 -- records and signatures that may be a group's
 abbrev pub AreGrouped : List Record → List Record → Type 0
-AreGrouped records signatures = (0 < length records + length signatures) × AreAlike records × AreSignatures signatures
+AreGrouped records signatures = (0 < length records + length signatures) × AreTogether records signatures × AreAlike records × AreSignatures signatures
 
 -- the group of these records and signatures, with these extra records
 abbrev pub group_with : List Record → List Record → List Record → Bool → Group
@@ -75,12 +85,6 @@ group_with records signatures extra had_duplicate = record {
 -- the same, without extra records
 abbrev pub group_from : List Record → List Record → Bool → Group
 group_from records signatures had_duplicate = group_with records signatures [] had_duplicate
-
--- whether a record is of one group with the first of these
-abbrev pub led : Record → List Record → List Record → Bool
-led r (first ∷ rs) signatures = of_one_group first r
-led r [] (first ∷ ss) = of_one_group first r
-led r [] [] = false
 
 -- whether a record belongs to a group
 abbrev pub belongs_to : Record → Group → Bool

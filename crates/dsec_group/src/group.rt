@@ -1,6 +1,7 @@
 //! A group: the records of one owner, class and type, and their signatures (RFC 2181 5, RFC 4035 2.2).
 
-ghost use Rattle.std.specs.Prelude.{◌≡◌, ◌++◌, ◌∷◌, [], All, IfOk, OnOk, OnErr, Some, length, true};
+ghost use Rattle.std.specs.Prelude.{◌≡◌, ◌≢◌, ◌<◌, ◌++◌, ◌∷◌, [], All, IfOk, OnOk, OnErr, Some, length, true};
+ghost use Rattle.dsec_spec.specs.Names.{place};
 ghost use Rattle.dsec_spec.specs.Numbers.{RRSIG};
 ghost use Rattle.dsec_spec.specs.Groups.{grouped_type as type_of};
 ghost use Rattle.std.specs.Slice.Iter.{iter_rest};
@@ -15,9 +16,8 @@ use std::alloc::Global;
 use std::marker::Model;
 use std::slice::Iter;
 
-/// The records of one owner, class and type with the signatures that cover them, in order of arrival and
-/// without duplicates. It has a record or a signature. A group of a DNAME has besides the CNAME records that follow from it and
-/// stood apart (RFC 6672 3.1).
+/// The records of one owner, class and type with the signatures that cover them, in order of arrival and without duplicates: at least
+/// one record or signature. A group of a DNAME has besides the CNAME records that follow from it and stood apart (RFC 6672 3.1).
 #[derive(Drop)]
 pub struct Group {
     records: Members,
@@ -45,21 +45,15 @@ impl Group {
     {
         let mut records = Members::new(alloc);
         let mut signatures = Members::new(alloc);
-        let extra = Vec::new(alloc);
         if next.rtype() == Rtype::RRSIG {
             signatures.add(next)?;
-            return Ok(Group {
-                records,
-                signatures,
-                extra,
-                had_duplicate: false,
-            });
+        } else {
+            records.add(next)?;
         }
-        records.add(next)?;
         Ok(Group {
             records,
             signatures,
-            extra,
+            extra: Vec::new(alloc),
             had_duplicate: false,
         })
     }
@@ -108,6 +102,8 @@ impl Group {
     pub fn rr_set(&self) -> &[Record]
         ensures records { result.now ≡ self.now.records }
         ensures typed { All (λ one. one.rtype ≡ self.now.rtype) result.now }
+        ensures plain { All (λ one. one.rtype ≢ RRSIG) result.now }
+        ensures together { All (λ one. (place one.owner ≡ place self.now.owner) × (one.class ≡ self.now.class)) result.now }
     {
         self.records.as_slice()
     }
@@ -116,6 +112,8 @@ impl Group {
     pub fn sig_set(&self) -> &[Record]
         ensures signatures { result.now ≡ self.now.signatures }
         ensures typed { All (λ one. one.rtype ≡ RRSIG) result.now }
+        ensures together { All (λ one. (place one.owner ≡ place self.now.owner) × (one.class ≡ self.now.class)) result.now }
+        ensures covering { 0 < length self.now.records → All (λ one. type_of one ≡ self.now.rtype) result.now }
     {
         self.signatures.as_slice()
     }
