@@ -1,5 +1,5 @@
 -- A message judged over nodes that were held before and an upstream: what it was given, and what it put (RFC 4035 4.5).
-use Rattle.std.specs.Prelude.{◌≡◌, ◌⊎◌, ℕ, List, [], ◌∷◌, ◌++◌, Contains, Some, None}
+use Rattle.std.specs.Prelude.{◌⊎◌, ℕ, List, [], ◌∷◌, ◌++◌, Contains, Some, None}
 use Rattle.std.specs.List.{AllByRecursion}
 use Rattle.dsec_spec.specs.Names.{Place, IsName}
 use Rattle.dsec_nodes.specs.World.{World, Replies}

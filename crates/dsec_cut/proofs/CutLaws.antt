@@ -3,7 +3,6 @@ use Rattle.std.proofs.Common.{◌≡◌, ℕ, ◌==◌, ◌<◌, Bool, true, fal
 use Rattle.std.proofs.lemmas.Bool.{ltb-true, ltb-false}
 use Rattle.std.specs.Prelude.{◌&&◌, Contains, nat_lt, if◌then◌else◌}
 use Rattle.std.proofs.Math.Bool.{not}
-use Rattle.dsec_spec.specs.Groups.{Group}
 use Rattle.dsec_spec.specs.Lasting.{greatest_ttl_in, ttl_for_sig}
 use Rattle.dsec_spec.specs.Chain.{Link}
 use Rattle.dsec_spec.specs.Records.{Record}

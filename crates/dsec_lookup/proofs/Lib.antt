@@ -1,3 +1,6 @@
 pub mod CountLaws
 pub mod HoldingLaws
 pub mod HeardLaws
+pub mod MomentSigns
+pub mod MomentNodes
+pub mod MomentLaws
