@@ -11,7 +11,7 @@ use Rattle.dsec_course.specs.Course.{Waiting, to_begin, to_end, for_walk, for_no
 use Rattle.dsec_course.specs.Advancing.{begun}
 use Rattle.dsec_course.specs.Ending.{steps_left}
 use Rattle.dsec_course.specs.Hearing.{Run, first_run, ran_on, GivenFrom, AreHeard, after_heard, HoldsRun}
-use Rattle.dsec_course.proofs.Lists.{all_both}
+use Rattle.dsec_nodes.proofs.Each.{all_both}
 use Rattle.dsec_course.proofs.BeginningLaws.{begun_sound, begun_waits}
 use Rattle.dsec_course.proofs.EndingLaws.{course_nearer}
 use Rattle.dsec_course.proofs.RunLaws.{run_begins, run_goes_on, run_got, run_put, run_asked}

@@ -1,6 +1,9 @@
 -- What a call promises where judging a message ends, by how far it has come.
 use Rattle.std.proofs.Common.{◌≡◌, ℕ, ◌≤◌, List, [], ◌∷◌, length, Option, Some, None, IfSome, Result, Ok, Err, IfOk, refl, sym, ap, ◌∙◌, subst, inl, inr, arith}
+use Rattle.std.specs.Prelude.{Contains}
+use Rattle.dsec_spec.specs.Names.{Place}
 use Rattle.dsec_spec.specs.Outside.{Table, risen}
+use Rattle.dsec_spec.proofs.Members.{not_in_none}
 use Rattle.dsec_nodes.specs.World.{World, Replies, moment}
 use Rattle.dsec_nodes.specs.Nodes.{Node, Kept}
 use Rattle.dsec_nodes.specs.Machine.{Question as Asked, Input, begin}
@@ -14,7 +17,7 @@ use Rattle.dsec_found.specs.declared.error.Error.TheVariants.{FormError, ParseEr
 use Rattle.dsec_found.specs.Errors.{answer_of}
 use Rattle.dsec_course.specs.Course.{for_nothing, Course, CourseStep, end_with, groups_in, asked_in}
 use Rattle.dsec_course.specs.Advancing.{begun}
-use Rattle.dsec_course.specs.Hearing.{Run, first_run, ran_on, AreHeard, after_heard, HoldsRun}
+use Rattle.dsec_course.specs.Hearing.{Run, first_run, ran_on, AreHeard, after_heard, CountsAt, HoldsRun}
 use Rattle.dsec_course.specs.Justified.{IsEnd, CourseStepSound}
 use Rattle.dsec_course.proofs.AskingLaws.{groups_stay}
 use Rattle.dsec_course.proofs.BeginningLaws.{begun_waits, begun_refused, refused_alone}
@@ -22,12 +25,12 @@ use Rattle.dsec_course.proofs.RunLaws.{run_begins, run_asks, run_ends, heard_hol
 use Rattle.dsec_cut.specs.Cuts.{to_rewrite}
 use Rattle.dsec_cut.proofs.CutLaws.{none_without_groups, none_while_waiting}
 use Rattle.dsec_node.specs.Caches.{Held}
-use Rattle.dsec_context.specs.Outside.{Outside, replies_of, WasHeld, HoldsMore, HoldsAlike, HoldsTable}
+use Rattle.dsec_context.specs.Outside.{Outside, replies_of, WasHeld, HoldsMore, HoldsAlike, HoldsTable, AreApart}
 use Rattle.dsec_context.specs.Serving.{IsServing}
 use Rattle.dsec_context.specs.Calls.{Verdict, WereHeard, AgreesWith, IsCall, count_of, most_questions}
 use Rattle.dsec_context.specs.Judgements.{judgement_at, IsToRewrite, IsJudging}
 use Rattle.dsec_lookup.proofs.CountLaws.{counted_lost, counted_none}
-use Rattle.dsec_lookup.proofs.HoldingLaws.{more_none, held_of_table, holds_after}
+use Rattle.dsec_lookup.proofs.HoldingLaws.{more_none, held_of_table, holds_after, apart_holds}
 use Rattle.dsec_context.proofs.ReadLaws.{begun_reads}
 use Rattle.dsec_context.proofs.ServingLaws.{serving_holds}
 
@@ -251,6 +254,23 @@ call_few w most message table before after (Ok v) c = elim c.in_turn [
   | inl none ↦ let l : length c.asked ≡ 0 = ap length none.0 in omega (arith, l, c.so.0)
   | inr heard ↦ omega (arith, c.so.0, heard_few w most message (WasHeld w.accepts before.held) c.asked c.puts (λ n x. x.0) heard)
 ]
+
+-- what a message has put counts where it was judged
+heard_counting : (w : World) (most : ℕ) (message : List ℕ) (held : Node → Type 0) (asked : List Asked) (puts : List Node)
+    → ((n : Node) → held n → Kept w.accepts n) → WereHeard w most message held asked puts → (n : Node) → Contains puts n → (top : Place) × CountsAt w n top
+heard_counting w most message held asked puts kept t n there =
+    (heard_holds w most message held t.inputs (first_run w t.course) kept (run_begins w most message held t.course kept t.begins) t.heard).traced.counting n
+    (subst (λ (ns : List Node). Contains ns n) t.puts_are there)
+
+-- A call by other limits, or from no anchor in common, leaves all that is held of a table: what it puts may not count here
+pub call_apart : (like : Likeness) (w u : World) (replies : Replies) (most : ℕ) (message : List ℕ) (table : Option Table) (before after : Outside)
+    (answer : Result Verdict Error) → AreApart w u → IsCall u most message table before after answer → HoldsAlike like w replies before.held
+    → HoldsAlike like w replies after.held
+call_apart like w u replies most message table before after answer apart c =
+    apart_holds like w u replies before.held after.held c.puts apart c.holds_more (λ n there. elim c.in_turn [
+      | inl none ↦ absurd (not_in_none n (subst (λ (ns : List Node). Contains ns n) none.1 there))
+      | inr heard ↦ heard_counting u most message (WasHeld u.accepts before.held) c.asked c.puts (λ m x. x.0) heard n there
+    ])
 
 -- Where the upstream tells its table, and all that was held is of it, the answer is that of the table
 pub call_told : (w : World) (most : ℕ) (message : List ℕ) (table : Option Table) (before after : Outside) (answer : Result Verdict Error)

@@ -18,7 +18,7 @@ use Rattle.dsec_nodes.proofs.ShownLaws.{target_between}
 use Rattle.dsec_course.specs.Course.{Waiting, to_begin, to_end, for_walk, for_nothing, Course, CourseAnswers, Way, at_once, by_walk, way_of}
 use Rattle.dsec_course.specs.Advancing.{with_judged, with_walk, by_way, going_on, by_found, by_step, by_waiting, course_advanced}
 use Rattle.dsec_course.specs.Agreeing.{WalkOf, CourseOf, behind, on_all, Leads, IsFor, CourseInStep, CourseStepIs, CourseGoes}
-use Rattle.dsec_course.proofs.Lists.{all_front}
+use Rattle.dsec_nodes.proofs.Each.{all_front}
 use Rattle.dsec_course.proofs.WalkSteps.{advances}
 use Rattle.dsec_course.proofs.GroupLaws.{passes, NeedsWalk, WayIs, way_is, by_its_node, judged_first, judged_bogus}
 

@@ -19,7 +19,7 @@ use Rattle.dsec_nodes.proofs.CountLaws.{asked_at_most}
 use Rattle.dsec_course.specs.Course.{Waiting, to_begin, to_end, for_walk, for_nothing, Course, CourseAnswers, group_in, walk_in, groups_in, walks_in, asked_in, Way, at_once, by_walk, way_of}
 use Rattle.dsec_course.specs.Advancing.{with_judged, with_walk, by_way, going_on, by_found, by_step, by_waiting, course_advanced}
 use Rattle.dsec_course.specs.Justified.{route, route_by, route_of, most_on, most_for, IsPaced, SoundCourseAt, SoundCourse}
-use Rattle.dsec_course.proofs.Lists.{all_both, all_in}
+use Rattle.dsec_nodes.proofs.Each.{all_both, all_in}
 use Rattle.dsec_course.proofs.GroupLaws.{WayIs, way_is}
 use Rattle.dsec_course.proofs.SoundLaws.{more_groups, left_in, route_for}
 

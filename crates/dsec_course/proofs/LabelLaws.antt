@@ -23,7 +23,7 @@ use Rattle.dsec_nodes.specs.Alone.{sections_of}
 use Rattle.dsec_course.specs.Course.{Course}
 use Rattle.dsec_course.specs.Justified.{most_for}
 use Rattle.dsec_course.specs.Advancing.{begun_with, begun_by, begun}
-use Rattle.dsec_course.proofs.Lists.{all_both, all_map}
+use Rattle.dsec_nodes.proofs.Each.{all_both, all_map}
 use Rattle.dsec_course.proofs.AskingLaws.{HasLabels, labels_of_target, most_for_each}
 
 -- a name has at most 127 labels (RFC 1035 2.3.4)

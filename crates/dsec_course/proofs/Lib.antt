@@ -1,4 +1,3 @@
-pub mod Lists
 pub mod WalkSteps
 pub mod WalkPuts
 pub mod GroupLaws

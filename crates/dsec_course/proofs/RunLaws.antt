@@ -8,7 +8,6 @@ use Rattle.dsec_spec.proofs.Members.{in_either, not_in_none}
 use Rattle.dsec_nodes.specs.World.{World, Replies}
 use Rattle.dsec_nodes.specs.Nodes.{Node, Kept}
 use Rattle.dsec_nodes.specs.Likeness.{Likeness, wholly}
-use Rattle.dsec_nodes.specs.Taking.{RestsAt}
 use Rattle.dsec_nodes.specs.Machine.{Question as Asked, Input, begin, node, stored, reply}
 use Rattle.dsec_nodes.specs.InStep.{AskedOf}
 use Rattle.dsec_nodes.specs.Outcomes.{Outcome}
@@ -18,11 +17,11 @@ use Rattle.dsec_course.specs.Advancing.{begun, course_advanced}
 use Rattle.dsec_course.specs.Agreeing.{CourseOf, CourseInStep, CourseStepIs, CourseGoes}
 use Rattle.dsec_course.specs.Justified.{SoundCourse, SoundGoing}
 use Rattle.dsec_course.specs.Hearing.{Run, put_by, first_run, ran_on, GivenFrom, AreHeard, after_heard, IsOfTable, Traces, HoldsRun}
-use Rattle.dsec_course.proofs.Lists.{all_front, all_map}
+use Rattle.dsec_nodes.proofs.Each.{all_front, all_map}
 use Rattle.dsec_course.proofs.AgreeingLaws.{course_goes}
 use Rattle.dsec_course.proofs.SoundLaws.{course_sound}
 use Rattle.dsec_course.proofs.BeginningLaws.{begun_in_step, begun_sound, begun_waits}
-use Rattle.dsec_course.proofs.TraceLaws.{Trace, in_longer, walks_of, given_on, put_kept, put_of_table, input_kept}
+use Rattle.dsec_course.proofs.TraceLaws.{IsGiven, Trace, in_longer, walks_of, given_on, put_kept, put_counts, put_of_table, input_kept}
 use Rattle.dsec_course.proofs.AskingLaws.{course_asks, groups_stay}
 use Rattle.dsec_course.proofs.LabelLaws.{most_for_names, begun_named}
 use Rattle.dsec_course.proofs.StepLaws.{asked_grows, course_awaits}
@@ -39,11 +38,14 @@ run_on w most message held r input kept sound steps t named a from = record {
   awaits = course_awaits w most message r.course input sound a;
   traced = record {
     given = all_map (Trace w held r.puts) (Trace w held (r.puts ++ put_by p.1)) (walks_in p.0)
-        (λ s x. all_map (λ (n : Node). (held n ⊎ Contains r.puts n) × RestsAt w.anchors s.top n)
-        (λ (n : Node). (held n ⊎ Contains (r.puts ++ put_by p.1) n) × RestsAt w.anchors s.top n) s.got (λ n y. (longer n y.0, y.1)) x) given;
+        (λ s x. all_map (IsGiven w held r.puts s.top) (IsGiven w held (r.puts ++ put_by p.1) s.top) s.got (λ n y. (longer n y.0, y.1)) x) given;
     kept = λ n there. elim (in_either n r.puts (put_by p.1) there) [
       | inl old ↦ t.kept n old
       | inr new ↦ put_kept w most message p.1 p.0.waits going.1 n new
+    ];
+    counting = λ n there. elim (in_either n r.puts (put_by p.1) there) [
+      | inl old ↦ t.counting n old
+      | inr new ↦ put_counts w most message p.1 p.0.waits going.1 n new
     ];
     of_table = λ like replies h asked n there.
         let old : (m : Node) → Contains r.puts m → IsOfTable like w replies m = t.of_table like replies h (before replies asked) in
@@ -89,6 +91,7 @@ run_begins w most message held c kept e =
     run_on w most message held (record { course = c; step = get_node []; puts = [] }) begin kept (begun_sound w most message c e) (begun_in_step w most message c e) (record {
       given = subst (AllByRecursion (Trace w held [])) (sym n.no_walks) tt;
       kept = λ x there. absurd (not_in_none x there);
+      counting = λ x there. absurd (not_in_none x there);
       of_table = λ like replies h asked x there. absurd (not_in_none x there);
     }) (subst (AllByRecursion (λ (g : Group). IsName g.owner)) (sym n.groups_are) (begun_named w.anchors most message c e)) n.begins tt
 

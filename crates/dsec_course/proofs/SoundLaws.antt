@@ -31,7 +31,7 @@ use Rattle.dsec_course.specs.Course.{Waiting, to_begin, to_end, for_walk, for_no
 use Rattle.dsec_course.specs.Advancing.{waiting, with_judged, with_walk, at_last, by_way, going_on, by_found, by_step, by_waiting, course_advanced}
 use Rattle.dsec_course.specs.Agreeing.{IsFor}
 use Rattle.dsec_course.specs.Justified.{IsEnd, Justifies, IsFound, IsSure, route, route_by, route_of, most_on, IsPaced, IsOpen, SoundSoFar, SoundCourseAt, SoundCourse, SoundGoing}
-use Rattle.dsec_course.proofs.Lists.{all_front, all_back, all_both}
+use Rattle.dsec_nodes.proofs.Each.{all_front, all_back, all_both}
 use Rattle.dsec_course.proofs.WalkSteps.{HasReached, advances}
 use Rattle.dsec_course.proofs.WalkPuts.{PutUnder, put_under}
 use Rattle.dsec_course.proofs.GroupLaws.{passes, IsOnce, WayIs, way_is}

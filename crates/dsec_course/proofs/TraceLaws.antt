@@ -1,5 +1,5 @@
 -- Where the nodes come from that a message is given, and what is known of those that it puts.
-use Rattle.std.proofs.Common.{◌≡◌, ◌⊎◌, ℕ, List, [], ◌∷◌, ◌++◌, Some, None, sym, ap, ◌∙◌, subst, inl, inr}
+use Rattle.std.proofs.Common.{◌≡◌, ◌⊎◌, ℕ, List, [], ◌∷◌, ◌++◌, Some, None, false, refl, sym, ap, ◌∙◌, subst, inl, inr}
 use Rattle.std.specs.Prelude.{Contains}
 use Rattle.std.specs.List.{AllByRecursion, flat_map}
 use Rattle.std.proofs.lemmas.Option.{same_Some}
@@ -8,21 +8,22 @@ use Rattle.dsec_spec.specs.Records.{Record}
 use Rattle.dsec_spec.specs.Groups.{Group}
 use Rattle.dsec_spec.proofs.Members.{first_in, later_in, in_more, not_in_none}
 use Rattle.dsec_nodes.specs.World.{World, Replies}
-use Rattle.dsec_nodes.specs.Nodes.{Node, Kept}
+use Rattle.dsec_nodes.specs.Nodes.{Node, IsBogus, Kept}
 use Rattle.dsec_nodes.specs.Walk.{node_of}
 use Rattle.dsec_nodes.specs.Likeness.{Likeness, seen, Alike}
 use Rattle.dsec_nodes.specs.Taking.{RestsAt}
 use Rattle.dsec_nodes.specs.Machine.{Question as Asked, Walking, Step, Input, begin, node, stored, reply, gets, in_phase, started, advanced, node_get, node_put, ask, done}
-use Rattle.dsec_nodes.specs.InStep.{AskedOf}
-use Rattle.dsec_nodes.specs.SoundSteps.{InputKept}
+use Rattle.dsec_nodes.specs.InStep.{AskedOf, GotOf}
+use Rattle.dsec_nodes.specs.SoundSteps.{InputKept, KeptUnder}
 use Rattle.dsec_nodes.specs.Judging.{Finding, is_shown, has_no_set, is_insecure, is_bogus, is_indeterminate, by_node, target_of}
 use Rattle.dsec_nodes.proofs.MachineLaws.{all_last}
 use Rattle.dsec_course.specs.Course.{Waiting, to_begin, to_end, for_walk, for_nothing, Course, CourseStep, get_node, put_node, ask_for, end_with, CourseAnswers, walk_in, walks_in, Way, at_once, by_walk, way_of}
 use Rattle.dsec_course.specs.Advancing.{with_judged, with_walk, by_way, going_on, by_found, by_step, by_waiting, course_advanced}
 use Rattle.dsec_course.specs.Agreeing.{WalkOf, CourseStepIs}
 use Rattle.dsec_course.specs.Justified.{CourseStepSound}
-use Rattle.dsec_course.specs.Hearing.{put_by, GivenFrom, IsOfTable}
-use Rattle.dsec_course.proofs.Lists.{all_front, all_back, all_both, all_map}
+use Rattle.dsec_course.specs.Hearing.{put_by, GivenFrom, IsOfTable, CountsAt}
+use Rattle.dsec_nodes.proofs.TakingLaws.{taken_now}
+use Rattle.dsec_nodes.proofs.Each.{all_front, all_back, all_both, all_map}
 use Rattle.dsec_course.proofs.WalkSteps.{GotMore, advances}
 
 -- what is in a list of one is that one
@@ -32,9 +33,13 @@ only x y h = elim (in_more x y [] h) [
   | inr none ↦ absurd (not_in_none y none)
 ]
 
--- where a node was given to a walk from
+-- a node that a walk from an island has taken: where it is from, and that it counts
+abbrev pub IsGiven : World → (Node → Type 0) → List Node → Place → Node → Type 0
+IsGiven w held puts top n = (held n ⊎ Contains puts n) × CountsAt w n top
+
+-- and each that a walk has taken
 abbrev pub Trace : World → (Node → Type 0) → List Node → Walking → Type 0
-Trace w held puts s = AllByRecursion (λ (n : Node). (held n ⊎ Contains puts n) × RestsAt w.anchors s.top n) s.got
+Trace w held puts s = AllByRecursion (IsGiven w held puts s.top) s.got
 
 -- what is in a list is in the list with more
 pub in_longer : {A : Type 0} (xs ys : List A) (x : A) → Contains xs x → Contains (xs ++ ys) x
@@ -45,9 +50,16 @@ in_longer (z ∷ xs) ys x h = elim (in_more z x xs h) [
 ]
 
 -- a node has one anchor, and so one island
-same_island : (anchors : List Record) (a b : Place) (n : Node) → RestsAt anchors a n → RestsAt anchors b n → a ≡ b
+pub same_island : (anchors : List Record) (a b : Place) (n : Node) → RestsAt anchors a n → RestsAt anchors b n → a ≡ b
 same_island anchors a b n r s =
     sym r.at ∙ (ap (λ (x : Record). place x.owner) (same_Some r.anchor s.anchor (sym r.its ∙ s.its)) ∙ s.at)
+
+-- where the held nodes and the puts are of a table, so are those that were given
+pub got_of : (like : Likeness) (w : World) (replies : Replies) (held : Node → Type 0) (puts : List Node) (s : Walking) → ((n : Node) → held n → IsOfTable like w replies n)
+    → ((n : Node) → Contains puts n → IsOfTable like w replies n) → Trace w held puts s → GotOf like w replies s.top s.got
+got_of like w replies held puts s h p t =
+    all_map (IsGiven w held puts s.top) (λ (n : Node). Alike like (node_of w replies s.top n.name) n) s.got
+    (λ n f. elim f.0 [ inl x ↦ h n x s.top (taken_now w s.top n f.1) | inr x ↦ p n x s.top (taken_now w s.top n f.1) ]) t
 
 -- walks whose nodes are of a table, and whose replies are
 pub walks_of : (like : Likeness) (w : World) (replies : Replies) (held : Node → Type 0) (puts : List Node) (ws : List Walking)
@@ -60,8 +72,7 @@ walks_of like w replies held puts (s ∷ ws) h p t a =
     let later : List Asked = flat_map (λ (x : Walking). x.asked) ws in (
       (
         all_front Answered s.asked later a,
-        all_map (λ (n : Node). (held n ⊎ Contains puts n) × RestsAt w.anchors s.top n) (λ (n : Node). Alike like (node_of w replies s.top n.name) n) s.got
-            (λ n f. elim f.0 [ inl x ↦ h n x s.top f.1 | inr x ↦ p n x s.top f.1 ]) t.0,
+        got_of like w replies held puts s h p t.0,
       ),
       walks_of like w replies held puts ws h p t.1 (all_back Answered s.asked later a),
     )
@@ -103,7 +114,7 @@ trace_more w held puts s t i got top is more from h =
     subst (AllByRecursion (At t.top)) (sym is) (subst (λ (p : Place). AllByRecursion (At p) got) (sym top) all)
   where
     At : Place → Node → Type 0
-    At p n = (held n ⊎ Contains puts n) × RestsAt w.anchors p n
+    At = IsGiven w held puts
 
     all : AllByRecursion (At s.top) got
     all = elim more [
@@ -141,6 +152,10 @@ given_on w held puts c input a from h = by c.waits input a from h
     by (to_end o) (reply octets) b f g = absurd b
     by for_nothing i b f g = absurd b
 
+-- a node that is put under an island counts there
+pub under_counts : (w : World) (top name : Place) (n : Node) → KeptUnder w top name n → IsBogus n.standing ≡ false → CountsAt w n top
+under_counts w top name n h e = record { not_bogus = e; named = refl; rests = h.1 e; within = h.2; from = h.0.2; to = h.0.3 }
+
 -- a node that a step puts is kept
 pub put_kept : (w : World) (most : ℕ) (message : List ℕ) (x : CourseStep) (waits : Waiting) → CourseStepSound w most message x waits → (n : Node)
     → Contains (put_by x) n → Kept w.accepts n
@@ -152,14 +167,31 @@ put_kept w most message (get_node name) waits h n there = absurd (not_in_none n 
 put_kept w most message (ask_for name rtype) waits h n there = absurd (not_in_none n there)
 put_kept w most message (end_with r) waits h n there = absurd (not_in_none n there)
 
--- and of the table, where what was given is
+-- and counts
+pub put_counts : (w : World) (most : ℕ) (message : List ℕ) (x : CourseStep) (waits : Waiting) → CourseStepSound w most message x waits → (n : Node)
+    → Contains (put_by x) n → (top : Place) × CountsAt w n top
+put_counts w most message (put_node name m) (for_walk group s) h n there =
+    subst (λ (y : Node). (top : Place) × CountsAt w y top) (only m n there) (s.top, under_counts w s.top name m h.0 h.1)
+put_counts w most message (put_node name m) to_begin h n there = absurd h
+put_counts w most message (put_node name m) (to_end o) h n there = absurd h
+put_counts w most message (put_node name m) for_nothing h n there = absurd h
+put_counts w most message (get_node name) waits h n there = absurd (not_in_none n there)
+put_counts w most message (ask_for name rtype) waits h n there = absurd (not_in_none n there)
+put_counts w most message (end_with r) waits h n there = absurd (not_in_none n there)
+
+-- a node that is put under an island is of a table where it says what the recursion says there
+pub put_under_table : (like : Likeness) (w : World) (replies : Replies) (top name : Place) (n : Node) → KeptUnder w top name n → IsBogus n.standing ≡ false
+    → Alike like (node_of w replies top name) n → IsOfTable like w replies n
+put_under_table like w replies top name n h e is = λ other may.
+    let same : other ≡ top = same_island w.anchors other top n may.2.rests (h.1 e) in
+    ap (λ (p : Place). seen like (node_of w replies p n.name)) same ∙ (ap (λ (p : Place). seen like (node_of w replies top p)) h.0.1 ∙ is)
+
+-- so is one that a step puts, where what was given is
 pub put_of_table : (like : Likeness) (w : World) (most : ℕ) (replies : Replies) (message : List ℕ) (x : CourseStep) (waits : Waiting)
     → CourseStepSound w most message x waits
     → CourseStepIs like w most replies message waits x → (n : Node) → Contains (put_by x) n → IsOfTable like w replies n
 put_of_table like w most replies message (put_node name m) (for_walk group s) h is n there =
-    subst (IsOfTable like w replies) (only m n there) (λ top r.
-    let same : top ≡ s.top = same_island w.anchors top s.top m r (h.0.1 h.1) in
-    ap (λ (p : Place). seen like (node_of w replies p m.name)) same ∙ (ap (λ (p : Place). seen like (node_of w replies s.top p)) h.0.0.1 ∙ is))
+    subst (IsOfTable like w replies) (only m n there) (put_under_table like w replies s.top name m h.0 h.1 is)
 put_of_table like w most replies message (put_node name m) to_begin h is n there = absurd h
 put_of_table like w most replies message (put_node name m) (to_end o) h is n there = absurd h
 put_of_table like w most replies message (put_node name m) for_nothing h is n there = absurd h

@@ -7,12 +7,12 @@ use Rattle.dsec_nodes.specs.Nodes.{Node, Standing, apex, within, insecure, bogus
 use Rattle.dsec_nodes.specs.Replies.{read_reply}
 use Rattle.dsec_nodes.specs.ByDs.{Pending, Below, made, asks, by_ds_reply, by_key_reply}
 use Rattle.dsec_nodes.specs.Walk.{by_anchor_reply, Reached, held_keys, may_stand}
-use Rattle.dsec_nodes.specs.Taking.{counts, RestsAt}
+use Rattle.dsec_nodes.specs.Taking.{counts, Taken}
 use Rattle.dsec_nodes.specs.Machine.{Question, Phase, gets, asks_keys, ends, Walking, Step, node_get, node_put, ask, done, Input, begin, node, stored, reply, name_at, type_at, asked_type, arrived, in_phase, is_further, ahead_from, ahead, with_got, asking, given, heard, made_by, making, below_by, first_reply, key_reply, replied, advanced, Answers}
 use Rattle.dsec_nodes.specs.InStep.{WaitsBelow}
 use Rattle.dsec_nodes.proofs.AnswerCases.{each_answer}
 use Rattle.dsec_nodes.proofs.NextLaws.{arrived_node}
-use Rattle.dsec_nodes.proofs.TakingLaws.{taken}
+use Rattle.dsec_nodes.proofs.TakingLaws.{taken, taken_itself}
 
 -- what answers a walk's step answers what it waits for, and its question is the one under which the reply is kept
 abbrev pub WalkAwaits : Step → Walking → Type 0
@@ -112,10 +112,10 @@ asked_after s begin = s.asked
 asked_after s (node o) = s.asked
 asked_after s stored = s.asked
 
--- the nodes that a walk was given are the same, or with the node of the input, whose anchor is one of the island's
+-- the nodes that a walk was given are the same, or with the node of the input, which counts under the island
 abbrev pub GotMore : World → Walking → Input → List Node → Type 0
 GotMore w s input got =
-    (got ≡ s.got) ⊎ ((n : Node) × (input ≡ node (Some n)) × (got ≡ s.got ++ n ∷ []) × RestsAt w.anchors s.top n)
+    (got ≡ s.got) ⊎ ((n : Node) × (input ≡ node (Some n)) × (got ≡ s.got ++ n ∷ []) × Taken w s.top n.name n)
 
 -- a walk after an input
 pub record Advances (w : World) (s : Walking) (input : Input) : Type 0 where
@@ -135,7 +135,7 @@ given_leaves w s (Some n) = by (counts w s.top (name_at s) n && may_stand s.reac
     by true e = (
       s.got ++ n ∷ [],
       ahead_leaves s (with_got s n) refl refl,
-      inr (n, refl, refl, (taken w s.top (name_at s) n (and_parts _ _ e).0).rests),
+      inr (n, refl, refl, taken_itself w s.top (name_at s) n (taken w s.top (name_at s) n (and_parts _ _ e).0)),
     )
 
 -- what an input that answers makes of a walk

@@ -6,7 +6,8 @@ use Rattle.dsec_nodes.specs.World.{World, Replies}
 use Rattle.dsec_nodes.specs.Nodes.{Node, Kept}
 use Rattle.dsec_nodes.specs.Walk.{node_of}
 use Rattle.dsec_nodes.specs.Likeness.{Likeness, Alike}
-use Rattle.dsec_nodes.specs.Taking.{RestsAt}
+use Rattle.dsec_nodes.specs.Taking.{Taken}
+use Rattle.dsec_nodes.specs.Moments.{MayCount}
 use Rattle.dsec_nodes.specs.Machine.{Input, begin, node, stored, reply}
 use Rattle.dsec_nodes.specs.InStep.{AskedOf}
 use Rattle.dsec_course.specs.Course.{Course, CourseStep, get_node, put_node, ask_for, end_with, CourseAnswers, Awaits, groups_in, walks_in, asked_in}
@@ -61,16 +62,21 @@ abbrev pub after_heard : World → Run → List Input → Run
 after_heard w r [] = r
 after_heard w r (i ∷ inputs) = after_heard w (ran_on w r i) inputs
 
--- a node is of a table: wholly or but for times it is the one that the recursion makes at its name at the moment of judging, from the island at
--- which its anchor stands, by these replies; one that was made earlier is so but for times
+-- a node is of a table: where it may count, now or later, it is wholly or but for times the one that the recursion makes at its name at the moment
+-- of judging, from the island at which its anchor stands, by these replies; one that was made at another moment can only be so but for times
 abbrev pub IsOfTable : Likeness → World → Replies → Node → Type 0
-IsOfTable like w replies n = (top : Place) → RestsAt w.anchors top n → Alike like (node_of w replies top n.name) n
+IsOfTable like w replies n = (top : Place) → MayCount w top n → Alike like (node_of w replies top n.name) n
 
--- The nodes that a message was given were held before, or it has put them, and their anchors are those of the islands; the nodes that it has
--- put are kept, and by each table of which, wholly or but for times, the held nodes and its replies are, so are they (RFC 4035 4.5)
+-- a node counts under an island at the moment of judging (RFC 4035 4.5)
+abbrev pub CountsAt : World → Node → Place → Type 0
+CountsAt w n top = Taken w top n.name n
+
+-- The nodes that the walks of a message have taken were held before, or it has put them, and each counts under the walk's island; the nodes that it
+-- has put are kept and count, and by each table of which, wholly or but for times, the held nodes and its replies are, so are they (RFC 4035 4.5)
 pub record Traces (w : World) (held : Node → Type 0) (r : Run) : Type 0 where
-  pub given : AllByRecursion (λ s. AllByRecursion (λ n. (held n ⊎ Contains r.puts n) × RestsAt w.anchors s.top n) s.got) (walks_in r.course)
+  pub given : AllByRecursion (λ s. AllByRecursion (λ n. (held n ⊎ Contains r.puts n) × CountsAt w n s.top) s.got) (walks_in r.course)
   pub kept : (n : Node) → Contains r.puts n → Kept w.accepts n
+  pub counting : (n : Node) → Contains r.puts n → (top : Place) × CountsAt w n top
   pub of_table : (like : Likeness) (replies : Replies) → ((n : Node) → held n → IsOfTable like w replies n) → AskedOf replies (asked_in r.course)
       → (n : Node) → Contains r.puts n → IsOfTable like w replies n
 

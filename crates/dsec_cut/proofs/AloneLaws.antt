@@ -20,7 +20,7 @@ use Rattle.dsec_nodes.proofs.MachineLaws.{all_last, advanced_goes}
 use Rattle.dsec_course.specs.Course.{Waiting, to_begin, to_end, for_walk, for_nothing, Course, CourseAnswers, Way, at_once, by_walk, way_of}
 use Rattle.dsec_course.specs.Advancing.{waiting, with_judged, with_walk, begun, begun_by, begun_with, by_way, going_on, by_found, by_step, by_waiting, course_advanced}
 use Rattle.dsec_course.specs.Agreeing.{WalkOf, CourseOf, behind, IsFor, InStepAt, CourseInStep}
-use Rattle.dsec_course.proofs.Lists.{all_front}
+use Rattle.dsec_nodes.proofs.Each.{all_front}
 use Rattle.dsec_course.proofs.WalkSteps.{advances}
 use Rattle.dsec_course.proofs.GroupLaws.{passes, WayIs, way_is, by_its_node, judged_first, judged_bogus}
 use Rattle.dsec_course.proofs.AgreeingLaws.{still_for}

@@ -7,7 +7,7 @@ use Rattle.dsec_spec.specs.Names.{Place}
 use Rattle.dsec_spec.specs.Outside.{Entry, Table, risen, risen_by}
 use Rattle.dsec_nodes.specs.Machine.{Question as Asked}
 use Rattle.dsec_nodes.specs.InStep.{AskedOf}
-use Rattle.dsec_course.proofs.Lists.{all_both}
+use Rattle.dsec_nodes.proofs.Each.{all_both}
 use Rattle.dsec_lookup.specs.Outside.{Outside, replies_of, failures, AreCounted, HeardMore, faults_after}
 use Rattle.dsec_lookup.proofs.HeardLaws.{heard_none, heard_then}
 

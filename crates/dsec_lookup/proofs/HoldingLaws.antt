@@ -1,6 +1,7 @@
 -- What caches hold after gets and puts was held before, or was put.
 use Rattle.std.proofs.Common.{◌≡◌, ◌⊎◌, List, [], ◌++◌, Option, Some, None, refl, sym, ap, ◌∙◌, subst, inl, inr}
 use Rattle.std.specs.Prelude.{Contains}
+use Rattle.std.proofs.lemmas.Option.{same_Some}
 use Rattle.dsec_spec.specs.Names.{Place}
 use Rattle.dsec_spec.specs.Accepts.{Accepts}
 use Rattle.dsec_spec.proofs.Members.{in_front}
@@ -8,8 +9,8 @@ use Rattle.dsec_nodes.specs.World.{World, Replies}
 use Rattle.dsec_nodes.specs.Nodes.{Node, Kept}
 use Rattle.dsec_nodes.specs.Likeness.{Likeness}
 use Rattle.dsec_node.specs.Caches.{Held, IsHeld, Keeps, Adds}
-use Rattle.dsec_course.specs.Hearing.{IsOfTable}
-use Rattle.dsec_lookup.specs.Outside.{WasHeld, HoldsMore, HoldsAlike}
+use Rattle.dsec_course.specs.Hearing.{IsOfTable, CountsAt}
+use Rattle.dsec_lookup.specs.Outside.{WasHeld, HoldsMore, HoldsAlike, AreApart}
 
 pub more_none : (held : Option Held) → HoldsMore held held []
 more_none None = refl
@@ -60,3 +61,16 @@ pub holds_after : (like : Likeness) (w : World) (replies : Replies) (old now : O
 holds_after like w replies None now puts m h of = absurd h
 holds_after like w replies (Some old) None puts m h of = absurd m
 holds_after like w replies (Some old) (Some now) puts m h of = λ p n e. elim (m p n e) [ inl x ↦ h p n x | inr x ↦ of n x.0 ]
+
+-- a node that counts for one who judges by other limits, or has no anchor in common, may not count here, so that nothing is asked of it
+pub apart_of_table : (like : Likeness) (w u : World) (replies : Replies) (n : Node) (top : Place) → AreApart w u → CountsAt u n top → IsOfTable like w replies n
+apart_of_table like w u replies n top apart c = λ other may.
+    let same : may.2.rests.anchor ≡ c.rests.anchor = same_Some may.2.rests.anchor c.rests.anchor (sym may.2.rests.its ∙ c.rests.its) in
+    absurd (apart (sym may.2.within ∙ c.within) may.2.rests.anchor may.2.rests.is_listed
+    (subst (Contains u.anchors) (sym same) c.rests.is_listed))
+
+-- so what such a one puts leaves all that is held of a table
+pub apart_holds : (like : Likeness) (w u : World) (replies : Replies) (old now : Option Held) (puts : List Node) → AreApart w u → HoldsMore old now puts
+    → ((n : Node) → Contains puts n → (top : Place) × CountsAt u n top) → HoldsAlike like w replies old → HoldsAlike like w replies now
+apart_holds like w u replies old now puts apart more counting h =
+    holds_after like w replies old now puts more h (λ n there. let c = counting n there in apart_of_table like w u replies n c.0 apart c.1)

@@ -1,10 +1,12 @@
 -- What a call sees of the outside: the nodes that caches hold, and the counts of questions and of failures (RFC 4035 4.3, 4.5).
-use Rattle.std.specs.Prelude.{◌≡◌, ◌⊎◌, ℕ, ◌+◌, ◌==◌, ◌&&◌, List, [], ◌∷◌, ◌++◌, length, filter, map, find, is_none, Contains, Option, Some, None, IfSome}
+use Rattle.std.specs.Prelude.{◌≡◌, ◌⊎◌, ℕ, ◌+◌, ◌≤◌, ◌==◌, ◌&&◌, List, [], ◌∷◌, ◌++◌, length, filter, map, find, is_none, Contains, Option, Some, None, IfSome}
 use Rattle.dsec_spec.specs.Names.{Place, place, same_place}
+use Rattle.dsec_spec.specs.Records.{Record}
 use Rattle.dsec_spec.specs.Accepts.{Accepts}
 use Rattle.dsec_spec.specs.Outside.{Entry, Table, reply_of, risen, risen_by}
 use Rattle.dsec_nodes.specs.World.{World, Replies}
 use Rattle.dsec_nodes.specs.Nodes.{Node, Kept}
+use Rattle.dsec_nodes.specs.Moments.{at_moment, MayCount, IsSteadyWay}
 use Rattle.dsec_nodes.specs.Machine.{Question as Asked, Input, node, stored, reply}
 use Rattle.dsec_nodes.specs.Likeness.{Likeness, but_for_times}
 use Rattle.dsec_nodes.specs.InStep.{AskedOf}
@@ -60,14 +62,26 @@ HoldsMore None new puts = new ≡ None
 HoldsMore (Some old) None puts = ⊥
 HoldsMore (Some old) (Some new) puts = (p : Place) (n : Node) → new p ≡ Some n → (old p ≡ Some n) ⊎ (Contains puts n × (n.name ≡ p))
 
--- it is told which nodes are held, and each is of a table, wholly or but for times
+-- it is told which nodes are held, and each that may count is of a table, wholly or but for times
 abbrev pub HoldsAlike : Likeness → World → Replies → Option Held → Type 0
 HoldsAlike like w replies None = ⊥
 HoldsAlike like w replies (Some held) = (p : Place) (n : Node) → held p ≡ Some n → IsOfTable like w replies n
 
--- it is told which nodes are held, and each is of a table, whenever it was made and however long it is kept
+-- it is told which nodes are held, and each that may count is of a table, whenever it was made and however long it is kept
 abbrev pub HoldsTable : World → Replies → Option Held → Type 0
 HoldsTable w replies held = HoldsAlike but_for_times w replies held
+
+-- where it is told which nodes are held: each that may count at another moment, or later than that, hasn't run out at the moment of judging, and on
+-- the way to it each signature in a table's replies is in its period at both moments, or at neither (RFC 4034 3.1.5, RFC 4035 4.5)
+abbrev pub HoldsSteady : World → ℕ → Replies → Option Held → Type 0
+HoldsSteady w other replies None = Unit {0}
+HoldsSteady w other replies (Some held) =
+    (p : Place) (n : Node) → held p ≡ Some n → (top : Place) → MayCount (at_moment w other) top n
+    → (w.now ≤ n.made + n.valid_for) × IsSteadyWay w other replies top n.name
+
+-- two that judge by other limits, or have no anchor in common (RFC 4033 2)
+abbrev pub AreApart : World → World → Type 0
+AreApart w u = w.bounds ≡ u.bounds → (anchor : Record) → Contains w.anchors anchor → Contains u.anchors anchor → ⊥
 
 -- a question was asked, and failed or not: a failure counts as one
 abbrev pub faults_after : ℕ → Option (List ℕ) → ℕ

@@ -1,6 +1,7 @@
 pub mod Periods
 pub mod Signs
 pub mod Lists
+pub mod Each
 pub mod Lasting
 pub mod KeptLaws
 pub mod LookedLaws
@@ -14,7 +15,11 @@ pub mod WalkLaws
 pub mod AmongLaws
 pub mod TakingLaws
 pub mod WayLaws
+pub mod MomentSigns
+pub mod MomentNodes
+pub mod MomentNext
 pub mod AlikeLaws
+pub mod MomentLaws
 pub mod DnameLaws
 pub mod NextLaws
 pub mod AnswerCases

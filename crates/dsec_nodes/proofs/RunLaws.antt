@@ -1,6 +1,7 @@
 -- However a walk is served by a table, it ends with the node that the recursion makes.
 use Rattle.std.proofs.Common.{◌≡◌, ℕ, ◌≤◌, ◌&&◌, Bool, true, false, cond, List, [], ◌∷◌, ◌++◌, length, take, Option, Some, None, refl, sym, ap, ◌∙◌, subst}
 use Rattle.std.specs.List.{AllByRecursion}
+use Rattle.std.proofs.lemmas.Bool.{and_parts}
 use Rattle.dsec_spec.specs.Names.{Place}
 use Rattle.dsec_spec.specs.Numbers.{DS, DNSKEY}
 use Rattle.dsec_nodes.specs.World.{World, Replies}
@@ -13,6 +14,7 @@ use Rattle.dsec_nodes.specs.Likeness.{Likeness, seen, Alike}
 use Rattle.dsec_nodes.specs.InStep.{AskedOf, GotOf, Goes, StepIs}
 use Rattle.dsec_nodes.specs.Taking.{counts}
 use Rattle.dsec_nodes.specs.Runs.{ServedBy, AreServed, after_inputs}
+use Rattle.dsec_nodes.proofs.TakingLaws.{taken}
 use Rattle.dsec_nodes.proofs.MachineLaws.{advanced_goes, started_in_step}
 
 -- one more of a list that all are
@@ -84,14 +86,14 @@ key_stays like w replies s pending octets a g e (Some r) =
 given_stays : (like : Likeness) (w : World) (replies : Replies) (s : Walking) (o : Option Node) → AskedOf replies s.asked → GotOf like w replies s.top s.got
     → ServedBy like w replies s (node o) → StaysOf like w replies s (given w s o).0
 given_stays like w replies s None a g v = record { same_top = refl; same_target = refl; asked = a; got = g }
-given_stays like w replies s (Some n) a g v = by (counts w s.top (name_at s) n && may_stand s.reached n.standing)
+given_stays like w replies s (Some n) a g v = by (counts w s.top (name_at s) n && may_stand s.reached n.standing) refl
   where
-    more : GotOf like w replies s.top (s.got ++ n ∷ [])
-    more = all_more (λ (x : Node). Alike like (node_of w replies s.top x.name) x) s.got n g v
-
-    by : (x : Bool) → StaysOf like w replies s (cond {A = Walking × Step} x (ahead (with_got s n)) (asking s)).0
-    by false = record { same_top = refl; same_target = refl; asked = a; got = g }
-    by true =
+    by : (x : Bool) → (counts w s.top (name_at s) n && may_stand s.reached n.standing) ≡ x
+        → StaysOf like w replies s (cond {A = Walking × Step} x (ahead (with_got s n)) (asking s)).0
+    by false e = record { same_top = refl; same_target = refl; asked = a; got = g }
+    by true e =
+        let of : Alike like (node_of w replies s.top n.name) n = v (taken w s.top (name_at s) n (and_parts _ _ e).0) in
+        let more : GotOf like w replies s.top (s.got ++ n ∷ []) = all_more (λ (x : Node). Alike like (node_of w replies s.top x.name) x) s.got n g of in
         let h = ahead_stays like w replies (with_got s n) a more in
         record { same_top = h.same_top; same_target = h.same_target; asked = h.asked; got = h.got }
 

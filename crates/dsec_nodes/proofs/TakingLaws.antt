@@ -1,5 +1,5 @@
 -- A node counts for a taker exactly where it passes the taker's tests.
-use Rattle.std.proofs.Common.{◌≡◌, ℕ, ◌+◌, Bool, true, false, List, Option, Some, None, refl, sym, ap, ◌∙◌, subst}
+use Rattle.std.proofs.Common.{◌≡◌, ℕ, ◌+◌, ◌-◌, ◌≤◌, Bool, true, false, List, Option, Some, None, refl, sym, ap, ◌∙◌, subst, arith}
 use Rattle.std.specs.Prelude.{Contains}
 use Rattle.std.specs.List.{list_any}
 use Rattle.std.proofs.Math.Bool.{not}
@@ -13,6 +13,7 @@ use Rattle.dsec_spec.proofs.Members.{none_passes, some_passes}
 use Rattle.dsec_nodes.specs.World.{World, Bounds}
 use Rattle.dsec_nodes.specs.Nodes.{Node, IsBogus}
 use Rattle.dsec_nodes.specs.Taking.{same_record, rests_at, same_bounds, counts, RestsAt, Taken}
+use Rattle.dsec_nodes.specs.Moments.{at_moment, MayCount}
 
 abbrev record_of : Labels → ℕ → ℕ → ℕ → List ℕ → Record
 record_of owner class rtype ttl rdata = record { owner = owner; class = class; rtype = rtype; ttl = ttl; rdata = rdata }
@@ -140,3 +141,27 @@ taken_told w top name n t = and_from _ _ (and_from _ _ (and_from _ _ (and_from _
 -- whether a node counts is told by the tests
 pub counts_decides : (w : World) (top name : Place) (n : Node) → Decides (counts w top name n) (Taken w top name n)
 counts_decides w top name n = (taken w top name n, taken_told w top name n)
+
+-- a node that counts for a name counts for its own, which is the same
+pub taken_itself : (w : World) (top name : Place) (n : Node) → Taken w top name n → Taken w top n.name n
+taken_itself w top name n t = record { not_bogus = t.not_bogus; named = refl; rests = t.rests; within = t.within; from = t.from; to = t.to }
+
+-- a node that counts may count
+pub taken_now : (w : World) (top : Place) (n : Node) → Taken w top n.name n → MayCount w top n
+taken_now w top n t = (w.now, omega arith, t)
+
+-- and one that may count at another moment may count, unless it has run out
+pub may_count_still : (w : World) (other : ℕ) (top : Place) (n : Node) → w.now ≤ n.made + n.valid_for → MayCount (at_moment w other) top n → MayCount w top n
+may_count_still w other top n lasts may =
+    let t : Taken (at_moment w may.0) top n.name n = may.2 in (
+      w.now + (may.0 - w.now),
+      omega arith,
+      record {
+        not_bogus = t.not_bogus;
+        named = refl;
+        rests = t.rests;
+        within = t.within;
+        from = omega (arith, t.from);
+        to = omega (arith, t.to, lasts);
+      },
+    )

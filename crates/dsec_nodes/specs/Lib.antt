@@ -15,6 +15,7 @@ pub mod Likeness
 pub mod Held
 pub mod WithinCauses
 pub mod Taking
+pub mod Moments
 pub mod Walking
 pub mod Machine
 pub mod InStep

@@ -27,7 +27,7 @@ abbrev pub seen : Likeness → Node → Node
 seen wholly n = n
 seen but_for_times n = untimed n
 
--- two nodes are alike: they say the same of the same name (RFC 4033 5)
+-- two nodes are alike: they say the same of the same name, from the same anchor and within the same bounds (RFC 4033 5)
 abbrev pub Alike : Likeness → Node → Node → Type 0
 Alike like a b = seen like a ≡ seen like b
 

@@ -3,14 +3,15 @@ use Rattle.std.specs.Prelude.{◌≡◌, List, [], ◌∷◌, Some, None}
 use Rattle.dsec_nodes.specs.World.{World, Replies}
 use Rattle.dsec_nodes.specs.Walk.{node_of}
 use Rattle.dsec_nodes.specs.Likeness.{Likeness, Alike}
+use Rattle.dsec_nodes.specs.Taking.{Taken}
 use Rattle.dsec_nodes.specs.Machine.{Walking, Step, Input, begin, node, stored, reply, name_at, asked_type, Answers, advanced}
 
--- an input that a table serves: of a node that was kept, one like that which the recursion makes at its name by these replies, or none; to a
--- question, the table's reply
+-- an input that a table serves: of a node that was kept, one that doesn't count or is like that which the recursion makes at its name by these
+-- replies, or none; to a question, the table's reply
 abbrev pub ServedBy : Likeness → World → Replies → Walking → Input → Type 0
 ServedBy like w replies s begin = Unit {0}
 ServedBy like w replies s (node None) = Unit {0}
-ServedBy like w replies s (node (Some n)) = Alike like (node_of w replies s.top n.name) n
+ServedBy like w replies s (node (Some n)) = Taken w s.top (name_at s) n → Alike like (node_of w replies s.top n.name) n
 ServedBy like w replies s stored = Unit {0}
 ServedBy like w replies s (reply octets) = replies (name_at s) (asked_type s.phase s.reached) ≡ octets
 

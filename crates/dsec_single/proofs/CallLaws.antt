@@ -28,7 +28,8 @@ use Rattle.dsec_single.specs.Checked.{IsSingleCallWithin}
 use Rattle.dsec_single.proofs.ChecksLaws.{one_more}
 use Rattle.dsec_single.proofs.EndLaws.{needs_walk}
 use Rattle.dsec_single.proofs.ShownLaws.{shown_alike}
-use Rattle.dsec_single.proofs.TripLaws.{HoldsTrip, got_of}
+use Rattle.dsec_course.proofs.TraceLaws.{got_of}
+use Rattle.dsec_single.proofs.TripLaws.{HoldsTrip}
 use Rattle.dsec_single.proofs.ServeLaws.{trip_holds, trip_first}
 
 module _ (w : World) (group : Group) (table : Option Table) (before after : Outside) where

@@ -10,3 +10,4 @@ pub mod ShownLaws
 pub mod CallLaws
 pub mod SoundLaws
 pub mod ClosingLaws
+pub mod ApartLaws

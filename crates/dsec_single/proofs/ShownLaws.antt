@@ -1,5 +1,5 @@
 -- What a node shows of a group is shown by each node that is like it.
-use Rattle.std.proofs.Common.{◌≡◌, ℕ, [], ◌∷◌, ◌++◌, Option, sym, ap, ◌∙◌, subst}
+use Rattle.std.proofs.Common.{ℕ, [], ◌∷◌, ◌++◌, Option, sym, ap, ◌∙◌, subst}
 use Rattle.dsec_spec.specs.Groups.{Group}
 use Rattle.dsec_link.specs.Shown.{ShownSet}
 use Rattle.dsec_group.specs.declared.state.ValidationState.{ValidationState}

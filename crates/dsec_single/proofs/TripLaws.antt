@@ -1,24 +1,20 @@
 -- A walk over nodes that were held and an upstream goes on soundly and in step, whatever it is given of what was held, kept, and of what it has put.
-use Rattle.std.proofs.Common.{◌≡◌, ◌⊎◌, ◌≤◌, List, [], ◌∷◌, ◌++◌, length, take, refl, sym, ap, ◌∙◌, subst, inl, inr}
+use Rattle.std.proofs.Common.{◌≡◌, ◌⊎◌, ◌≤◌, List, [], ◌∷◌, ◌++◌, length, take, refl, sym, ◌∙◌, subst, inl, inr}
 use Rattle.std.specs.Prelude.{Contains}
-use Rattle.std.proofs.lemmas.Option.{same_Some}
-use Rattle.dsec_spec.specs.Names.{Place, place}
-use Rattle.dsec_spec.specs.Records.{Record}
+use Rattle.dsec_spec.specs.Names.{Place}
 use Rattle.dsec_spec.proofs.Members.{not_in_none, in_either}
 use Rattle.dsec_nodes.specs.World.{World, Replies}
 use Rattle.dsec_nodes.specs.Nodes.{Node, Kept}
-use Rattle.dsec_nodes.specs.Walk.{node_of}
-use Rattle.dsec_nodes.specs.Taking.{RestsAt}
 use Rattle.dsec_nodes.specs.Machine.{Question as Asked, Walking, Step, node_get, node_put, ask, done, Input, begin, node, stored, reply, started, name_at, asked_type, advanced, Answers}
-use Rattle.dsec_nodes.specs.Likeness.{Likeness, seen, Alike}
-use Rattle.dsec_nodes.specs.InStep.{AskedOf, GotOf, InStep, StepIs, Goes}
+use Rattle.dsec_nodes.specs.Likeness.{Likeness}
+use Rattle.dsec_nodes.specs.InStep.{AskedOf, InStep, StepIs, Goes}
 use Rattle.dsec_nodes.specs.SoundSteps.{InputKept, StepKept, Sound}
 use Rattle.dsec_nodes.proofs.CountLaws.{started_counted}
 use Rattle.dsec_nodes.proofs.MachineLaws.{advanced_goes, started_in_step}
 use Rattle.dsec_nodes.proofs.SoundWalk.{advanced_sound, started_sound}
-use Rattle.dsec_course.specs.Hearing.{GivenFrom, IsOfTable}
-use Rattle.dsec_course.proofs.Lists.{all_front, all_map}
-use Rattle.dsec_course.proofs.TraceLaws.{Trace, in_longer, input_kept, only, trace_more}
+use Rattle.dsec_course.specs.Hearing.{GivenFrom, IsOfTable, CountsAt}
+use Rattle.dsec_nodes.proofs.Each.{all_front, all_map}
+use Rattle.dsec_course.proofs.TraceLaws.{IsGiven, Trace, got_of, in_longer, input_kept, only, put_under_table, trace_more, under_counts}
 use Rattle.dsec_course.proofs.WalkPuts.{PutUnder, put_under}
 use Rattle.dsec_course.proofs.WalkSteps.{WalkAwaits, HasReached, asked_after, Advances, advances}
 use Rattle.dsec_walk.specs.UnderWay.{IsUnderWay}
@@ -26,8 +22,9 @@ use Rattle.dsec_walk.proofs.UnderWayLaws.{advanced_under_way}
 use Rattle.dsec_single.specs.Trips.{Trip, put_in, trip_at, first_trip, trip_on, AreGiven, after_given}
 use Rattle.dsec_single.proofs.NameLaws.{IsNamed, EndsAtTarget, Names, advanced_names}
 
--- What holds of a walk on its way. It is from an island to a name, sound and in step, and waits for what answers its step; its nodes were held before or
--- put, and their anchors are the island's; and by each table of which the held nodes and its replies are, so are the nodes that it has put
+-- What holds of a walk on its way. It is from an island to a name, sound and in step, and waits for what answers its step; the nodes that it has
+-- taken were held before or put, and count under the island; those that it has put are kept and count, and by each table of which the held nodes
+-- and its replies are, so are they
 pub record HoldsTrip (w : World) (held : Node → Type 0) (top target : Place) (t : Trip) : Type 0 where
   pub same_top : t.walk.top ≡ top
   pub same_target : t.walk.target ≡ target
@@ -41,20 +38,9 @@ pub record HoldsTrip (w : World) (held : Node → Type 0) (top target : Place) (
   pub at_end : EndsAtTarget t.walk t.step
   pub given : Trace w held t.puts t.walk
   pub kept : (n : Node) → Contains t.puts n → Kept w.accepts n
+  pub counting : (n : Node) → Contains t.puts n → (top : Place) × CountsAt w n top
   pub of_table : (like : Likeness) (replies : Replies) → ((n : Node) → held n → IsOfTable like w replies n) → AskedOf replies t.walk.asked
       → (n : Node) → Contains t.puts n → IsOfTable like w replies n
-
--- a node has one anchor, and so one island
-same_island : (anchors : List Record) (a b : Place) (n : Node) → RestsAt anchors a n → RestsAt anchors b n → a ≡ b
-same_island anchors a b n r s =
-    sym r.at ∙ (ap (λ (x : Record). place x.owner) (same_Some r.anchor s.anchor (sym r.its ∙ s.its)) ∙ s.at)
-
--- where the held nodes and the puts are of a table, so are those that were given
-pub got_of : (like : Likeness) (w : World) (replies : Replies) (held : Node → Type 0) (puts : List Node) (s : Walking) → ((n : Node) → held n → IsOfTable like w replies n)
-    → ((n : Node) → Contains puts n → IsOfTable like w replies n) → Trace w held puts s → GotOf like w replies s.top s.got
-got_of like w replies held puts s h p t =
-    all_map (λ (n : Node). (held n ⊎ Contains puts n) × RestsAt w.anchors s.top n) (λ (n : Node). Alike like (node_of w replies s.top n.name) n) s.got
-    (λ n f. elim f.0 [ inl x ↦ h n x s.top f.1 | inr x ↦ p n x s.top f.1 ]) t
 
 -- a node that a step puts is kept
 put_kept : (w : World) (top : Place) (x : Step) → PutUnder w top x → (n : Node) → Contains (put_in x) n → Kept w.accepts n
@@ -63,13 +49,19 @@ put_kept w top (node_get name) h n there = absurd (not_in_none n there)
 put_kept w top (ask name rtype) h n there = absurd (not_in_none n there)
 put_kept w top (done m) h n there = absurd (not_in_none n there)
 
+-- and counts
+put_counts : (w : World) (top : Place) (x : Step) → PutUnder w top x → (n : Node) → Contains (put_in x) n → (island : Place) × CountsAt w n island
+put_counts w top (node_put name m) h n there =
+    subst (λ (y : Node). (island : Place) × CountsAt w y island) (only m n there) (top, under_counts w top name m h.0 h.1)
+put_counts w top (node_get name) h n there = absurd (not_in_none n there)
+put_counts w top (ask name rtype) h n there = absurd (not_in_none n there)
+put_counts w top (done m) h n there = absurd (not_in_none n there)
+
 -- and of the table, where what was given is
 put_of_table : (like : Likeness) (w : World) (replies : Replies) (s : Walking) (x : Step) → PutUnder w s.top x → StepIs like w replies s x → (n : Node) → Contains (put_in x) n
     → IsOfTable like w replies n
 put_of_table like w replies s (node_put name m) h is n there =
-    subst (IsOfTable like w replies) (only m n there) (λ top r.
-    let same : top ≡ s.top = same_island w.anchors top s.top m r (h.0.1 h.1) in
-    ap (λ (p : Place). seen like (node_of w replies p m.name)) same ∙ (ap (λ (p : Place). seen like (node_of w replies s.top p)) h.0.0.1 ∙ is))
+    subst (IsOfTable like w replies) (only m n there) (put_under_table like w replies s.top name m h.0 h.1 is)
 put_of_table like w replies s (node_get name) h is n there = absurd (not_in_none n there)
 put_of_table like w replies s (ask name rtype) h is n there = absurd (not_in_none n there)
 put_of_table like w replies s (done m) h is n there = absurd (not_in_none n there)
@@ -85,11 +77,11 @@ asked_before replies s (reply octets) h =
 -- a walk that is sound, in step, and of what it was given, goes on so
 go_on : (w : World) (held : Node → Type 0) (top target : Place) (puts : List Node) (s : Walking) (input : Input) → ((n : Node) → held n → Kept w.accepts n)
     → s.top ≡ top → s.target ≡ target → IsUnderWay w s → InStep w s → IsNamed s s.reached → Trace w held puts s
-    → ((n : Node) → Contains puts n → Kept w.accepts n)
+    → ((n : Node) → Contains puts n → Kept w.accepts n) → ((n : Node) → Contains puts n → (island : Place) × CountsAt w n island)
     → ((like : Likeness) (replies : Replies) → ((n : Node) → held n → IsOfTable like w replies n) → AskedOf replies s.asked → (n : Node) → Contains puts n
     → IsOfTable like w replies n)
     → Answers s.phase input → GivenFrom held puts input → HoldsTrip w held top target (trip_at puts (advanced w s input))
-go_on w held top target puts s input kept same_top same_target under_way steps named given puts_kept of_table a from = record {
+go_on w held top target puts s input kept same_top same_target under_way steps named given puts_kept counting of_table a from = record {
   same_top = l.leaves.same_top ∙ same_top;
   same_target = l.leaves.same_target ∙ same_target;
   under_way = advanced_under_way w s input under_way a input_is;
@@ -100,11 +92,14 @@ go_on w held top target puts s input kept same_top same_target under_way steps n
   reached = l.leaves.reached;
   named = names.named;
   at_end = names.at_end;
-  given = all_map (λ (n : Node). (held n ⊎ Contains puts n) × RestsAt w.anchors p.0.top n)
-      (λ (n : Node). (held n ⊎ Contains (puts ++ put_in p.1) n) × RestsAt w.anchors p.0.top n) p.0.got (λ n y. (longer n y.0, y.1)) traced;
+  given = all_map (IsGiven w held puts p.0.top) (IsGiven w held (puts ++ put_in p.1) p.0.top) p.0.got (λ n y. (longer n y.0, y.1)) traced;
   kept = λ n there. elim (in_either n puts (put_in p.1) there) [
     | inl old ↦ puts_kept n old
     | inr new ↦ put_kept w s.top p.1 under n new
+  ];
+  counting = λ n there. elim (in_either n puts (put_in p.1) there) [
+    | inl old ↦ counting n old
+    | inr new ↦ put_counts w s.top p.1 under n new
   ];
   of_table = λ like replies h asked n there.
       let before : AskedOf replies s.asked = asked_before replies s input (subst (AskedOf replies) (l.leaves.asked_is under_way.is_counted.waits) asked) in
@@ -147,14 +142,14 @@ go_on w held top target puts s input kept same_top same_target under_way steps n
 pub trip_goes_on : (w : World) (held : Node → Type 0) (top target : Place) (t : Trip) (input : Input) → ((n : Node) → held n → Kept w.accepts n)
     → HoldsTrip w held top target t → Answers t.walk.phase input → GivenFrom held t.puts input → HoldsTrip w held top target (trip_on w t input)
 trip_goes_on w held top target t input kept h a from =
-    go_on w held top target t.puts t.walk input kept h.same_top h.same_target h.under_way h.goes.in_step h.named h.given h.kept h.of_table a from
+    go_on w held top target t.puts t.walk input kept h.same_top h.same_target h.under_way h.goes.in_step h.named h.given h.kept h.counting h.of_table a from
 
 -- and it begins
 pub trip_begins : (w : World) (held : Node → Type 0) (top target : Place) → ((n : Node) → held n → Kept w.accepts n) → top ≡ take (length top) target
     → length top ≤ length target → HoldsTrip w held top target (first_trip w top target)
 trip_begins w held top target kept below le =
     go_on w held top target [] (started top target) begin kept refl refl under_way
-    (started_in_step w top target below le) tt tt (λ n there. absurd (not_in_none n there)) (λ like replies h asked n there. absurd (not_in_none n there)) tt tt
+    (started_in_step w top target below le) tt tt (λ n there. absurd (not_in_none n there)) (λ n there. absurd (not_in_none n there)) (λ like replies h asked n there. absurd (not_in_none n there)) tt tt
   where
     under_way : IsUnderWay w (started top target)
     under_way = record { is_sound = started_sound w top target below le; is_counted = started_counted top target; in_zone = tt }

@@ -14,8 +14,8 @@ use Rattle.dsec_spec.specs.Trying.{none_good, first_or, tried, pairs, of_signatu
 use Rattle.dsec_nodes.specs.World.{World, moment, on_circle}
 use Rattle.dsec_nodes.specs.Signing.{keys_of, under_keys}
 use Rattle.dsec_nodes.specs.Admission.{Admitted, admitted_at, admitted_signs, matching, matching_by, tried_by}
-use Rattle.dsec_course.proofs.Lists.{all_both}
-use Rattle.dsec_lookup.specs.Moments.{at_moment, IsSteady, AreSteady}
+use Rattle.dsec_nodes.proofs.Each.{all_both}
+use Rattle.dsec_nodes.specs.Moments.{at_moment, IsSteady, AreSteady}
 
 module _ {P : Type 0} (f g : P → Bool) where
   found_same : (k : ℕ) (xs : List P) → AllByRecursion (λ x. f x ≡ g x) xs → find f (take k xs) ≡ find g (take k xs)

@@ -1,4 +1,5 @@
--- Where no signature of a reply comes into force or expires between two moments, it comes to the same node at both, but for times.
+-- Where no signature of a reply comes into force or expires between two moments, what it comes to at one is, but for times, what it comes to at the other
+-- below the same zone without its times.
 use Rattle.std.proofs.Common.{◌≡◌, ℕ, ◌==◌, ◌&&◌, Bool, true, false, cond, List, [], ◌∷◌, length, Option, Some, None, refl, sym, ap, ◌∙◌, subst}
 use Rattle.std.specs.Prelude.{find, nat_lt, IfSome}
 use Rattle.std.specs.List.{AllByRecursion}
@@ -24,9 +25,9 @@ use Rattle.dsec_nodes.specs.MissingByHash.{is_between, by_own_hash, redirects, b
 use Rattle.dsec_nodes.specs.MissingDs.{looked_for, missing_ds}
 use Rattle.dsec_nodes.specs.ByDs.{usable, Below, made, asks, if_one, by_alias, without_ds, by_signed_ds, by_ds_set, by_ds_reply}
 use Rattle.dsec_nodes.specs.Likeness.{untimed}
-use Rattle.dsec_course.proofs.Lists.{all_in}
-use Rattle.dsec_lookup.specs.Moments.{at_moment, AreSteady, IsSteadyReply}
-use Rattle.dsec_lookup.proofs.MomentSigns.{under_same}
+use Rattle.dsec_nodes.proofs.Each.{all_in}
+use Rattle.dsec_nodes.specs.Moments.{at_moment, AreSteady, IsSteadyReply}
+use Rattle.dsec_nodes.proofs.MomentSigns.{under_same}
 
 -- what groups show, and what a reply comes to, without times
 abbrev bare_looked : Looked → Looked
@@ -95,29 +96,29 @@ among_still P f g e (group ∷ groups) h =
 -- what NSEC records show at both moments
 module _ (w : World) (now : ℕ) (zone : Node) (keys : List (List ℕ)) (name : Place) where
   matching_still : (group : Group) (nsec : Nsec) (p : Record × Key)
-      → bare_looked (by_matching w zone keys name group nsec p) ≡ bare_looked (by_matching (at_moment w now) zone keys name group nsec p)
+      → bare_looked (by_matching w zone keys name group nsec p) ≡ bare_looked (by_matching (at_moment w now) (untimed zone) keys name group nsec p)
   matching_still group nsec p =
       choice bare_looked (is_expanded group p.0) refl
       (choice bare_looked (has_type nsec.types DS) refl (choice bare_looked (has_type nsec.types SOA) refl (choice bare_looked (has_type nsec.types NS) refl refl)))
 
   covering_still : (group : Group) (p : Record × Key)
-      → bare_looked (by_covering w zone keys name group p) ≡ bare_looked (by_covering (at_moment w now) zone keys name group p)
+      → bare_looked (by_covering w zone keys name group p) ≡ bare_looked (by_covering (at_moment w now) (untimed zone) keys name group p)
   covering_still group p = choice bare_looked (is_expanded group p.0) refl refl
 
   range_still : (group : Group) → Steady w now group → (nsec : Nsec)
-      → bare_looked (by_range w zone keys name group nsec) ≡ bare_looked (by_range (at_moment w now) zone keys name group nsec)
+      → bare_looked (by_range w zone keys name group nsec) ≡ bare_looked (by_range (at_moment w now) (untimed zone) keys name group nsec)
   range_still group s nsec =
       choice bare_looked (is_in_range (place group.owner) (place nsec.next_name) name && is_below (place nsec.next_name) name)
       (signed_still w now name _ _ _ _ (under_same w now group s zone.signer keys) (covering_still group)) refl
 
   prefix_still : (group : Group) → Steady w now group → (nsec : Nsec) (p : Record × Key)
-      → bare_looked (by_prefix w zone keys name group nsec p) ≡ bare_looked (by_prefix (at_moment w now) zone keys name group nsec p)
+      → bare_looked (by_prefix w zone keys name group nsec p) ≡ bare_looked (by_prefix (at_moment w now) (untimed zone) keys name group nsec p)
   prefix_still group s nsec p =
       choice bare_looked (is_expanded group p.0) refl
       (choice bare_looked (has_type nsec.types DNAME) refl (choice bare_looked (delegates nsec) refl (range_still group s nsec)))
 
   nsec_still : (group : Group) → Steady w now group → (o : Option Nsec)
-      → bare_looked (by_nsec w zone keys name group o) ≡ bare_looked (by_nsec (at_moment w now) zone keys name group o)
+      → bare_looked (by_nsec w zone keys name group o) ≡ bare_looked (by_nsec (at_moment w now) (untimed zone) keys name group o)
   nsec_still group s None = refl
   nsec_still group s (Some nsec) =
       choice bare_looked (same_place (place group.owner) name)
@@ -126,46 +127,46 @@ module _ (w : World) (now : ℕ) (zone : Node) (keys : List (List ℕ)) (name : 
       (signed_still w now name _ _ _ _ (under_same w now group s zone.signer keys) (prefix_still group s nsec)) (range_still group s nsec))
 
   records_still : (group : Group) → Steady w now group → (rs : List Record)
-      → bare_looked (by_records w zone keys name group rs) ≡ bare_looked (by_records (at_moment w now) zone keys name group rs)
+      → bare_looked (by_records w zone keys name group rs) ≡ bare_looked (by_records (at_moment w now) (untimed zone) keys name group rs)
   records_still group s [] = refl
   records_still group s (r ∷ []) = nsec_still group s (nsec_of r.rdata)
   records_still group s (r ∷ other ∷ rs) = refl
 
   group_still : (group : Group) → Steady w now group
-      → bare_looked (by_group w zone keys name group) ≡ bare_looked (by_group (at_moment w now) zone keys name group)
+      → bare_looked (by_group w zone keys name group) ≡ bare_looked (by_group (at_moment w now) (untimed zone) keys name group)
   group_still group s = choice bare_looked ((group.rtype == NSEC) && (group.class == IN)) (records_still group s group.records) refl
 
 -- what NSEC3 records show at both moments
 module _ (w : World) (now : ℕ) (zone : Node) (keys : List (List ℕ)) (name : Place) where
   own_hash_still : (group : Group) (nsec3 : Nsec3) (p : Record × Key)
-      → bare_looked (by_own_hash w zone keys name group nsec3 p) ≡ bare_looked (by_own_hash (at_moment w now) zone keys name group nsec3 p)
+      → bare_looked (by_own_hash w zone keys name group nsec3 p) ≡ bare_looked (by_own_hash (at_moment w now) (untimed zone) keys name group nsec3 p)
   own_hash_still group nsec3 p =
       choice bare_looked (is_expanded group p.0) refl
       (choice bare_looked (has_type nsec3.types DS) refl (choice bare_looked (has_type nsec3.types SOA) refl (choice bare_looked (has_type nsec3.types NS) refl refl)))
 
   gap_still : (group : Group) (nsec3 : Nsec3) (redirected : Bool) (p : Record × Key)
-      → bare_looked (by_hash_gap w zone keys name group nsec3 redirected p) ≡ bare_looked (by_hash_gap (at_moment w now) zone keys name group nsec3 redirected p)
+      → bare_looked (by_hash_gap w zone keys name group nsec3 redirected p) ≡ bare_looked (by_hash_gap (at_moment w now) (untimed zone) keys name group nsec3 redirected p)
   gap_still group nsec3 redirected p =
       choice bare_looked (is_expanded group p.0) refl (choice bare_looked (not (has_opt_out nsec3.hashing)) refl (choice bare_looked redirected refl refl))
 
   hashes_still : (group : Group) → Steady w now group → (nsec3 : Nsec3) (owner_hash hash : List ℕ)
-      → bare_looked (by_hashes w zone keys name group nsec3 owner_hash hash) ≡ bare_looked (by_hashes (at_moment w now) zone keys name group nsec3 owner_hash hash)
+      → bare_looked (by_hashes w zone keys name group nsec3 owner_hash hash) ≡ bare_looked (by_hashes (at_moment w now) (untimed zone) keys name group nsec3 owner_hash hash)
   hashes_still group s nsec3 owner_hash hash =
       choice bare_looked (bytes_eq hash owner_hash) (signed_still w now name _ _ _ _ (under_same w now group s zone.signer keys) (own_hash_still group nsec3))
       (choice bare_looked (is_between owner_hash nsec3.next_owner hash)
       (signed_still w now name _ _ _ _ (under_same w now group s zone.signer keys) (gap_still group nsec3 (redirects zone.signer owner_hash nsec3))) refl)
 
   owner_hash_still : (group : Group) → Steady w now group → (nsec3 : Nsec3) (o : Option (List ℕ))
-      → bare_looked (by_owner_hash w zone keys name group nsec3 o) ≡ bare_looked (by_owner_hash (at_moment w now) zone keys name group nsec3 o)
+      → bare_looked (by_owner_hash w zone keys name group nsec3 o) ≡ bare_looked (by_owner_hash (at_moment w now) (untimed zone) keys name group nsec3 o)
   owner_hash_still group s nsec3 None = refl
   owner_hash_still group s nsec3 (Some owner_hash) = hashes_still group s nsec3 owner_hash (hash_by nsec3.hashing name)
 
   iterations_still : (group : Group) (too_many : Bool) (p : Record × Key)
-      → bare_looked (by_iterations w zone keys name group too_many p) ≡ bare_looked (by_iterations (at_moment w now) zone keys name group too_many p)
+      → bare_looked (by_iterations w zone keys name group too_many p) ≡ bare_looked (by_iterations (at_moment w now) (untimed zone) keys name group too_many p)
   iterations_still group too_many p = choice bare_looked (is_expanded group p.0) refl (choice bare_looked too_many refl refl)
 
   hashing_still : (group : Group) → Steady w now group → (nsec3 : Nsec3)
-      → bare_looked (by_hashing w zone keys name group nsec3) ≡ bare_looked (by_hashing (at_moment w now) zone keys name group nsec3)
+      → bare_looked (by_hashing w zone keys name group nsec3) ≡ bare_looked (by_hashing (at_moment w now) (untimed zone) keys name group nsec3)
   hashing_still group s nsec3 =
       choice bare_looked (not (nsec3.hashing.hash_algorithm == 1)) refl
       (choice bare_looked (has_many w.bounds nsec3)
@@ -173,7 +174,7 @@ module _ (w : World) (now : ℕ) (zone : Node) (keys : List (List ℕ)) (name : 
       (owner_hash_still group s nsec3 (owner_hash_in group.owner)))
 
   nsec3_still : (group : Group) → Steady w now group → (o : Option Nsec3)
-      → bare_looked (by_nsec3 w zone keys name group o) ≡ bare_looked (by_nsec3 (at_moment w now) zone keys name group o)
+      → bare_looked (by_nsec3 w zone keys name group o) ≡ bare_looked (by_nsec3 (at_moment w now) (untimed zone) keys name group o)
   nsec3_still group s None = refl
   nsec3_still group s (Some nsec3) =
       choice bare_looked (nat_lt 1 nsec3.hashing.flags) refl (choice bare_looked (is_label_before zone.signer group.owner) (hashing_still group s nsec3) refl)
@@ -191,21 +192,21 @@ module _ (w : World) (now : ℕ) (zone : Node) (keys : List (List ℕ)) (name : 
   looked_still (passed (Some cause)) = refl
 
   missing_still : (authorities : List Group) → AllByRecursion (Steady w now) authorities
-      → untimed (missing_ds w zone keys name authorities) ≡ untimed (missing_ds (at_moment w now) zone keys name authorities)
+      → untimed (missing_ds w zone keys name authorities) ≡ untimed (missing_ds (at_moment w now) (untimed zone) keys name authorities)
   missing_still authorities h =
-      let same : bare_looked (looked_for w zone keys name authorities) ≡ bare_looked (looked_for (at_moment w now) zone keys name authorities) =
+      let same : bare_looked (looked_for w zone keys name authorities) ≡ bare_looked (looked_for (at_moment w now) (untimed zone) keys name authorities) =
       then_still (nsec_search w zone keys name authorities) (nsec3_search w zone keys name authorities)
-      (nsec_search (at_moment w now) zone keys name authorities) (nsec3_search (at_moment w now) zone keys name authorities)
-      (among_still (Steady w now) (by_group w zone keys name) (by_group (at_moment w now) zone keys name) (group_still w now zone keys name) authorities h)
-      (among_still (Steady w now) (by_hashed_group w zone keys name) (by_hashed_group (at_moment w now) zone keys name)
+      (nsec_search (at_moment w now) (untimed zone) keys name authorities) (nsec3_search (at_moment w now) (untimed zone) keys name authorities)
+      (among_still (Steady w now) (by_group w zone keys name) (by_group (at_moment w now) (untimed zone) keys name) (group_still w now zone keys name) authorities h)
+      (among_still (Steady w now) (by_hashed_group w zone keys name) (by_hashed_group (at_moment w now) (untimed zone) keys name)
       (λ group s. nsec3_still w now zone keys name group s (nsec3_in group)) authorities h) in
       looked_bare w (looked_for w zone keys name authorities)
       ∙ (ap (λ (x : Looked). untimed (by_looked w name x)) same
-      ∙ (looked_still (bare_looked (looked_for (at_moment w now) zone keys name authorities))
-      ∙ sym (looked_bare (at_moment w now) (looked_for (at_moment w now) zone keys name authorities))))
+      ∙ (looked_still (bare_looked (looked_for (at_moment w now) (untimed zone) keys name authorities))
+      ∙ sym (looked_bare (at_moment w now) (looked_for (at_moment w now) (untimed zone) keys name authorities))))
 
   alias_still : (authorities : List Group) → AllByRecursion (Steady w now) authorities → (o : Option Group) → IfSome o (Steady w now)
-      → bare_below (by_alias w zone keys name authorities o) ≡ bare_below (by_alias (at_moment w now) zone keys name authorities o)
+      → bare_below (by_alias w zone keys name authorities o) ≡ bare_below (by_alias (at_moment w now) (untimed zone) keys name authorities o)
   alias_still authorities h None s = ap made (missing_still authorities h)
   alias_still authorities h (Some group) s =
       choice bare_below (length group.records == 1)
@@ -213,24 +214,24 @@ module _ (w : World) (now : ℕ) (zone : Node) (keys : List (List ℕ)) (name : 
       (ap made (missing_still authorities h))
 
   without_still : (answers authorities : List Group) → AllByRecursion (Steady w now) answers → AllByRecursion (Steady w now) authorities
-      → bare_below (without_ds w zone keys name answers authorities) ≡ bare_below (without_ds (at_moment w now) zone keys name answers authorities)
+      → bare_below (without_ds w zone keys name answers authorities) ≡ bare_below (without_ds (at_moment w now) (untimed zone) keys name answers authorities)
   without_still answers authorities a h =
       alias_still authorities h (find (is_set_at name CNAME) answers) (found_steady (moment w) (on_circle now) (is_set_at name CNAME) answers a)
 
   signed_ds_still : (group : Group) (p : Record × Key)
-      → bare_below (by_signed_ds w zone keys name group p) ≡ bare_below (by_signed_ds (at_moment w now) zone keys name group p)
+      → bare_below (by_signed_ds w zone keys name group p) ≡ bare_below (by_signed_ds (at_moment w now) (untimed zone) keys name group p)
   signed_ds_still group p = choice bare_below (length (usable (set_in group).datas) == 0) refl refl
 
   ds_set_still : (answers authorities : List Group) → AllByRecursion (Steady w now) answers → AllByRecursion (Steady w now) authorities
       → (o : Option Group) → IfSome o (Steady w now)
-      → bare_below (by_ds_set w zone keys name answers authorities o) ≡ bare_below (by_ds_set (at_moment w now) zone keys name answers authorities o)
+      → bare_below (by_ds_set w zone keys name answers authorities o) ≡ bare_below (by_ds_set (at_moment w now) (untimed zone) keys name answers authorities o)
   ds_set_still answers authorities a h None s = without_still answers authorities a h
   ds_set_still answers authorities a h (Some group) s =
       one_still w now name _ _ _ _ (under_same w now group s zone.signer keys)
       (λ p. choice bare_below (is_expanded group p.0) (without_still answers authorities a h) (signed_ds_still group p))
 
   pub ds_reply_still : (r : Reply) → IsSteadyReply (moment w) (on_circle now) r
-      → bare_below (by_ds_reply w zone keys name r) ≡ bare_below (by_ds_reply (at_moment w now) zone keys name r)
+      → bare_below (by_ds_reply w zone keys name r) ≡ bare_below (by_ds_reply (at_moment w now) (untimed zone) keys name r)
   ds_reply_still failed s = refl
   ds_reply_still unreadable s = refl
   ds_reply_still (sections answers authorities) s =
