@@ -1,6 +1,6 @@
-//! A signer that fails at given calls.
+//! A signer that fails at given calls, and tells what it was given.
 
-ghost use Rattle.std.specs.Prelude.{◌≡◌, None};
+ghost use Rattle.std.specs.Prelude.{◌≡◌, map, Some};
 ghost use Rattle.dsec_rrsig.specs.Keys.{stand_in_signs};
 
 use dsec_name::NoMemory;
@@ -9,7 +9,7 @@ use dsec_sign::{SignError, SignRaw, StandInKey};
 use dsec_wire::Dnskey;
 use std::alloc::Global;
 
-/// A key of the stand-in that fails at one call.
+/// A key of the stand-in that fails at one call, and keeps what it was given.
 #[derive(Drop)]
 pub(crate) struct FailingKey {
     /// What signs at the other calls.
@@ -20,6 +20,8 @@ pub(crate) struct FailingKey {
     pub(crate) calls: u64,
     /// How many of them failed: a count that stays at 2^64 - 1.
     pub(crate) faults: u64,
+    /// The messages that it was given, in order, but for those for which there was no memory.
+    pub(crate) given: Vec<Vec<u8>>,
 }
 
 impl SignRaw for FailingKey {
@@ -31,7 +33,7 @@ impl SignRaw for FailingKey {
 
     ghost asked = { λ it. it.calls };
 
-    ghost given = { λ _. None };
+    ghost given = { λ it. Some (map (λ message. message.items) it.given.items) };
 
     fn algorithm(&self) -> SecurityAlgorithm {
         self.key.algorithm()
@@ -44,6 +46,7 @@ impl SignRaw for FailingKey {
     fn sign_raw(&mut self, alloc: Global, message: &[u8]) -> Result<Vec<u8>, SignError> {
         let fails = self.calls == self.failing;
         self.calls = self.calls.saturating_add(1);
+        self.given.push(message.to_vec(alloc)?)?;
         if fails {
             self.faults = self.faults.saturating_add(1);
             return Err(SignError::Failed);
