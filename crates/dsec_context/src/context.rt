@@ -61,8 +61,8 @@ impl<V: Verifier> ValidationContext<V> {
         self.caches.clear();
     }
 
-    /// The verdict on a message at a moment, in seconds since 1970 (RFC 4033 5, RFC 4035 5). The upstream is asked for what the context
-    /// doesn't keep. Where all groups are judged and none is bogus, the message is rewritten if there were duplicates, or if links show a group
+    /// The verdict on a message at a moment, in seconds since 1970 (RFC 4033 5, RFC 4035 5). The upstream is asked for what no node
+    /// of the context's says. Where all groups are judged and none is bogus, the message is rewritten if there were duplicates, or if links show a group
     /// with TTLs greater than what its signature may be kept for (RFC 2181 5, RFC 4035 5.3.3). Else, and after any error but `FormError`, it is as
     /// it came.
     pub fn validate_msg<U: Upstream>(

@@ -120,7 +120,7 @@ impl<V: Verifier> Outcome<V> {
         self.state
     }
 
-    /// Why it is as it is, as an extended DNS error (RFC 8914); a bogus outcome has one, a secure one none.
+    /// Why it is as it is, as an extended DNS error (RFC 8914). Where judging a message came to it, a bogus one has a cause, and a secure one none.
     pub fn cause(&self) -> Option<Cause>
         ensures { result ≡ self.now.cause }
     {
