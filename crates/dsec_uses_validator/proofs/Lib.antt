@@ -1,0 +1,2 @@
+-- Laws about what is found of a reply.
+pub mod FoundLaws

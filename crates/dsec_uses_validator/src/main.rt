@@ -4,14 +4,16 @@
 mod resolver;
 mod verifier;
 
-ghost use Rattle.std.specs.Prelude.{IfSome};
+ghost use Rattle.std.specs.Prelude.{◌≡◌, IfOk, IfSome, Some};
 ghost use Rattle.dsec_context.specs.Setting.{world_at};
+ghost use Rattle.dsec_node.specs.Caches.{held_in};
 ghost use Rattle.dsec_nodes.specs.SoundOutcomes.{IsSound};
 ghost use Rattle.dsec_uses_validator.specs.Accepted.{by_one_algorithm};
+ghost use Rattle.dsec_uses_validator.specs.Found.{Finds};
 
-use anyhow::{Context, Error, Result};
+use anyhow::Context;
 use dsec_anchors::TrustAnchors;
-use dsec_context::{ValidationContext, Verdict};
+use dsec_context::{Error, ValidationContext, Verdict};
 use dsec_group::ValidationState;
 use dsec_message::Message;
 use dsec_outside::Upstream;
@@ -27,46 +29,55 @@ const NOW: u64 = 500;
 const ANCHOR: &str = "example. 3600 IN DNSKEY 257 3 13 AQI=";
 
 /// The verdict on a reply, if it is Secure: the reply answers by sets that signatures lead to from the context's anchors, or denies so
-/// (RFC 4033 5).
+/// (RFC 4033 5). None where the verdict is another. An error where the reply isn't judged. What is left of the reply may be handed on.
 fn secure_verdict<U: Upstream>(
     alloc: Global,
     context: &mut ValidationContext<OneAlgorithm>,
     reply: &mut Message,
     upstream: &mut U,
     now: u64,
-) -> Option<Verdict<OneAlgorithm>>
-    ensures { IfSome result (λ v. IsSound (world_at by_one_algorithm context.old.anchors context.old.config now) context.old.config.max_cname_dname reply.old v.outcome) }
+) -> Result<Option<Verdict<OneAlgorithm>>, Error>
+    ensures sound { IfOk result (λ found. IfSome found (λ v. IsSound (world_at by_one_algorithm context.old.anchors context.old.config now) context.old.config.max_cname_dname reply.old v.outcome)) }
+    ensures finds { Finds (world_at by_one_algorithm context.old.anchors context.old.config now) context.old.config.max_cname_dname reply.old (U.table upstream.old)
+        (record { held = Some (held_in context.old.nodes); asked = U.asked upstream.old; faults = U.faults upstream.old; heard = U.heard upstream.old })
+        (record { held = Some (held_in context.new.nodes); asked = U.asked upstream.new; faults = U.faults upstream.new; heard = U.heard upstream.new }) result reply.new }
+    ensures same_anchors { context.new.anchors ≡ context.old.anchors }
+    ensures same_config { context.new.config ≡ context.old.config }
 {
-    match context.validate_msg(alloc, reply, upstream, now) {
-        Ok(verdict) => match verdict.outcome().state() {
-            ValidationState::Secure => Some(verdict),
-            _ => None,
-        },
-        Err(_) => None,
+    let verdict = context.validate_msg(alloc, reply, upstream, now)?;
+    match verdict.outcome().state() {
+        ValidationState::Secure => Ok(Some(verdict)),
+        _ => Ok(None),
     }
 }
 
 /// The reply of a line in hex.
-fn read_reply(alloc: Global, line: &str) -> Result<Message> {
+fn read_reply(alloc: Global, line: &str) -> anyhow::Result<Message> {
     let octets = read_hex(alloc, line.trim().as_bytes())
         .ok()
         .context("no hex")?;
-    Message::from_octets(octets.into_vec()).map_err(Error::msg)
+    Message::from_octets(octets.into_vec()).map_err(anyhow::Error::msg)
 }
 
-/// Judges the reply of a line, and says whether it is Secure.
+/// Judges the reply of a line, and says whether it is Secure, or why it isn't judged.
 fn judge<U: Upstream>(
     rt: &HostRuntime,
     line: &str,
     context: &mut ValidationContext<OneAlgorithm>,
     upstream: &mut U,
-) -> Result<()> {
+) -> anyhow::Result<()> {
     let mut reply = read_reply(rt.alloc(), line)?;
-    let is_secure = secure_verdict(rt.alloc(), context, &mut reply, upstream, NOW).is_some();
-    Ok(println!(rt; "secure: {is_secure}")?)
+    match secure_verdict(rt.alloc(), context, &mut reply, upstream, NOW) {
+        Ok(found) => {
+            let is_secure = found.is_some();
+            println!(rt; "secure: {is_secure}")?;
+        },
+        Err(error) => println!(rt; "refused: {error}")?,
+    }
+    Ok(())
 }
 
-fn main(rt: HostRuntime) -> Result<()> {
+fn main(rt: HostRuntime) -> anyhow::Result<()> {
     let anchors = TrustAnchors::from_u8(rt.alloc(), ANCHOR.as_bytes())?;
     let mut context = ValidationContext::new(rt.alloc(), anchors);
     let mut upstream = Resolver {
