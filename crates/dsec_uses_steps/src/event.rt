@@ -23,11 +23,15 @@ pub fn read_event(alloc: Global, line: &str) -> Option<Event> {
     }
 }
 
-/// The reply that an index and hex, or the word for a failure, write.
+/// The reply that an index and hex, or the word for a failure, write. What is neither is no reply: it may not pass for a question that failed.
 fn read_reply(alloc: Global, rest: &str) -> Option<Event> {
     let (index, reply) = rest.split_once(' ')?;
     let index = number(index.as_bytes(), 1_000_000)?;
-    Some(Event::Reply(index as usize, octets_of(alloc, reply)))
+    let reply = match reply {
+        "fail" => None,
+        hex => Some(octets_of(alloc, hex)?),
+    };
+    Some(Event::Reply(index as usize, reply))
 }
 
 /// The message that hex writes, if it is long enough to be one.
