@@ -18,6 +18,7 @@ use dsec_word::{ReadError, number, push_hex, push_number, read_hex, read_name};
 use dsec_zonefile::{Entry, Zonefile, ZonefileError};
 use std::alloc::{AllocError, AllocFailed, Global};
 use std::env;
+use std::io::ErrorKind;
 use std::process::ExitCode;
 
 /// Why nothing is printed.
@@ -207,8 +208,17 @@ fn config_of(alloc: Global, words: &[String], at: usize) -> Result<Nsec3Config, 
     Ok(Nsec3Config {
         iterations: iterations_of(iterations)?,
         salt: salt_of(alloc, salt)?,
-        opt_out: opt_out.as_str() == "1",
+        opt_out: flag_of(opt_out)?,
     })
+}
+
+/// Whether a word is 1, and not 0.
+fn flag_of(word: &str) -> Result<bool, Status> {
+    match word {
+        "0" => Ok(false),
+        "1" => Ok(true),
+        _ => Err(Status::Words),
+    }
 }
 
 /// The number of iterations that a word says.
@@ -234,14 +244,24 @@ fn salt_of(alloc: Global, word: &str) -> Result<Nsec3Salt, Status> {
     }
 }
 
+/// Why the words can't be had: there is no memory for them, or one isn't UTF-8.
+fn unread(kind: ErrorKind) -> Status {
+    match kind {
+        ErrorKind::OutOfMemory => Status::NoMemory,
+        _ => Status::Words,
+    }
+}
+
 /// The words after the program's name.
 fn words_of(rt: &HostRuntime) -> Result<Vec<String>, Status> {
     let mut words = Vec::new(rt.alloc());
-    let Ok(args) = env::args(rt) else {
-        return Err(Status::Words);
-    };
-    for word in args.skip(1) {
-        words.push(word)?;
+    match env::args(rt) {
+        Ok(args) => {
+            for word in args.skip(1) {
+                words.push(word)?;
+            }
+        }
+        Err(error) => return Err(unread(error.kind())),
     }
     Ok(words)
 }
