@@ -41,8 +41,8 @@ pub record SignsKey (period : Period) (own : Record) (by : Signer) (old new : Li
   pub made : IsSignature stand_in_signs period (own ∷ [], by) signature
   pub added : IsUnion old (signature ∷ []) new
 
--- The zone is signed by its own key: its NSEC records and a signature of each set that is to be signed, that of its key among them
--- (RFC 4035 2), were added, and nothing else.
+-- The zone is signed by its own key: its NSEC records and a signature of each set that is to be signed, that of its key among them, but for CDS and
+-- CDNSKEY sets at the apex (RFC 4035 2), were added, and nothing else.
 pub record SignsWhole (zone made : List Record) : Type 0 where
   pub own : Record
   pub by : Signer
