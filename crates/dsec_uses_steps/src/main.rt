@@ -4,16 +4,23 @@
 
 mod event;
 
-ghost use Rattle.std.specs.Prelude.{◌≡◌, ◌<◌};
+ghost use Rattle.std.specs.Prelude.{◌≡◌, ◌<◌, length, IfOk, OnOk};
+ghost use Rattle.std.specs.Io.KnownBytes.{Appends};
+ghost use Rattle.dsec_found.specs.Outcomes.{state_view};
+ghost use Rattle.dsec_uses_steps.specs.Lines.{GoesTo, IsAtHand, ask_text, end_text, state_text, step_text};
 
 use anyhow::{Context, Result};
 use dsec_anchors::TrustAnchors;
 use dsec_core::{Input, Step, Validation};
 use dsec_crypto::StandIn;
-use dsec_group::{NoMemo, Steps};
+use dsec_group::{NoMemo, Steps, ValidationState};
 use dsec_lookup::{held_node, put_node};
 use dsec_message::Message;
-use dsec_node::{Config, OwnedCaches};
+use dsec_name::{Name, NoMemory};
+use dsec_node::{Caches, Config, OwnedCaches};
+use dsec_number::Rtype;
+use dsec_outside::{Sink, Writing, send};
+use dsec_word::{push_name, push_number};
 use event::{Event, read_event};
 use std::alloc::Global;
 use std::marker::Brand;
@@ -25,19 +32,59 @@ const ANCHOR: &str = "example. 3600 IN DNSKEY 257 3 13 AQI=";
 /// The moment at which messages are judged, in seconds since 1970.
 const NOW: u64 = 500;
 
+/// The word for a state.
+fn state_word(state: ValidationState) -> &'static str
+    ensures { result.now ≡ state_text (state_view state) }
+{
+    match state {
+        ValidationState::Secure => "Secure",
+        ValidationState::Insecure => "Insecure",
+        ValidationState::Bogus => "Bogus",
+        ValidationState::Indeterminate => "Indeterminate",
+    }
+}
+
+/// The line of a question.
+fn ask_line(alloc: Global, index: usize, name: &Name, rtype: Rtype) -> Result<Vec<u8>, NoMemory>
+    ensures { IfOk result (λ line. line.items ≡ ask_text index name.now rtype) }
+{
+    let mut out = Vec::new(alloc);
+    push_number(&mut out, index as u64)?;
+    out.extend_from_slice(b" asks ")?;
+    push_name(&mut out, name)?;
+    let word = rtype.to_string(alloc)?;
+    out.extend_from_slice(b" ")?;
+    out.extend_from_slice(word.as_bytes())?;
+    out.extend_from_slice(b"\n")?;
+    Ok(out)
+}
+
+/// The line of an end.
+fn end_line(alloc: Global, index: usize, state: ValidationState) -> Result<Vec<u8>, NoMemory>
+    ensures { IfOk result (λ line. line.items ≡ end_text index (state_view state)) }
+{
+    let mut out = Vec::new(alloc);
+    push_number(&mut out, index as u64)?;
+    out.extend_from_slice(b" is ")?;
+    out.extend_from_slice(state_word(state).as_bytes())?;
+    out.extend_from_slice(b"\n")?;
+    Ok(out)
+}
+
 /// Goes on with a message until it asks a question or is judged.
-fn go_on<L: Ledger>(
-    rt: &HostRuntime,
+fn go_on<K: Sink, L: Ledger>(
+    alloc: Global,
     index: usize,
     validation: &mut Validation<StandIn>,
     caches: &mut OwnedCaches<StandIn>,
     steps: &mut Steps<L>,
     input: Input<StandIn>,
+    sink: &mut K,
 ) -> Result<()> {
     let mut input = input;
     while validation.awaits(&input) {
-        let step = validation.advance(rt.alloc(), input, &mut NoMemo, steps)?;
-        match at_hand(rt, index, caches, step)? {
+        let step = validation.advance(alloc, input, &mut NoMemo, steps)?;
+        match at_hand(alloc, index, caches, step, sink)? {
             Some(next) => input = next,
             None => break,
         }
@@ -47,12 +94,16 @@ fn go_on<L: Ledger>(
 
 /// What answers a step at once. Nodes of zones are at hand here; where they are kept elsewhere, to get and to put one are events too. A question
 /// and the end are written, and nothing answers them here.
-fn at_hand(
-    rt: &HostRuntime,
+fn at_hand<C: Caches<StandIn>, K: Sink>(
+    alloc: Global,
     index: usize,
-    caches: &mut OwnedCaches<StandIn>,
+    caches: &mut C,
     step: Step<StandIn>,
-) -> Result<Option<Input<StandIn>>> {
+    sink: &mut K,
+) -> Result<Option<Input<StandIn>>>
+    ensures at_hand { IfOk result (λ next. IsAtHand (C.held caches.old) step next) }
+    ensures written { OnOk result (Appends (K.written sink.old) (K.written sink.new) (step_text index step)) }
+{
     match step {
         Step::NodeGet(name) => Ok(Some(Input::Node(held_node(caches, &name)))),
         Step::NodePut(name, node) => {
@@ -60,13 +111,17 @@ fn at_hand(
             Ok(Some(Input::Stored))
         },
         Step::Ask(name, rtype) => {
-            println!(rt; "{index} asks {name} {rtype}")?;
+            let line = ask_line(alloc, index, &name, rtype)
+                .ok()
+                .context("out of memory")?;
+            send(sink, &line).ok().context("a write failed")?;
             Ok(None)
         },
         Step::Done(outcome) => {
             let state = outcome.state();
             drop(outcome);
-            println!(rt; "{index} is {state:?}")?;
+            let line = end_line(alloc, index, state).ok().context("out of memory")?;
+            send(sink, &line).ok().context("a write failed")?;
             Ok(None)
         },
     }
@@ -83,7 +138,9 @@ fn taken(
     alloc: Global,
     event: Event,
     under_way: &mut Vec<Validation<StandIn>>,
-) -> Result<(usize, Input<StandIn>)> {
+) -> Result<(usize, Input<StandIn>)>
+    ensures { IfOk result (λ r. GoesTo event (length under_way.old.items) r) }
+{
     match event {
         Event::Message(message) => Ok((put(alloc, &message, under_way)?, Input::Begin)),
         Event::Reply(index, reply) => Ok((index, Input::Reply(reply))),
@@ -91,11 +148,9 @@ fn taken(
 }
 
 /// Puts a message behind the others, and gives its index. There is room for it before it begins.
-fn put(
-    alloc: Global,
-    message: &Message,
-    under_way: &mut Vec<Validation<StandIn>>,
-) -> Result<usize> {
+fn put(alloc: Global, message: &Message, under_way: &mut Vec<Validation<StandIn>>) -> Result<usize>
+    ensures { IfOk result (λ index. index ≡ length under_way.old.items) }
+{
     let index = under_way.len();
     under_way.reserve(1)?;
     under_way.push_reserved(begun(alloc, message)?);
@@ -103,17 +158,18 @@ fn put(
 }
 
 /// Takes an event: the message that it is for goes on.
-fn take<L: Ledger>(
-    rt: &HostRuntime,
+fn take<K: Sink, L: Ledger>(
+    alloc: Global,
     line: &str,
     under_way: &mut Vec<Validation<StandIn>>,
     caches: &mut OwnedCaches<StandIn>,
     steps: &mut Steps<L>,
+    sink: &mut K,
 ) -> Result<()> {
-    let event = read_event(rt.alloc(), line).context("no event")?;
-    let (index, input) = taken(rt.alloc(), event, under_way)?;
+    let event = read_event(alloc, line).context("no event")?;
+    let (index, input) = taken(alloc, event, under_way)?;
     match under_way.get_mut(index) {
-        Some(validation) => go_on(rt, index, validation, caches, steps, input),
+        Some(validation) => go_on(alloc, index, validation, caches, steps, input, sink),
         None => Ok(()),
     }
 }
@@ -125,8 +181,13 @@ fn take_all<L: Ledger>(
     caches: &mut OwnedCaches<StandIn>,
     steps: &mut Steps<L>,
 ) -> Result<()> {
-    for line in rt.lines(rt.alloc()) {
-        take(rt, line?.as_str(), under_way, caches, steps)?;
+    let alloc = rt.alloc();
+    let mut sink = Writing {
+        inner: rt.stdout(),
+        faults: 0,
+    };
+    for line in rt.lines(alloc) {
+        take(alloc, line?.as_str(), under_way, caches, steps, &mut sink)?;
     }
     Ok(())
 }
