@@ -6,7 +6,7 @@ ghost use Rattle.dsec_spec.specs.Outside.{SentFront};
 ghost use Rattle.dsec_outside.specs.Faults.{CountsWrites};
 ghost use Rattle.dsec_outside.specs.Statuses.{counted_at};
 ghost use Rattle.dsec_answer.specs.Headline.{Answered, PartFrom, RefusedAt, SentFor};
-ghost use Rattle.dsec_answer.specs.Outcomes.{IsAnswer};
+ghost use Rattle.dsec_answer.specs.Outcomes.{IsAnswer, IsText};
 ghost use Rattle.dsec_answer.specs.Sending.{NotAll};
 ghost use Rattle.dsec_answer.specs.Words.{refused_text, word_text};
 ghost use Rattle.dsec_script.specs.Place.{wants_memory};
@@ -19,8 +19,25 @@ use dsec_context::ValidationContext;
 use dsec_crypto::Verifier;
 use dsec_name::NoMemory;
 use dsec_outside::{Halt, Sink, TableUpstream, send};
-use dsec_script::{Refused, Script, ScriptError, Word, read_script};
+use dsec_script::{Item, Refused, Script, ScriptError, Word, read_script};
 use std::alloc::Global;
+
+/// Judges messages from anchors, over an upstream that answers by a script's replies.
+fn judge_from<V: Verifier, K: Sink>(
+    alloc: Global,
+    anchors: TrustAnchors,
+    upstream: &mut TableUpstream,
+    items: Vec<Item>,
+    sink: &mut K,
+) -> Result<(), Halt>
+    ensures counts { CountsWrites (K.faults sink.old) (K.faults sink.new) result }
+    ensures sent { OnOk result ((text : List ℕ) × IsText V.accepts anchors upstream.old.replies items.items text × Appends (K.written sink.old) (K.written sink.new) text) }
+    ensures front { (text : List ℕ) × IsText V.accepts anchors upstream.old.replies items.items text × SentFront (K.written sink.old) (K.written sink.new) text }
+    ensures memory { IsErrOf result Halt.Memory → (text : List ℕ) × IsText V.accepts anchors upstream.old.replies items.items text × NotAll (K.written sink.old) (K.written sink.new) text }
+{
+    let mut context = ValidationContext::<V>::new(alloc, anchors);
+    judge_all(alloc, &mut context, upstream, items, sink)
+}
 
 /// Judges a script's messages, over an upstream that answers by its replies.
 fn judge_script<V: Verifier, K: Sink>(
@@ -33,16 +50,9 @@ fn judge_script<V: Verifier, K: Sink>(
     ensures front { (text : List ℕ) × IsAnswer V.accepts script text × SentFront (K.written sink.old) (K.written sink.new) text }
     ensures memory { IsErrOf result Halt.Memory → (text : List ℕ) × IsAnswer V.accepts script text × NotAll (K.written sink.old) (K.written sink.new) text }
 {
-    let anchors = TrustAnchors::from_vec(script.anchors.into_vec());
-    let mut context = ValidationContext::<V>::new(alloc, anchors);
     let mut upstream = TableUpstream::new(script.replies);
-    judge_all(
-        alloc,
-        &mut context,
-        &mut upstream,
-        script.items.into_vec(),
-        sink,
-    )
+    let anchors = TrustAnchors::from_vec(script.anchors.into_vec());
+    judge_from::<V, K>(alloc, anchors, &mut upstream, script.items.into_vec(), sink)
 }
 
 /// The word for what is wrong with a line.
