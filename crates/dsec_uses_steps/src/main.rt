@@ -4,7 +4,7 @@
 
 mod event;
 
-ghost use Rattle.std.specs.Prelude.{◌≡◌, ◌<◌, length, IfOk, OnOk};
+ghost use Rattle.std.specs.Prelude.{◌≡◌, ◌<◌, ◌++◌, length, IfOk, IsOk, OnOk, None};
 ghost use Rattle.std.specs.Io.KnownBytes.{Appends};
 ghost use Rattle.dsec_found.specs.Outcomes.{state_view};
 ghost use Rattle.dsec_uses_steps.specs.Lines.{GoesTo, IsAtHand, ask_text, end_text, state_text, step_text};
@@ -44,31 +44,29 @@ fn state_word(state: ValidationState) -> &'static str
     }
 }
 
-/// The line of a question.
-fn ask_line(alloc: Global, index: usize, name: &Name, rtype: Rtype) -> Result<Vec<u8>, NoMemory>
-    ensures { IfOk result (λ line. line.items ≡ ask_text index name.now rtype) }
+/// Adds the line of a question.
+fn push_ask(out: &mut Vec<u8>, index: usize, name: &Name, rtype: Rtype) -> Result<(), NoMemory>
+    ensures { OnOk result (out.new.items ≡ out.old.items ++ ask_text index name.now rtype) }
 {
-    let mut out = Vec::new(alloc);
-    push_number(&mut out, index as u64)?;
+    push_number(out, index as u64)?;
     out.extend_from_slice(b" asks ")?;
-    push_name(&mut out, name)?;
-    let word = rtype.to_string(alloc)?;
+    push_name(out, name)?;
     out.extend_from_slice(b" ")?;
+    let word = rtype.to_string(*out.allocator())?;
     out.extend_from_slice(word.as_bytes())?;
     out.extend_from_slice(b"\n")?;
-    Ok(out)
+    Ok(())
 }
 
-/// The line of an end.
-fn end_line(alloc: Global, index: usize, state: ValidationState) -> Result<Vec<u8>, NoMemory>
-    ensures { IfOk result (λ line. line.items ≡ end_text index (state_view state)) }
+/// Adds the line of an end.
+fn push_end(out: &mut Vec<u8>, index: usize, state: ValidationState) -> Result<(), NoMemory>
+    ensures { OnOk result (out.new.items ≡ out.old.items ++ end_text index (state_view state)) }
 {
-    let mut out = Vec::new(alloc);
-    push_number(&mut out, index as u64)?;
+    push_number(out, index as u64)?;
     out.extend_from_slice(b" is ")?;
     out.extend_from_slice(state_word(state).as_bytes())?;
     out.extend_from_slice(b"\n")?;
-    Ok(out)
+    Ok(())
 }
 
 /// Goes on with a message until it asks a question or is judged.
@@ -92,6 +90,21 @@ fn go_on<K: Sink, L: Ledger>(
     Ok(())
 }
 
+/// Writes a line that was made, and answers nothing.
+fn said<K: Sink>(
+    sink: &mut K,
+    pushed: Result<(), NoMemory>,
+    line: &[u8],
+) -> Result<Option<Input<StandIn>>>
+    ensures pushed { OnOk result (IsOk pushed) }
+    ensures none { IfOk result (λ next. next ≡ None) }
+    ensures written { OnOk result (Appends (K.written sink.old) (K.written sink.new) line.now) }
+{
+    pushed.ok().context("out of memory")?;
+    send(sink, line).ok().context("a write failed")?;
+    Ok(None)
+}
+
 /// What answers a step at once. Nodes of zones are at hand here; where they are kept elsewhere, to get and to put one are events too. A question
 /// and the end are written, and nothing answers them here.
 fn at_hand<C: Caches<StandIn>, K: Sink>(
@@ -111,18 +124,16 @@ fn at_hand<C: Caches<StandIn>, K: Sink>(
             Ok(Some(Input::Stored))
         },
         Step::Ask(name, rtype) => {
-            let line = ask_line(alloc, index, &name, rtype)
-                .ok()
-                .context("out of memory")?;
-            send(sink, &line).ok().context("a write failed")?;
-            Ok(None)
+            let mut line = Vec::new(alloc);
+            let pushed = push_ask(&mut line, index, &name, rtype);
+            said(sink, pushed, &line)
         },
         Step::Done(outcome) => {
             let state = outcome.state();
             drop(outcome);
-            let line = end_line(alloc, index, state).ok().context("out of memory")?;
-            send(sink, &line).ok().context("a write failed")?;
-            Ok(None)
+            let mut line = Vec::new(alloc);
+            let pushed = push_end(&mut line, index, state);
+            said(sink, pushed, &line)
         },
     }
 }
