@@ -12,7 +12,8 @@ use std::fmt;
 pub enum Nsec3HashError {
     /// The hash algorithm isn't SHA-1.
     UnsupportedAlgorithm,
-    /// There was no memory left.
+    /// There was no memory left; this never comes, since hashing takes none, and a chain for which there is none is refused with
+    /// `DenialError::NoMemory`.
     AppendError,
     /// A hash is no owner's; this never comes.
     OwnerHashError,
