@@ -35,7 +35,7 @@ pub fn read_anchors(
 
 /// The records that are left.
 fn all_records(alloc: Global, zonefile: &mut Zonefile) -> Result<Vec<Record>, AnchorError>
-    ensures { Gives wants_memory (λ records. records.items) result (records_left zonefile.old) }
+    ensures { Gives wants_memory (λ records. records.items) result (records_left zonefile.old.reader) }
 {
     let mut records = Vec::new(alloc);
     while let Some(entry) = zonefile.next_entry()? {

@@ -33,7 +33,7 @@ pub fn read_zone(alloc: Global, content: &[u8]) -> Result<Vec<Record>, SourceErr
 
 /// The records that are left.
 fn records_left(alloc: Global, zonefile: &mut Zonefile) -> Result<Vec<Record>, SourceError>
-    ensures { AnswersZone (λ records. records.items) zonefile.old result }
+    ensures { AnswersZone (λ records. records.items) zonefile.old.reader result }
 {
     let mut records = Vec::new(alloc);
     while let Some(entry) = zonefile.next_entry()? {

@@ -28,6 +28,11 @@ pub record Reader : Type 0 where
   pub refused : Option ℕ
   pub begun : ℕ
 
+-- zone text as it is held: how far it was read, and how many of the octets that were read are still kept
+pub record HeldText : Type 0 where
+  pub reader : Reader
+  pub kept : ℕ
+
 -- the line behind so many line ends is refused; lines are numbered from 1
 abbrev pub refused_behind : ℕ → Result (Option Step) ZonefileError
 refused_behind lines = Err (errors.Inplace (record { line = lines + 1 }))

@@ -27,9 +27,12 @@ impl Model for Zonefile {
     ghost use Rattle.dsec_zonefile.specs.Entries as entries;
     ghost use Rattle.dsec_zonefile.specs.Places.{IsWithin};
 
-    ghost Value = { entries.Reader };
+    ghost Value = { entries.HeldText };
 
-    ghost view = { λ it. record { text = drop it.place.at it.text.items; passed = it.place.lines; setting = it.place.setting; refused = it.refused; begun = it.place.begun } };
+    ghost view = { λ it. record {
+      reader = record { text = drop it.place.at it.text.items; passed = it.place.lines; setting = it.place.setting; refused = it.refused; begun = it.place.begun };
+      kept = it.place.at;
+    } };
 
     ghost invariant = { λ it. IsWithin it.text.items it.place };
 }
@@ -40,7 +43,10 @@ const MOST_LINE_ENDS: usize = usize::MAX / 2;
 impl Zonefile {
     /// No text, no class, and the root for the origin.
     pub fn new(alloc: Global) -> Self
-        ensures { result ≡ record { text = []; passed = 0; setting = at_first; refused = None; begun = 0 } }
+        ensures { result ≡ record {
+          reader = record { text = []; passed = 0; setting = at_first; refused = None; begun = 0 };
+          kept = 0;
+        } }
     {
         Zonefile {
             text: Vec::new(alloc),
@@ -56,23 +62,25 @@ impl Zonefile {
 
     /// Sets the class of records that give none, as long as no record before them has one.
     pub fn set_default_class(&mut self, class: Class)
-        ensures { self.new ≡ record self.old { setting = record self.old.setting { class = Some class } } }
+        ensures { self.new ≡ record self.old { reader = record self.old.reader { setting = record self.old.reader.setting { class = Some class } } } }
     {
         self.place.setting.class = Some(class);
     }
 
-    /// Adds more text after what is there. What was read is given up where it is more than what is left, so that text that is
-    /// added piece by piece, as it is read, takes memory in proportion to what is not read yet. Text with more line ends
-    /// than a number can count wants memory too.
+    /// Adds more text after what is there. Before that, whatever the answer, what was read is given up where it is more than what is
+    /// left, so that text that is added piece by piece, as it is read, takes memory in proportion to what is not read yet. Text with
+    /// more line ends than a number can count wants memory too.
     pub fn extend_from_slice(&mut self, more: &[u8]) -> Result<(), NoMemory>
-        ensures ok { OnOk result (self.new ≡ record self.old { text = self.old.text ++ more.now }) }
-        ensures err { OnErr result (self.new ≡ self.old) }
+        ensures ok { OnOk result (self.new.reader ≡ record self.old.reader { text = self.old.reader.text ++ more.now }) }
+        ensures err { OnErr result (self.new.reader ≡ self.old.reader) }
+        ensures kept { self.new.kept ≤ length self.old.reader.text }
+        ensures no_more { self.new.kept ≤ self.old.kept }
     {
         let left = self.text.len() - self.place.at;
+        give_up_read(&mut self.text, &mut self.place.at);
         if more.len() > MOST_LINE_ENDS - (self.place.lines + left) {
             return Err(NoMemory);
         }
-        give_up_read(&mut self.text, &mut self.place.at);
         self.text.extend_from_slice(more)?;
         Ok(())
     }
@@ -80,15 +88,16 @@ impl Zonefile {
     /// The line where the entry begins that was given last; once no entry is left, that of the last line that said something; 0 before
     /// any. The first line has the number 1, and lines that are passed over count.
     pub fn line(&self) -> usize
-        ensures { result ≡ self.now.begun }
+        ensures { result ≡ self.now.reader.begun }
     {
         self.place.begun
     }
 
-    /// The next entry; none where no entry is left, and then the text that was left is passed. A refusal is answered again at
-    /// each later call.
+    /// The next entry; none where no entry is left, and then the text that was left is passed. What is passed is kept until more text
+    /// is added. A refusal is answered again at each later call.
     pub fn next_entry(&mut self) -> Result<Option<Entry>, ZonefileError>
-        ensures { Answers self.old result self.new }
+        ensures next { Answers self.old.reader result self.new.reader }
+        ensures kept { self.new.kept + length self.new.reader.text ≡ self.old.kept + length self.old.reader.text }
     {
         if let Some(line) = self.refused {
             return Err(ZonefileError::Inplace(InplaceError { line }));
@@ -114,6 +123,7 @@ pub(crate) fn give_up_read(text: &mut Vec<u8>, at: &mut usize)
     requires { at.old ≤ length text.old.items }
     ensures left { drop at.new text.new.items ≡ drop at.old text.old.items }
     ensures half { at.new + at.new ≤ length text.new.items }
+    ensures no_more { at.new ≤ at.old }
 {
     if *at > text.len() - *at {
         text.drain(..*at);

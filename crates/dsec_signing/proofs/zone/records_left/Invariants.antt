@@ -3,7 +3,7 @@ use Rattle.dsec_signing.proofs.ZoneReading.{Follows}
 use Rattle.dsec_signing.proofs.zone.records_left.Given as goal
 
 abbrev pub invariant-loop-records : goal.invariant-loop-records
-invariant-loop-records l = Follows l.fn.zonefile l.zonefile l.records.items
+invariant-loop-records l = Follows l.fn.zonefile.reader l.zonefile.reader l.records.items
 
 abbrev pub decreases-loop-records : goal.decreases-loop-records
-decreases-loop-records l = length l.zonefile.text
+decreases-loop-records l = length l.zonefile.reader.text

@@ -9,6 +9,13 @@ same_left xs ys m n e = sym (length-drop m xs) ∙ ap length e ∙ length-drop n
 pub invariant_of-self : goal.invariant_of-self
 invariant_of-self c =
     let rest = same_left c.give_up_read.new.text.items c.self.inside.text.items c.give_up_read.new.at c.self.inside.place.at c.give_up_read.ensures.left in
+    let half = c.give_up_read.ensures.half in
+    let before = c.self.invariant in
+    (omega (arith, half), omega (arith, half, rest, before.0, before.1))
+
+pub invariant_of-self-in_err-extend_from_slice : goal.invariant_of-self-in_err-extend_from_slice
+invariant_of-self-in_err-extend_from_slice c =
+    let rest = same_left c.give_up_read.new.text.items c.self.inside.text.items c.give_up_read.new.at c.self.inside.place.at c.give_up_read.ensures.left in
     let size = ap length c.in_err-extend_from_slice.ensures.items in
     let half = c.give_up_read.ensures.half in
     let before = c.self.invariant in
