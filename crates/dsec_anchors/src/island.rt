@@ -2,16 +2,19 @@
 
 ghost use Rattle.std.specs.Prelude.{◌≡◌};
 ghost use Rattle.std.specs.Option.{option_map};
-ghost use Rattle.dsec_spec.specs.Islands.{island, longer as longer_of, looked_for_at};
+ghost use Rattle.dsec_spec.specs.Islands.{island, looked_for_at};
 ghost use Rattle.dsec_spec.specs.Names.{is_below, place};
+ghost use Rattle.dsec_anchors.specs.Anchors.{longer_name, told_island};
 
 use dsec_name::Name;
 use dsec_number::Rtype;
 use dsec_wire::Record;
 
-/// The owner of the longest anchor at or above where sets of the type are looked for.
+/// The owner of the longest anchor at or above where sets of the type are looked for, in the letters of the first of the anchors
+/// there.
 pub fn island_owner<'a>(anchors: &'a [Record], name: &Name, rtype: Rtype) -> Option<&'a Name>
-    ensures { option_map (λ owner. place owner.now) result ≡ island anchors.now (place name.now) rtype }
+    ensures island { option_map (λ owner. place owner.now) result ≡ island anchors.now (place name.now) rtype }
+    ensures letters { option_map (λ owner. owner.now) result ≡ told_island anchors.now (place name.now) rtype }
 {
     let mut best = None;
     let mut index = anchors.len();
@@ -47,7 +50,7 @@ fn is_at_or_below(name: &Name, base: &Name) -> bool
 
 /// The longer of two names, the first where they are as long.
 fn longer<'a>(name: &'a Name, other: Option<&'a Name>) -> &'a Name
-    ensures { place result.now ≡ longer_of (place name.now) (option_map (λ other. place other.now) other.entry) }
+    ensures { result.now ≡ longer_name name.now (option_map (λ other. other.now) other.entry) }
 {
     match other {
         Some(other) => {

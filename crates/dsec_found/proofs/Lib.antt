@@ -3,3 +3,4 @@ pub mod TargetSteps
 pub mod FoundSteps
 pub mod JudgedLaws
 pub mod SignerLaws
+pub mod LetterLaws

@@ -4,3 +4,4 @@ pub mod Told
 pub mod Tried
 pub mod Outcomes
 pub mod Begun
+pub mod Letters

@@ -2,15 +2,16 @@
 
 ghost use Rattle.std.specs.Prelude.{◌≡◌, IfOk};
 ghost use Rattle.std.specs.Option.{option_map};
-ghost use Rattle.dsec_spec.specs.Islands.{is_above, looked_for_at};
+ghost use Rattle.dsec_spec.specs.Islands.{is_above};
 ghost use Rattle.dsec_spec.specs.Names.{is_below as below, is_strictly_below as strictly_below, place};
+ghost use Rattle.dsec_found.specs.Letters.{told_looked_for};
 
 use dsec_name::{Name, NoMemory};
 use dsec_number::Rtype;
 
-/// The name at which a set of this type is looked for: a DS set stands in the zone above, but the root's.
+/// The name at which a set of this type is looked for, in the letters of its owner: a DS set stands in the zone above, but the root's.
 pub(crate) fn looked_for(name: &Name, rtype: Rtype) -> Result<Name, NoMemory>
-    ensures { IfOk result (λ from. place from ≡ looked_for_at (place name.now) rtype) }
+    ensures { IfOk result (λ from. from ≡ told_looked_for name.now rtype) }
 {
     if rtype != Rtype::DS {
         return copy_of(name);

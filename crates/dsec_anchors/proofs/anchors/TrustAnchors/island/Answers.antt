@@ -12,7 +12,7 @@ returns-clause-owner c =
     let anchors = c.args.self.now in
     let name = place c.args.name.now in
     let p = place c.in_ok-owner.owner.now in
-    let e = ap (λ (a : List Record). island a name c.args.rtype) (sym c.as_slice.ensures) ∙ (sym c.island_owner.ensures ∙ ap (option_map (λ owner. place owner.now)) c.in_ok-owner.was) in
+    let e = ap (λ (a : List Record). island a name c.args.rtype) (sym c.as_slice.ensures) ∙ (sym c.island_owner.ensures.island ∙ ap (option_map (λ owner. place owner.now)) c.in_ok-owner.was) in
     view_place c.find.result
     ∙ (ap (option_map (λ (o : OwnersAnchors). place o.owner)) c.find.ensures
     ∙ (anchors_at_island anchors name c.args.rtype p e ∙ sym e))
