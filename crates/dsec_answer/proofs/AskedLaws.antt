@@ -1,5 +1,5 @@
 -- How many questions a message takes, and which nodes it puts, by the call that judged it; and how many by a table alone.
-use Rattle.std.proofs.Common.{◌≡◌, ◌⊎◌, ◌≤◌, ℕ, List, [], ◌++◌, length, Option, Some, IfOk, Result, Ok, Err, inl, inr, refl, ap, ◌∙◌, subst}
+use Rattle.std.proofs.Common.{◌≡◌, ◌⊎◌, ◌≤◌, ℕ, List, [], ◌++◌, length, Option, Some, None, IfOk, Result, Ok, Err, inl, inr, refl, ap, ◌∙◌, subst, append-nil}
 use Rattle.std.specs.Prelude.{Contains}
 use Rattle.dsec_spec.specs.Accepts.{Accepts}
 use Rattle.dsec_spec.specs.Outside.{Table}
@@ -8,9 +8,9 @@ use Rattle.dsec_nodes.specs.Nodes.{Node}
 use Rattle.dsec_nodes.specs.Outcomes.{Outcome}
 use Rattle.dsec_nodes.specs.Alone.{Refusal, alone}
 use Rattle.dsec_node.specs.Caches.{Held}
-use Rattle.dsec_course.specs.Course.{Course, asked_in, end_with}
+use Rattle.dsec_course.specs.Course.{Course, CourseStep, asked_in, end_with}
 use Rattle.dsec_course.specs.Advancing.{begun}
-use Rattle.dsec_course.specs.Hearing.{first_run, after_heard}
+use Rattle.dsec_course.specs.Hearing.{put_by, first_run, after_heard}
 use Rattle.dsec_spec.proofs.Members.{in_front, in_back}
 use Rattle.dsec_course.proofs.BeginningLaws.{refused_alone}
 use Rattle.dsec_course.proofs.RunLaws.{ends_from_nothing}
@@ -20,6 +20,8 @@ use Rattle.dsec_context.specs.Outside.{Outside, WasHeld, HoldsMore, replies_of}
 use Rattle.dsec_context.specs.Judgements.{Judgement, HandsOn, IsJudging}
 use Rattle.dsec_context.specs.Calls.{IsAnswer, WereHeard, most_questions}
 use Rattle.dsec_context.proofs.CallLaws.{heard_few}
+use Rattle.dsec_context.proofs.ServingLaws.{of_no_caches}
+use Rattle.dsec_context.specs.Finding.{all_along}
 use Rattle.dsec_context.proofs.JudgementLaws.{groups_sound}
 use Rattle.dsec_context.specs.Handling.{IsHandling}
 use Rattle.dsec_context.proofs.ComingLaws.{comes, of_verdict}
@@ -41,7 +43,7 @@ module _ (w : World) (most : ℕ) (message : List ℕ) (table : Table) (before a
       by (Err e) f = tt
       by (Ok v) f =
           let so = subst (λ (x : Result Verdict Error). IsAnswer w most message h.call.asked x) f h.call.so in
-          let heard = subst (λ (x : Result Verdict Error). HandsOn w most message (WasHeld w.accepts before.held) h.call.asked h.call.puts x j.groups) f h.hands_on in
+          let heard = subst (λ (x : Result Verdict Error). HandsOn w most message (WasHeld w.accepts before.held) (all_along before.lasting after.lasting) h.call.asked h.call.puts x j.groups) f h.hands_on in
           record {
             asked = h.call.asked;
             as_many = so.0;
@@ -52,8 +54,9 @@ module _ (w : World) (most : ℕ) (message : List ℕ) (table : Table) (before a
               begins = heard.begins;
               inputs = heard.inputs;
               heard = heard_wider w (WasHeld w.accepts before.held) (Contains kept) (was_among w.accepts kept before.held held is among) heard.inputs (first_run w heard.course) heard.heard;
+              found = of_no_caches w heard.inputs (first_run w heard.course);
               are = heard.are;
-              puts_are = heard.puts_are;
+              puts_are = ap (λ (x : CourseStep). h.call.puts ++ put_by x) heard.ends ∙ (append-nil h.call.puts ∙ heard.puts_are);
             };
             ends = heard.ends;
           }
@@ -63,14 +66,15 @@ module _ (w : World) (most : ℕ) (message : List ℕ) (table : Table) (before a
       → (puts : List Node) × WerePut w most message (replies_of table) kept puts × HoldsAmong (kept ++ puts) left
   judged_put left e j h = (h.call.puts, record { asked = h.call.asked; replied = h.call.counted.told; in_turn = turn h.call.in_turn }, all)
     where
-      turn : ((h.call.asked ≡ []) × (h.call.puts ≡ [])) ⊎ WereHeard w most message (WasHeld w.accepts before.held) h.call.asked h.call.puts
-          → (h.call.puts ≡ []) ⊎ WereHeard w most message (Contains kept) h.call.asked h.call.puts
+      turn : ((h.call.asked ≡ []) × (h.call.puts ≡ [])) ⊎ WereHeard w most message (WasHeld w.accepts before.held) (all_along before.lasting after.lasting) h.call.asked h.call.puts
+          → (h.call.puts ≡ []) ⊎ WereHeard w most message (Contains kept) None h.call.asked h.call.puts
       turn (inl none) = inl none.1
       turn (inr t) = inr (record {
         course = t.course;
         begins = t.begins;
         inputs = t.inputs;
         heard = heard_wider w (WasHeld w.accepts before.held) (Contains kept) (was_among w.accepts kept before.held held is among) t.inputs (first_run w t.course) t.heard;
+        found = of_no_caches w t.inputs (first_run w t.course);
         are = t.are;
         puts_are = t.puts_are;
       })
@@ -116,6 +120,7 @@ alone_asked w most replies message kept o e = by (begun w.anchors most message) 
         let h = whole_run w most message replies c f in
         let asked = asked_in (after_heard w (first_run w c) h.inputs).course in
         let puts = (after_heard w (first_run w c) h.inputs).puts in
+        let at_end : puts ++ put_by (after_heard w (first_run w c) h.inputs).step ≡ puts = ap (λ (x : CourseStep). puts ++ put_by x) h.ends ∙ append-nil puts in
         record {
           number = length asked;
           asked = record {
@@ -128,13 +133,14 @@ alone_asked w most replies message kept o e = by (begun w.anchors most message) 
               begins = f;
               inputs = h.inputs;
               heard = heard_wider w NoNode (Contains kept) (λ n x. absurd x) h.inputs (first_run w c) h.heard;
+              found = of_no_caches w h.inputs (first_run w c);
               are = refl;
-              puts_are = refl;
+              puts_are = at_end;
             };
             ends = h.ends ∙ ap (λ (x : Result Outcome Refusal). end_with x) (ends_from_nothing w most message c h.inputs h.end f h.heard h.ends replies h.asked ∙ e);
           };
-          few = heard_few w most message NoNode asked puts (λ n x. absurd x)
-              (record { course = c; begins = f; inputs = h.inputs; heard = h.heard; are = refl; puts_are = refl });
+          few = heard_few w most message NoNode None asked puts (λ n x. absurd x)
+              (record { course = c; begins = f; inputs = h.inputs; heard = h.heard; found = of_no_caches w h.inputs (first_run w c); are = refl; puts_are = at_end });
         }
 
 -- none may be put

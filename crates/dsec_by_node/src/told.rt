@@ -2,7 +2,7 @@
 
 ghost use Rattle.std.specs.Prelude.{◌≡◌, None, Some};
 ghost use Rattle.std.specs.Option.{option_map};
-ghost use Rattle.dsec_group.specs.declared.state.ValidationState.TheVariants.{Secure};
+ghost use Rattle.dsec_group.specs.declared.state.ValidationState.TheVariants.{Indeterminate, Insecure, Secure};
 ghost use Rattle.dsec_spec.specs.Names.{place};
 ghost use Rattle.dsec_by_node.specs.Answers.{CanBeTold, validated_by};
 
@@ -52,8 +52,22 @@ impl<V: Verifier> Told<V> {
         }
     }
 
+    /// An Insecure group, and why it is insecure.
+    pub fn insecure(cause: Cause) -> Told<V>
+        ensures { result ≡ record { answer = record { state = Insecure; closest_encloser = None; cause = Some cause; adjusted = None }; shown = None } }
+    {
+        Told::unsecured(ValidationState::Insecure, Some(cause))
+    }
+
+    /// An Indeterminate group, and why nothing is known of it.
+    pub fn indeterminate(cause: Cause) -> Told<V>
+        ensures { result ≡ record { answer = record { state = Indeterminate; closest_encloser = None; cause = Some cause; adjusted = None }; shown = None } }
+    {
+        Told::unsecured(ValidationState::Indeterminate, Some(cause))
+    }
+
     /// What is told of a group without links: a status and its cause.
-    pub fn unsecured(state: ValidationState, cause: Option<Cause>) -> Told<V>
+    pub(crate) fn unsecured(state: ValidationState, cause: Option<Cause>) -> Told<V>
         ensures { result ≡ record { answer = record { state = state; closest_encloser = None; cause = cause; adjusted = None }; shown = None } }
     {
         Told {

@@ -1,5 +1,5 @@
 -- The questions of a message are counted step by step, and are few.
-use Rattle.std.proofs.Common.{◌≡◌, ◌+◌, ◌≤◌, ◌∷◌, ◌++◌, [], ℕ, List, length, Option, None, IfOk, Result, Ok, Err, sym, ap, ◌∙◌, subst, arith}
+use Rattle.std.proofs.Common.{◌≡◌, ◌+◌, ◌≤◌, ◌∷◌, ◌++◌, [], ℕ, List, length, Option, None, IfOk, Result, Ok, Err, refl, sym, ap, ◌∙◌, subst, arith}
 use Rattle.std.proofs.lemmas.List.{length-append}
 use Rattle.dsec_spec.specs.Names.{Place}
 use Rattle.dsec_spec.specs.Outside.{Table}
@@ -9,15 +9,16 @@ use Rattle.dsec_nodes.specs.Machine.{Question as Asked, Input, begin, node, stor
 use Rattle.dsec_found.specs.declared.error.Error.{Error}
 use Rattle.dsec_course.specs.Course.{Course, CourseStep, get_node, put_node, ask_for, end_with, CourseAnswers, Awaits, asked_in}
 use Rattle.dsec_course.specs.Advancing.{begun, course_advanced}
-use Rattle.dsec_course.specs.Hearing.{Run, first_run, ran_on}
+use Rattle.dsec_course.specs.Hearing.{Run, put_by, first_run, ran_on}
 use Rattle.dsec_course.proofs.RunLaws.{run_asked, run_got, run_put, heard_more, after_more}
 use Rattle.dsec_core.specs.declared.step.Step.{Step}
 use Rattle.dsec_core.specs.Validating.{AdvancesTo}
 use Rattle.dsec_core.specs.Views.{step_view}
 use Rattle.dsec_context.specs.Outside.{Outside, WasHeld, IsServed}
+use Rattle.dsec_context.specs.Finding.{all_along}
 use Rattle.dsec_context.specs.Calls.{WereHeard, most_questions}
 use Rattle.dsec_context.specs.Turns.{asks, IsAt}
-use Rattle.dsec_context.proofs.ServingLaws.{serving_holds, begins_unasked}
+use Rattle.dsec_context.proofs.ServingLaws.{serving_holds, begins_unasked, of_no_caches}
 use Rattle.dsec_context.proofs.CallLaws.{were_heard, heard_few}
 
 -- each answer counts the question of its step
@@ -71,7 +72,7 @@ room_left w most message table before now course step (r, at, its, s) = by step 
     same = ap (λ (c : Course). length (asked_in c)) at
 
     few : length (asked_in r.course) ≤ most_questions w.anchors most message
-    few = heard_few w most message held (asked_in r.course) r.puts (λ n x. x.0) (were_heard w most message table before now r s)
+    few = heard_few w most message held (all_along before.lasting now.lasting) (asked_in r.course) s.stored (λ n x. x.0) (were_heard w most message table before now r s)
 
     one_more : (name : Place) (rtype : ℕ) → r.step ≡ ask_for name rtype → length (asked_in course) + 1 ≤ most_questions w.anchors most message
     one_more name rtype e =
@@ -79,17 +80,18 @@ room_left w most message table before now course step (r, at, its, s) = by step 
         let first : Run = first_run w s.course in
         let i : Input = reply None in
         let a = subst (λ (z : CourseStep). Awaits z r.course.waits) e h.awaits None in
-        let heard : WereHeard w most message held (asked_in (ran_on w r i).course) (ran_on w r i).puts = record {
+        let heard : WereHeard w most message held None (asked_in (ran_on w r i).course) r.puts = record {
           course = s.course;
           begins = s.begins;
           inputs = s.inputs ++ i ∷ [];
           heard = heard_more w held s.inputs first i s.heard (subst (λ (x : Run). CourseAnswers x.course.waits i) (sym s.comes_to) a.0) tt;
+          found = of_no_caches w (s.inputs ++ i ∷ []) first;
           are = sym (ap (λ (x : Run). asked_in x.course) (after_more w s.inputs first i ∙ ap (λ (x : Run). ran_on w x i) s.comes_to));
-          puts_are = sym (ap (λ (x : Run). x.puts) (after_more w s.inputs first i ∙ ap (λ (x : Run). ran_on w x i) s.comes_to));
+          puts_are = subst (λ (x : Run). r.puts ++ put_by x.step ≡ x.puts) (sym (after_more w s.inputs first i ∙ ap (λ (x : Run). ran_on w x i) s.comes_to)) refl;
         } in
         let l = ap length (run_asked w most message held r name rtype None h e) in
         let m = length-append (asked_in r.course) (record { name = name; rtype = rtype; reply = None } ∷ []) in
-        omega (arith, heard_few w most message held (asked_in (ran_on w r i).course) (ran_on w r i).puts (λ n x. x.0) heard, l, m, same)
+        omega (arith, heard_few w most message held None (asked_in (ran_on w r i).course) r.puts (λ n x. x.0) heard, l, m, same)
 
     by : (y : CourseStep) → r.step ≡ y → length (asked_in course) + asks y ≤ most_questions w.anchors most message
     by (get_node name) e = omega (arith, few, same)

@@ -15,3 +15,4 @@ pub mod LeavingLaws
 pub mod TableLaws
 pub mod AloneLaws
 pub mod PromiseLaws
+pub mod WholeLaws

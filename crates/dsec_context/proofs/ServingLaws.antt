@@ -1,14 +1,14 @@
 -- A message goes on by each step that is served, and keeps what it promises.
-use Rattle.std.proofs.Common.{◌≡◌, ℕ, List, [], ◌∷◌, ◌++◌, Option, Some, None, IfSome, Ok, refl, sym, ap, ◌∙◌, subst, append-nil}
+use Rattle.std.proofs.Common.{◌≡◌, ◌⊎◌, inl, inr, ℕ, List, [], ◌∷◌, ◌++◌, Option, Some, None, IfSome, Ok, refl, sym, ap, ◌∙◌, subst, append-nil}
 use Rattle.std.specs.Prelude.{Contains}
 use Rattle.std.specs.List.{flat_map}
 use Rattle.dsec_spec.specs.Names.{Place}
 use Rattle.dsec_spec.specs.Outside.{Table}
-use Rattle.dsec_spec.proofs.Members.{first_in, in_back}
+use Rattle.dsec_spec.proofs.Members.{first_in, in_front, in_back}
 use Rattle.dsec_nodes.specs.World.{World}
 use Rattle.dsec_nodes.specs.Nodes.{Node, Kept}
 use Rattle.dsec_nodes.specs.Machine.{Question as Asked, Walking, Input, begin, node, stored, reply}
-use Rattle.dsec_node.specs.Caches.{Held, IsHeld}
+use Rattle.dsec_node.specs.Caches.{Held, IsHeld, Becomes, with_node, with_nodes}
 use Rattle.dsec_course.specs.Course.{Waiting, to_begin, to_end, for_walk, for_nothing, Course, CourseStep, get_node, put_node, ask_for, end_with, CourseAnswers, Awaits, asked_in, asked_by}
 use Rattle.dsec_course.specs.Advancing.{begun}
 use Rattle.dsec_course.specs.Justified.{CourseStepSound}
@@ -17,17 +17,11 @@ use Rattle.dsec_course.proofs.BeginningLaws.{begun_sound, begun_waits}
 use Rattle.dsec_course.proofs.RunLaws.{run_begins, run_asked, run_got, run_put, heard_holds, heard_more, after_more}
 use Rattle.dsec_course.proofs.StepLaws.{asked_grows}
 use Rattle.dsec_context.specs.Outside.{Outside, AreCounted, WasHeld, HoldsMore, IsServed}
-use Rattle.dsec_context.specs.Serving.{IsServing}
+use Rattle.dsec_context.specs.Finding.{all_along, IsOfCaches}
+use Rattle.dsec_context.specs.Serving.{AreOfCaches, IsServing}
 use Rattle.dsec_lookup.proofs.CountLaws.{counted_more, counted_same, counted_none}
 use Rattle.dsec_lookup.proofs.HoldingLaws.{more_none, more_puts, more_kept, more_added, given_from}
-
--- the node that is put next is among the puts
-abbrev IsListed : Run → Type 0
-IsListed r = (n : Node) → Contains (put_by r.step) n → Contains r.puts n
-
-listed_after : (w : World) (inputs : List Input) (r : Run) → IsListed r → IsListed (after_heard w r inputs)
-listed_after w [] r h = h
-listed_after w (i ∷ inputs) r h = listed_after w inputs (ran_on w r i) (λ n there. in_back n r.puts (put_by (ran_on w r i).step) there)
+use Rattle.dsec_lookup.proofs.FindingLaws.{becomes_same, becomes_kept, becomes_put, along, found_after}
 
 -- what has come so far is sound and in step
 pub serving_holds : (w : World) (most : ℕ) (message : List ℕ) (table : Option Table) (before now : Outside) (r : Run)
@@ -38,10 +32,37 @@ serving_holds w most message table before now r s =
     subst (HoldsRun w most message held) s.comes_to
     (heard_holds w most message held s.inputs (first_run w s.course) kept (run_begins w most message held s.course kept s.begins) s.heard)
 
+-- what was put is among what the steps so far put
 pub serving_listed : (w : World) (most : ℕ) (message : List ℕ) (table : Option Table) (before now : Outside) (r : Run)
-    → IsServing w most message table before now r → (n : Node) → Contains (put_by r.step) n → Contains r.puts n
-serving_listed w most message table before now r s =
-    subst IsListed s.comes_to (listed_after w s.inputs (first_run w s.course) (λ n there. there))
+    (s : IsServing w most message table before now r) (n : Node) → Contains s.stored n → Contains r.puts n
+serving_listed w most message table before now r s n there =
+    subst (λ (ns : List Node). Contains ns n) (sym s.puts_are) (in_front n s.stored (put_by r.step) there)
+
+-- one more input that is of the caches
+of_caches_more : (w : World) (lasting : Option Held) (inputs : List Input) (r : Run) (i : Input) → AreOfCaches w lasting r inputs
+    → IsOfCaches lasting (after_heard w r inputs).puts (after_heard w r inputs).step i → AreOfCaches w lasting r (inputs ++ i ∷ [])
+of_caches_more w lasting [] r i h f = (f, tt)
+of_caches_more w lasting (j ∷ inputs) r i h f = (h.0, of_caches_more w lasting inputs (ran_on w r j) i h.1 f)
+
+-- where caches may forget, or don't tell, nothing is said
+no_caches : (puts : List Node) (step : CourseStep) (i : Input) → IsOfCaches None puts step i
+no_caches puts (get_node name) (node o) = tt
+no_caches puts (get_node name) begin = tt
+no_caches puts (get_node name) stored = tt
+no_caches puts (get_node name) (reply octets) = tt
+no_caches puts (put_node name n) i = tt
+no_caches puts (ask_for name rtype) i = tt
+no_caches puts (end_with x) i = tt
+
+pub of_no_caches : (w : World) (inputs : List Input) (r : Run) → AreOfCaches w None r inputs
+of_no_caches w [] r = tt
+of_no_caches w (i ∷ inputs) r = (no_caches r.puts r.step i, of_no_caches w inputs (ran_on w r i))
+
+-- what was found is so still, or caches no longer tell
+found_still : (w : World) (now next : Option Held) (inputs : List Input) (r : Run) → (next ≡ None) ⊎ (next ≡ now) → AreOfCaches w now r inputs
+    → AreOfCaches w next r inputs
+found_still w now next inputs r (inl none) f = subst (λ (o : Option Held). AreOfCaches w o r inputs) (sym none) (of_no_caches w inputs r)
+found_still w now next inputs r (inr same) f = subst (λ (o : Option Held). AreOfCaches w o r inputs) (sym same) f
 
 -- nothing is asked at the beginning
 unasked_begin : (waits : Waiting) → asked_by waits begin ≡ []
@@ -67,15 +88,21 @@ serving_begins w most message table before c e = record {
   heard = tt;
   comes_to = refl;
   counted = subst (λ (qs : List Asked). AreCounted table before before qs 0) (sym (begins_unasked w most message c e)) (counted_none table before);
-  holds_more = more_puts before.held before.held [] (put_by (first_run w c).step) (more_none before.held);
+  stored = [];
+  puts_are = refl;
+  holds_more = more_none before.held;
+  found = tt;
+  lasts = becomes_same before.lasting;
 }
 
 -- it goes on by an input that answers
 on_by : (w : World) (most : ℕ) (message : List ℕ) (table : Option Table) (before now next : Outside) (r : Run) (i : Input)
     → IsServing w most message table before now r → CourseAnswers r.course.waits i → GivenFrom (WasHeld w.accepts before.held) r.puts i
     → AreCounted table before next (asked_in (ran_on w r i).course) 0 → HoldsMore before.held next.held r.puts
+    → (all_along before.lasting next.lasting ≡ None) ⊎ (all_along before.lasting next.lasting ≡ all_along before.lasting now.lasting)
+    → IsOfCaches (all_along before.lasting next.lasting) r.puts r.step i → Becomes before.lasting next.lasting (λ h. with_nodes h r.puts)
     → IsServing w most message table before next (ran_on w r i)
-on_by w most message table before now next r i s a from counted more =
+on_by w most message table before now next r i s a from counted more same found lasts =
     let held : Node → Type 0 = WasHeld w.accepts before.held in
     let first : Run = first_run w s.course in
     record {
@@ -86,7 +113,13 @@ on_by w most message table before now next r i s a from counted more =
           (subst (λ (x : Run). GivenFrom held x.puts i) (sym s.comes_to) from);
       comes_to = after_more w s.inputs first i ∙ ap (λ (x : Run). ran_on w x i) s.comes_to;
       counted = counted;
-      holds_more = more_puts before.held next.held r.puts (put_by (ran_on w r i).step) more;
+      stored = r.puts;
+      puts_are = refl;
+      holds_more = more;
+      found = of_caches_more w (all_along before.lasting next.lasting) s.inputs first i
+          (found_still w (all_along before.lasting now.lasting) (all_along before.lasting next.lasting) s.inputs first same s.found)
+          (subst (λ (x : Run). IsOfCaches (all_along before.lasting next.lasting) x.puts x.step i) (sym s.comes_to) found);
+      lasts = lasts;
     }
 
 -- a node is put for its own name
@@ -96,6 +129,12 @@ named_by w most message name n (for_walk group s) h = h.0.0.1
 named_by w most message name n to_begin h = absurd h
 named_by w most message name n (to_end x) h = absurd h
 named_by w most message name n for_nothing h = absurd h
+
+pub serving_named : (w : World) (most : ℕ) (message : List ℕ) (table : Option Table) (before now : Outside) (r : Run)
+    → IsServing w most message table before now r → (name : Place) (n : Node) → r.step ≡ put_node name n → n.name ≡ name
+serving_named w most message table before now r s name n e =
+    named_by w most message name n r.course.waits
+    (subst (λ (z : CourseStep). CourseStepSound w most message z r.course.waits) e (serving_holds w most message table before now r s).sound.1)
 
 -- A step that is served takes a message on
 pub serving_goes_on : (w : World) (most : ℕ) (message : List ℕ) (table : Option Table) (before now next : Outside) (r : Run) (i : Input)
@@ -113,25 +152,57 @@ serving_goes_on w most message table before now next r i s served = by r.step i 
         → next.heard ≡ now.heard → AreCounted table before next (asked_in (ran_on w r j).course) 0
     unasked j e a f h = subst (λ (qs : List Asked). AreCounted table before next qs 0) (sym e) (counted_same table before now next (asked_in r.course) s.counted a f h)
 
-    from : (name : Place) (o : Option Node) → IfSome o (λ n. Kept w.accepts n × IsHeld now.held name n) → GivenFrom held r.puts (node o)
+    own : (name : Place) (n : Node) → r.step ≡ put_node name n → n.name ≡ name
+    own = serving_named w most message table before now r s
+
+    from : (name : Place) (o : Option Node) → IfSome o (λ n. Kept w.accepts n × IsHeld now.held name n) → GivenFrom held s.stored (node o)
     from name None x = tt
-    from name (Some n) x = given_from w.accepts before.held now.held r.puts name n s.holds_more x.0 x.1
+    from name (Some n) x = given_from w.accepts before.held now.held s.stored name n s.holds_more x.0 x.1
+
+    -- what was put so far, where a step puts these nodes
+    done : (x : CourseStep) → r.step ≡ x → s.stored ++ put_by x ≡ r.puts
+    done x e = sym (s.puts_are ∙ ap (λ (z : CourseStep). s.stored ++ put_by z) e)
+
+    none_more : (x : CourseStep) → r.step ≡ x → put_by x ≡ [] → s.stored ≡ r.puts
+    none_more x e none = sym (append-nil s.stored) ∙ (ap (λ (ns : List Node). s.stored ++ ns) (sym none) ∙ done x e)
+
+    -- a step that puts nothing leaves it
+    kept : (x : CourseStep) → r.step ≡ x → put_by x ≡ [] → Becomes now.lasting next.lasting (λ h. h)
+        → Becomes before.lasting next.lasting (λ h. with_nodes h r.puts)
+    kept x e none k =
+        subst (λ (ns : List Node). Becomes before.lasting next.lasting (λ h. with_nodes h ns)) (none_more x e none)
+        (becomes_kept before.lasting now.lasting next.lasting s.stored s.lasts k)
 
     by : (x : CourseStep) (j : Input) → r.step ≡ x → IsServed w.accepts table now next x j → IsServing w most message table before next (ran_on w r j)
     by (get_node name) (node o) e y =
-        on_by w most message table before now next r (node o) s (subst (λ (z : CourseStep). Awaits z r.course.waits) e h.awaits o) (from name o y.4)
-        (unasked (node o) (run_got w most message held r name o h e) y.1 y.2 y.3) (more_kept before.held now.held next.held r.puts s.holds_more y.0)
+        on_by w most message table before now next r (node o) s (subst (λ (z : CourseStep). Awaits z r.course.waits) e h.awaits o)
+        (subst (λ (ns : List Node). GivenFrom held ns (node o)) (none_more (get_node name) e refl) (from name o y.4))
+        (unasked (node o) (run_got w most message held r name o h e) y.2.0 y.2.1 y.2.2)
+        (subst (HoldsMore before.held next.held) (none_more (get_node name) e refl) (more_kept before.held now.held next.held s.stored s.holds_more y.0))
+        (along before.lasting now.lasting next.lasting (λ h. h) y.1)
+        (subst (λ (z : CourseStep). IsOfCaches (all_along before.lasting next.lasting) r.puts z (node o)) (sym e)
+        (subst (λ (ns : List Node). IsOfCaches (all_along before.lasting next.lasting) ns (get_node name) (node o)) (none_more (get_node name) e refl)
+        (found_after before.lasting now.lasting next.lasting s.stored name o s.lasts y.1 y.3)))
+        (kept (get_node name) e refl y.1)
     by (put_node name n) stored e y =
         on_by w most message table before now next r stored s (subst (λ (z : CourseStep). Awaits z r.course.waits) e h.awaits) tt
-        (unasked stored (run_put w most message held r name n h e) y.1 y.2 y.3)
-        (more_added before.held now.held next.held r.puts name n s.holds_more y.0
-        (serving_listed w most message table before now r s n (subst (λ (z : CourseStep). Contains (put_by z) n) (sym e) (first_in n [])))
-        (named_by w most message name n r.course.waits (subst (λ (z : CourseStep). CourseStepSound w most message z r.course.waits) e h.sound.1)))
+        (unasked stored (run_put w most message held r name n h e) y.2.0 y.2.1 y.2.2)
+        (subst (HoldsMore before.held next.held) (done (put_node name n) e)
+        (more_added before.held now.held next.held (s.stored ++ n ∷ []) name n (more_puts before.held now.held s.stored (n ∷ []) s.holds_more) y.0
+        (in_back n s.stored (n ∷ []) (first_in n [])) (own name n e)))
+        (along before.lasting now.lasting next.lasting (λ h. with_node h name n) y.1)
+        (subst (λ (z : CourseStep). IsOfCaches (all_along before.lasting next.lasting) r.puts z stored) (sym e) tt)
+        (subst (λ (ns : List Node). Becomes before.lasting next.lasting (λ h. with_nodes h ns)) (done (put_node name n) e)
+        (becomes_put before.lasting now.lasting next.lasting s.stored name n s.lasts y.1 (own name n e)))
     by (ask_for name rtype) (reply octets) e y =
         on_by w most message table before now next r (reply octets) s (subst (λ (z : CourseStep). Awaits z r.course.waits) e h.awaits octets).0 tt
         (subst (λ (qs : List Asked). AreCounted table before next qs 0) (sym (run_asked w most message held r name rtype octets h e))
-        (counted_more table before now next (asked_in r.course) name rtype octets s.counted y.1 y.2 y.3 y.4))
-        (subst (λ (z : Option Held). HoldsMore before.held z r.puts) (sym y.0) s.holds_more)
+        (counted_more table before now next (asked_in r.course) name rtype octets s.counted y.2 y.3 y.4 y.5))
+        (subst (λ (z : Option Held). HoldsMore before.held z r.puts) (sym y.0)
+        (subst (HoldsMore before.held now.held) (none_more (ask_for name rtype) e refl) s.holds_more))
+        (inr (ap (all_along before.lasting) y.1))
+        (subst (λ (z : CourseStep). IsOfCaches (all_along before.lasting next.lasting) r.puts z (reply octets)) (sym e) tt)
+        (kept (ask_for name rtype) e refl (subst (λ (z : Option Held). Becomes now.lasting z (λ h. h)) (sym y.1) (becomes_same now.lasting)))
     by (get_node name) begin e y = absurd y
     by (get_node name) stored e y = absurd y
     by (get_node name) (reply octets) e y = absurd y

@@ -115,13 +115,13 @@ first_within w most message table before old new from to result e f more =
 
 -- a question that found no memory
 pub unanswered_within : (w : World) (most : ℕ) (message : List ℕ) (table : Option Table) (before now next : Outside) (old : Course) (step : CourseStep) (from to : ℕ)
-    → IsAt w most message table before now old step → asks step ≡ 1 → next.held ≡ now.held → next.asked ≡ risen now.asked → next.faults ≡ now.faults
+    → IsAt w most message table before now old step → asks step ≡ 1 → next.held ≡ now.held → next.lasting ≡ now.lasting → next.asked ≡ risen now.asked → next.faults ≡ now.faults
     → next.heard ≡ now.heard → AreFew w old from to → IsJudgingWithin w most message table before next (judgement_at w old (Err NoMemory)) from to
-unanswered_within w most message table before now next old step from to (r, at, its, s) one same a f heard few =
+unanswered_within w most message table before now next old step from to (r, at, its, s) one same lasts a f heard few =
     let waits = asked_waits step old.waits one (at_awaits w most message table before now old step (r, at, its, s)) in
     within w most message table before next (judgement_at w old (Err NoMemory)) (asked_in r.course) (length r.course.judged) from to
-    (ends_at_a_question w most message table before now next r old s same a f heard waits)
-    (at_a_question_asks w most message table before now next r old s same a f heard waits)
+    (ends_at_a_question w most message table before now next r old s same lasts a f heard waits)
+    (at_a_question_asks w most message table before now next r old s same lasts a f heard waits)
     (judged_few w most message table before now r s) (subst (λ (c : Course). AreFew w c from to) (sym at) few)
 
 -- a message that has come to its end has a verdict

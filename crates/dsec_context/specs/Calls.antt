@@ -1,5 +1,5 @@
 -- What a call promises that judges a message over caches and an upstream (RFC 4033 5, RFC 4035 4.3, 4.5, 5).
-use Rattle.std.specs.Prelude.{◌≡◌, ◌⊎◌, ◌≤◌, ◌*◌, ℕ, List, [], ◌∷◌, length, Option, Some, None, Result, Ok, Err}
+use Rattle.std.specs.Prelude.{◌≡◌, ◌⊎◌, ◌≤◌, ◌*◌, ℕ, List, [], ◌∷◌, ◌++◌, length, Option, Some, None, Result, Ok, Err}
 use Rattle.dsec_spec.specs.Outside.{Table}
 use Rattle.dsec_spec.specs.Records.{Record}
 use Rattle.dsec_spec.specs.Messages.{Question, questions_of}
@@ -17,19 +17,24 @@ use Rattle.dsec_found.specs.declared.error.Error.TheVariants.{FormError, ParseEr
 use Rattle.dsec_found.specs.Errors.{answer_of}
 use Rattle.dsec_course.specs.Course.{Course, groups_in, asked_in}
 use Rattle.dsec_course.specs.Advancing.{begun}
-use Rattle.dsec_course.specs.Hearing.{first_run, AreHeard, after_heard}
+use Rattle.dsec_course.specs.Hearing.{put_by, first_run, AreHeard, after_heard}
 pub use Rattle.dsec_context.specs.Verdicts.{Verdict}
 use Rattle.dsec_context.specs.Outside.{Outside, AreCounted, WasHeld, HoldsMore, HoldsAlike, HoldsTable}
+use Rattle.dsec_context.specs.Finding.{all_along}
+use Rattle.dsec_context.specs.Serving.{AreOfCaches}
+use Rattle.dsec_node.specs.Caches.{Held, Becomes, with_nodes}
 
--- The questions, with their replies, and the nodes that were put are those of the message judged a step at a time: it heard inputs, whose nodes
--- were held when the call began or were put on the way (RFC 4035 4.3, 4.5)
-pub record WereHeard (w : World) (most : ℕ) (message : List ℕ) (held : Node → Type 0) (asked : List Asked) (puts : List Node) : Type 0 where
+-- The questions, with their replies, and the nodes that were put are those of the message judged a step at a time up to a step that isn't taken any more:
+-- it heard inputs, whose nodes were held when the call began or were put on the way, and are what caches that forget none, and find memory, held then
+-- (RFC 4035 4.3, 4.5)
+pub record WereHeard (w : World) (most : ℕ) (message : List ℕ) (held : Node → Type 0) (lasting : Option Held) (asked : List Asked) (puts : List Node) : Type 0 where
   pub course : Course
   pub begins : begun w.anchors most message ≡ Ok course
   pub inputs : List Input
   pub heard : AreHeard w held (first_run w course) inputs
+  pub found : AreOfCaches w lasting (first_run w course) inputs
   pub are : asked ≡ asked_in (after_heard w (first_run w course) inputs).course
-  pub puts_are : puts ≡ (after_heard w (first_run w course) inputs).puts
+  pub puts_are : puts ++ put_by (after_heard w (first_run w course) inputs).step ≡ (after_heard w (first_run w course) inputs).puts
 
 -- at most one question finds no memory, and then neither does the call
 abbrev pub IsLost : Result Verdict Error → ℕ → Type 0
@@ -60,17 +65,19 @@ pub record AgreesWith (w : World) (most : ℕ) (message : List ℕ) (after : Out
   pub holds : HoldsTable w replies after.held
 
 -- What a call promises: there is a list of its questions with their replies, and one of the nodes that it put. The questions are counted, no other
--- node is held afterwards that wasn't before, both lists are those of the message judged a step at a time, the answer is so by them, and where all
--- that was held and heard is of one table the answer is that of the table; where it is wholly of it, so is all that is held afterwards
+-- node is held afterwards that wasn't before, and by caches that forget none, and find memory, all that were put are held; both lists
+-- are those of the message judged a step at a time, the answer is so by them, and where all that was held and heard is of one table the answer is
+-- that of the table; where it is wholly of it, so is all that is held afterwards
 -- (RFC 4033 5, RFC 4035 4.3, 4.5)
 pub record IsCall (w : World) (most : ℕ) (message : List ℕ) (table : Option Table) (before after : Outside) (answer : Result Verdict Error) : Type 0 where
   pub asked : List Asked
   pub lost : ℕ
   pub counted : AreCounted table before after asked lost
-  pub few : IsLost answer lost
   pub puts : List Node
   pub holds_more : HoldsMore before.held after.held puts
-  pub in_turn : ((asked ≡ []) × (puts ≡ [])) ⊎ WereHeard w most message (WasHeld w.accepts before.held) asked puts
+  pub stores : Becomes before.lasting after.lasting (λ held. with_nodes held puts)
+  pub few : IsLost answer lost
+  pub in_turn : ((asked ≡ []) × (puts ≡ [])) ⊎ WereHeard w most message (WasHeld w.accepts before.held) (all_along before.lasting after.lasting) asked puts
   pub so : IsAnswer w most message asked answer
   pub agrees : (replies : Replies) → HoldsTable w replies before.held → AskedOf replies asked → AgreesWith w most message after answer replies
   pub stays : (like : Likeness) (replies : Replies) → HoldsAlike like w replies before.held → AskedOf replies asked → HoldsAlike like w replies after.held

@@ -1,5 +1,6 @@
 pub mod Verdicts
 pub use Rattle.dsec_lookup.specs.Outside
+pub use Rattle.dsec_lookup.specs.Finding
 pub use Rattle.dsec_core.specs.Outcomes
 pub mod Serving
 pub mod Calls

@@ -1,15 +1,23 @@
 -- A message judged a step at a time over caches and an upstream, as far as it has come (RFC 4035 4.3, 4.5).
-use Rattle.std.specs.Prelude.{◌≡◌, ℕ, List, Option, Ok}
+use Rattle.std.specs.Prelude.{◌≡◌, ℕ, List, [], ◌∷◌, ◌++◌, Option, Ok}
 use Rattle.dsec_spec.specs.Outside.{Table}
 use Rattle.dsec_nodes.specs.World.{World}
+use Rattle.dsec_nodes.specs.Nodes.{Node}
 use Rattle.dsec_nodes.specs.Machine.{Input}
+use Rattle.dsec_node.specs.Caches.{Held, Becomes, with_nodes}
 use Rattle.dsec_course.specs.Course.{Course, asked_in}
 use Rattle.dsec_course.specs.Advancing.{begun}
-use Rattle.dsec_course.specs.Hearing.{Run, first_run, AreHeard, after_heard}
+use Rattle.dsec_course.specs.Hearing.{Run, put_by, first_run, ran_on, AreHeard, after_heard}
 use Rattle.dsec_context.specs.Outside.{Outside, AreCounted, WasHeld, HoldsMore}
+use Rattle.dsec_context.specs.Finding.{all_along, IsOfCaches}
 
--- A message has come so far: it began and heard inputs, whose nodes were held when the call began or were put on the way; its questions are
--- counted, and what is held now was held then or was put
+-- each node that is given where one is asked for is what caches that forget none hold then for its name: what they held, and what was put since
+abbrev pub AreOfCaches : World → Option Held → Run → List Input → Type 0
+AreOfCaches w lasting r [] = Unit {0}
+AreOfCaches w lasting r (i ∷ inputs) = IsOfCaches lasting r.puts r.step i × AreOfCaches w lasting (ran_on w r i) inputs
+
+-- A message has come so far: it began and heard inputs, whose nodes were held when the call began or were put on the way, and are what caches that
+-- forget none, and find memory, hold; its questions are counted, and what is held now was held then or was put, but for the node of the pending step, and by these it is that with what was put
 pub record IsServing (w : World) (most : ℕ) (message : List ℕ) (table : Option Table) (before now : Outside) (r : Run) : Type 0 where
   pub course : Course
   pub begins : begun w.anchors most message ≡ Ok course
@@ -17,4 +25,8 @@ pub record IsServing (w : World) (most : ℕ) (message : List ℕ) (table : Opti
   pub heard : AreHeard w (WasHeld w.accepts before.held) (first_run w course) inputs
   pub comes_to : after_heard w (first_run w course) inputs ≡ r
   pub counted : AreCounted table before now (asked_in r.course) 0
-  pub holds_more : HoldsMore before.held now.held r.puts
+  pub stored : List Node
+  pub puts_are : r.puts ≡ stored ++ put_by r.step
+  pub holds_more : HoldsMore before.held now.held stored
+  pub found : AreOfCaches w (all_along before.lasting now.lasting) (first_run w course) inputs
+  pub lasts : Becomes before.lasting now.lasting (λ held. with_nodes held stored)

@@ -24,9 +24,9 @@ pub fn answer_to<V: Verifier, C: Caches<V>, U: Upstream>(
 ) -> Result<Input<V>, NoMemory>
     requires { ends (step_view step) ≡ false }
     ensures served { IfOk result (λ input. IsServed V.accepts (U.table upstream.old)
-        (record { held = C.held caches.old; asked = U.asked upstream.old; faults = U.faults upstream.old; heard = U.heard upstream.old })
-        (record { held = C.held caches.new; asked = U.asked upstream.new; faults = U.faults upstream.new; heard = U.heard upstream.new }) (step_view step) (input_view input)) }
-    ensures lost { OnErr result ((C.held caches.new ≡ C.held caches.old) × (U.asked upstream.new ≡ risen (U.asked upstream.old)) × (U.faults upstream.new ≡ U.faults upstream.old) × (U.heard upstream.new ≡ U.heard upstream.old)) }
+        (record { held = C.held caches.old; lasting = C.lasting caches.old; asked = U.asked upstream.old; faults = U.faults upstream.old; heard = U.heard upstream.old })
+        (record { held = C.held caches.new; lasting = C.lasting caches.new; asked = U.asked upstream.new; faults = U.faults upstream.new; heard = U.heard upstream.new }) (step_view step) (input_view input)) }
+    ensures lost { OnErr result ((C.held caches.new ≡ C.held caches.old) × (C.lasting caches.new ≡ C.lasting caches.old) × (U.asked upstream.new ≡ risen (U.asked upstream.old)) × (U.faults upstream.new ≡ U.faults upstream.old) × (U.heard upstream.new ≡ U.heard upstream.old)) }
     ensures asked { OnErr result (asks (step_view step) ≡ 1) }
     ensures same_table { U.table upstream.new ≡ U.table upstream.old }
 {

@@ -44,8 +44,8 @@ pub fn judge_in<V: Verifier, C: Caches<V>, M: Memo<V>, U: Upstream>(
     now: u64,
 ) -> Judgement<V>
     ensures judged { JudgesMessage (world_of V.accepts anchors.now (bounds_of config.now) now) config.now.max_cname_dname message.now (U.table upstream.old)
-        (record { held = C.held caches.old; asked = U.asked upstream.old; faults = U.faults upstream.old; heard = U.heard upstream.old })
-        (record { held = C.held caches.new; asked = U.asked upstream.new; faults = U.faults upstream.new; heard = U.heard upstream.new }) result }
+        (record { held = C.held caches.old; lasting = C.lasting caches.old; asked = U.asked upstream.old; faults = U.faults upstream.old; heard = U.heard upstream.old })
+        (record { held = C.held caches.new; lasting = C.lasting caches.new; asked = U.asked upstream.new; faults = U.faults upstream.new; heard = U.heard upstream.new }) result }
     ensures same_table { U.table upstream.new ≡ U.table upstream.old }
 {
     counted::<V, C, M, U, Brand>(
@@ -77,8 +77,8 @@ fn counted<V: Verifier, C: Caches<V>, M: Memo<V>, U: Upstream, L: Ledger>(
     requires parts { blank.parts ≡ L.parts }
     requires shared { 0 < L.parts }
     ensures judging { IsJudging (world_of V.accepts anchors.now (bounds_of config.now) now) config.now.max_cname_dname message.now (U.table upstream.old)
-        (record { held = C.held caches.old; asked = U.asked upstream.old; faults = U.faults upstream.old; heard = U.heard upstream.old })
-        (record { held = C.held caches.new; asked = U.asked upstream.new; faults = U.faults upstream.new; heard = U.heard upstream.new }) result }
+        (record { held = C.held caches.old; lasting = C.lasting caches.old; asked = U.asked upstream.old; faults = U.faults upstream.old; heard = U.heard upstream.old })
+        (record { held = C.held caches.new; lasting = C.lasting caches.new; asked = U.asked upstream.new; faults = U.faults upstream.new; heard = U.heard upstream.new }) result }
     ensures same_table { U.table upstream.new ≡ U.table upstream.old }
 {
     let mut steps = Steps::<L>::begin(blank);
@@ -103,11 +103,11 @@ pub fn judge_counted_in<V: Verifier, C: Caches<V>, M: Memo<V>, U: Upstream, L: L
     steps: &mut Steps<L>,
 ) -> Judgement<V>
     ensures judged { JudgesMessage (world_of V.accepts anchors.now (bounds_of config.now) now) config.now.max_cname_dname message.now (U.table upstream.old)
-        (record { held = C.held caches.old; asked = U.asked upstream.old; faults = U.faults upstream.old; heard = U.heard upstream.old })
-        (record { held = C.held caches.new; asked = U.asked upstream.new; faults = U.faults upstream.new; heard = U.heard upstream.new }) result }
+        (record { held = C.held caches.old; lasting = C.lasting caches.old; asked = U.asked upstream.old; faults = U.faults upstream.old; heard = U.heard upstream.old })
+        (record { held = C.held caches.new; lasting = C.lasting caches.new; asked = U.asked upstream.new; faults = U.faults upstream.new; heard = U.heard upstream.new }) result }
     ensures checks { IsJudgingWithin (world_of V.accepts anchors.now (bounds_of config.now) now) config.now.max_cname_dname message.now (U.table upstream.old)
-        (record { held = C.held caches.old; asked = U.asked upstream.old; faults = U.faults upstream.old; heard = U.heard upstream.old })
-        (record { held = C.held caches.new; asked = U.asked upstream.new; faults = U.faults upstream.new; heard = U.heard upstream.new }) result steps.old steps.new }
+        (record { held = C.held caches.old; lasting = C.lasting caches.old; asked = U.asked upstream.old; faults = U.faults upstream.old; heard = U.heard upstream.old })
+        (record { held = C.held caches.new; lasting = C.lasting caches.new; asked = U.asked upstream.new; faults = U.faults upstream.new; heard = U.heard upstream.new }) result steps.old steps.new }
     ensures heard { HeardWithin (U.heard upstream.old) (U.heard upstream.new) (count_of (begun anchors.now config.now.max_cname_dname message.now)) (config.now.max_bad_signatures + 1) steps.old steps.new }
     ensures same_table { U.table upstream.new ≡ U.table upstream.old }
 {
@@ -129,8 +129,8 @@ fn judge<V: Verifier, C: Caches<V>, M: Memo<V>, U: Upstream, L: Ledger>(
     steps: &mut Steps<L>,
 ) -> Judgement<V>
     ensures checks { IsJudgingWithin (world_of V.accepts anchors.now (bounds_of config.now) now) config.now.max_cname_dname message.now (U.table upstream.old)
-        (record { held = C.held caches.old; asked = U.asked upstream.old; faults = U.faults upstream.old; heard = U.heard upstream.old })
-        (record { held = C.held caches.new; asked = U.asked upstream.new; faults = U.faults upstream.new; heard = U.heard upstream.new }) result steps.old steps.new }
+        (record { held = C.held caches.old; lasting = C.lasting caches.old; asked = U.asked upstream.old; faults = U.faults upstream.old; heard = U.heard upstream.old })
+        (record { held = C.held caches.new; lasting = C.lasting caches.new; asked = U.asked upstream.new; faults = U.faults upstream.new; heard = U.heard upstream.new }) result steps.old steps.new }
     ensures same_table { U.table upstream.new ≡ U.table upstream.old }
 {
     let Ok(own) = anchors_copy(alloc, anchors) else {
@@ -174,8 +174,8 @@ fn begin<V: Verifier, C: Caches<V>, M: Memo<V>, U: Upstream, L: Ledger>(
     requires begun { (message : List ℕ) × (begun validation.old.anchors (most_of validation.old) message ≡ Ok validation.old.course) × (most_questions validation.old.anchors (most_of validation.old) message ≤ 33422850) }
     ensures checks { (message : List ℕ) → begun validation.old.anchors (most_of validation.old) message ≡ Ok validation.old.course
         → IsJudgingWithin (world_by V.accepts validation.old) (most_of validation.old) message (U.table upstream.old)
-        (record { held = C.held caches.old; asked = U.asked upstream.old; faults = U.faults upstream.old; heard = U.heard upstream.old })
-        (record { held = C.held caches.new; asked = U.asked upstream.new; faults = U.faults upstream.new; heard = U.heard upstream.new }) (judgement_at (world_by V.accepts validation.old) validation.new.course result)
+        (record { held = C.held caches.old; lasting = C.lasting caches.old; asked = U.asked upstream.old; faults = U.faults upstream.old; heard = U.heard upstream.old })
+        (record { held = C.held caches.new; lasting = C.lasting caches.new; asked = U.asked upstream.new; faults = U.faults upstream.new; heard = U.heard upstream.new }) (judgement_at (world_by V.accepts validation.old) validation.new.course result)
         steps.old steps.new }
     ensures same { validation.new ≡ with_course validation.old validation.new.course }
     ensures same_table { U.table upstream.new ≡ U.table upstream.old }
@@ -198,12 +198,12 @@ fn finish<V: Verifier, C: Caches<V>, M: Memo<V>, U: Upstream, L: Ledger>(
 ) -> Result<Verdict<V>, Error>
     requires unasked { length (asked_in validation.old.course) ≡ 0 }
     requires at { (most : ℕ) × (message : List ℕ) × (before : Outside)
-        × IsAt (world_by V.accepts validation.old) most message (U.table upstream.old) before (record { held = C.held caches.old; asked = U.asked upstream.old; faults = U.faults upstream.old; heard = U.heard upstream.old }) validation.old.course (step_view step) × (most_questions validation.old.anchors most message ≤ 33422850) }
+        × IsAt (world_by V.accepts validation.old) most message (U.table upstream.old) before (record { held = C.held caches.old; lasting = C.lasting caches.old; asked = U.asked upstream.old; faults = U.faults upstream.old; heard = U.heard upstream.old }) validation.old.course (step_view step) × (most_questions validation.old.anchors most message ≤ 33422850) }
     ensures checks { (most : ℕ) (message : List ℕ) (before : Outside) (from : ℕ)
-        → IsAt (world_by V.accepts validation.old) most message (U.table upstream.old) before (record { held = C.held caches.old; asked = U.asked upstream.old; faults = U.faults upstream.old; heard = U.heard upstream.old }) validation.old.course (step_view step)
+        → IsAt (world_by V.accepts validation.old) most message (U.table upstream.old) before (record { held = C.held caches.old; lasting = C.lasting caches.old; asked = U.asked upstream.old; faults = U.faults upstream.old; heard = U.heard upstream.old }) validation.old.course (step_view step)
         → AreFew (world_by V.accepts validation.old) validation.old.course from steps.old
         → IsJudgingWithin (world_by V.accepts validation.old) most message (U.table upstream.old) before
-        (record { held = C.held caches.new; asked = U.asked upstream.new; faults = U.faults upstream.new; heard = U.heard upstream.new }) (judgement_at (world_by V.accepts validation.old) validation.new.course result)
+        (record { held = C.held caches.new; lasting = C.lasting caches.new; asked = U.asked upstream.new; faults = U.faults upstream.new; heard = U.heard upstream.new }) (judgement_at (world_by V.accepts validation.old) validation.new.course result)
         from steps.new }
     ensures same { validation.new ≡ with_course validation.old validation.new.course }
     ensures same_table { U.table upstream.new ≡ U.table upstream.old }

@@ -32,18 +32,18 @@ pub(crate) fn turn<V: Verifier, C: Caches<V>, M: Memo<V>, U: Upstream, L: Ledger
     requires goes_on { ends (step_view step) ≡ false }
     requires awaits { Awaits (step_view step) validation.old.course.waits }
     ensures comes { (most : ℕ) (message : List ℕ) (before : Outside)
-        → IsAt (world_by V.accepts validation.old) most message (U.table upstream.old) before (record { held = C.held caches.old; asked = U.asked upstream.old; faults = U.faults upstream.old; heard = U.heard upstream.old }) validation.old.course (step_view step)
-        → IfOk result (λ next. IsAt (world_by V.accepts validation.old) most message (U.table upstream.old) before (record { held = C.held caches.new; asked = U.asked upstream.new; faults = U.faults upstream.new; heard = U.heard upstream.new }) validation.new.course (step_view next)) }
+        → IsAt (world_by V.accepts validation.old) most message (U.table upstream.old) before (record { held = C.held caches.old; lasting = C.lasting caches.old; asked = U.asked upstream.old; faults = U.faults upstream.old; heard = U.heard upstream.old }) validation.old.course (step_view step)
+        → IfOk result (λ next. IsAt (world_by V.accepts validation.old) most message (U.table upstream.old) before (record { held = C.held caches.new; lasting = C.lasting caches.new; asked = U.asked upstream.new; faults = U.faults upstream.new; heard = U.heard upstream.new }) validation.new.course (step_view next)) }
     ensures nearer { (most : ℕ) (message : List ℕ) (before : Outside)
-        → IsAt (world_by V.accepts validation.old) most message (U.table upstream.old) before (record { held = C.held caches.old; asked = U.asked upstream.old; faults = U.faults upstream.old; heard = U.heard upstream.old }) validation.old.course (step_view step)
+        → IsAt (world_by V.accepts validation.old) most message (U.table upstream.old) before (record { held = C.held caches.old; lasting = C.lasting caches.old; asked = U.asked upstream.old; faults = U.faults upstream.old; heard = U.heard upstream.old }) validation.old.course (step_view step)
         → IfOk result (λ _. steps_left (world_by V.accepts validation.old) validation.new.course < steps_left (world_by V.accepts validation.old) validation.old.course) }
     ensures asked { (most : ℕ) (message : List ℕ) (before : Outside)
-        → IsAt (world_by V.accepts validation.old) most message (U.table upstream.old) before (record { held = C.held caches.old; asked = U.asked upstream.old; faults = U.faults upstream.old; heard = U.heard upstream.old }) validation.old.course (step_view step)
+        → IsAt (world_by V.accepts validation.old) most message (U.table upstream.old) before (record { held = C.held caches.old; lasting = C.lasting caches.old; asked = U.asked upstream.old; faults = U.faults upstream.old; heard = U.heard upstream.old }) validation.old.course (step_view step)
         → IfOk result (λ _. length (asked_in validation.new.course) ≡ length (asked_in validation.old.course) + asks (step_view step)) }
     ensures checks { (most : ℕ) (message : List ℕ) (before : Outside) (from : ℕ)
-        → IsAt (world_by V.accepts validation.old) most message (U.table upstream.old) before (record { held = C.held caches.old; asked = U.asked upstream.old; faults = U.faults upstream.old; heard = U.heard upstream.old }) validation.old.course (step_view step)
+        → IsAt (world_by V.accepts validation.old) most message (U.table upstream.old) before (record { held = C.held caches.old; lasting = C.lasting caches.old; asked = U.asked upstream.old; faults = U.faults upstream.old; heard = U.heard upstream.old }) validation.old.course (step_view step)
         → AreFew (world_by V.accepts validation.old) validation.old.course from steps.old
-        → CountsTo (world_by V.accepts validation.old) most message (U.table upstream.old) before (record { held = C.held caches.new; asked = U.asked upstream.new; faults = U.faults upstream.new; heard = U.heard upstream.new }) validation.new.course from steps.new result }
+        → CountsTo (world_by V.accepts validation.old) most message (U.table upstream.old) before (record { held = C.held caches.new; lasting = C.lasting caches.new; asked = U.asked upstream.new; faults = U.faults upstream.new; heard = U.heard upstream.new }) validation.new.course from steps.new result }
     ensures same { validation.new ≡ with_course validation.old validation.new.course }
     ensures same_table { U.table upstream.new ≡ U.table upstream.old }
 {

@@ -33,8 +33,8 @@ pub fn validate_in<V: Verifier, C: Caches<V>, M: Memo<V>, U: Upstream>(
     now: u64,
 ) -> Result<Verdict<V>, Error>
     ensures handed_on { HandsOnMessage (world_of V.accepts anchors.now (bounds_of config.now) now) config.now.max_cname_dname message.old (U.table upstream.old)
-        (record { held = C.held caches.old; asked = U.asked upstream.old; faults = U.faults upstream.old; heard = U.heard upstream.old })
-        (record { held = C.held caches.new; asked = U.asked upstream.new; faults = U.faults upstream.new; heard = U.heard upstream.new }) result message.new }
+        (record { held = C.held caches.old; lasting = C.lasting caches.old; asked = U.asked upstream.old; faults = U.faults upstream.old; heard = U.heard upstream.old })
+        (record { held = C.held caches.new; lasting = C.lasting caches.new; asked = U.asked upstream.new; faults = U.faults upstream.new; heard = U.heard upstream.new }) result message.new }
     ensures sound { IfOk result (λ v. IsJustified (world_of V.accepts anchors.now (bounds_of config.now) now) config.now.max_cname_dname message.old v.outcome v.outcome.state) }
     ensures same_table { U.table upstream.new ≡ U.table upstream.old }
 {

@@ -2,3 +2,4 @@ pub mod CountLaws
 pub mod HoldingLaws
 pub mod HeardLaws
 pub mod MomentLaws
+pub mod FindingLaws

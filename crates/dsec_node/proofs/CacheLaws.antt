@@ -1,6 +1,5 @@
 -- What a map of nodes by name holds for a place.
-use Rattle.std.proofs.Common.{◌≡◌, Bool, true, false, cond, List, [], ◌∷◌, map, Option, Some, None, refl, sym, ap, ◌∙◌, subst, inl, inr, ◌⊎◌}
-use Rattle.std.specs.Prelude.{Result, Ok, Err, IfOk, IfSome, OnOk, OnErr}
+use Rattle.std.proofs.Common.{◌≡◌, Bool, true, false, cond, List, [], ◌∷◌, map, Option, Some, refl, sym, ap, ◌∙◌, subst, inl, inr, ◌⊎◌}
 use Rattle.std.specs.declared.cmp.Ordering.{Ordering}
 use Rattle.std.specs.declared.cmp.Ordering.TheVariants.{Less, Equal, Greater}
 use Rattle.std.specs.Option.{option_map}
@@ -12,7 +11,7 @@ use Rattle.std.proofs.lemmas.Option.{same_Some}
 use Rattle.dsec_spec.specs.Names.{Labels, Place, place, same_place, name_cmp}
 use Rattle.dsec_name.specs.NameLaws.{name_ties, same_place_decides, place_tied}
 use Rattle.dsec_nodes.specs.Nodes.{Node}
-use Rattle.dsec_node.specs.Caches.{held_in, with_node, Held, Keeps, Adds, IsHeld}
+use Rattle.dsec_node.specs.Caches.{held_in, with_node, Adds}
 
 module _ {A : Type 0} (value : A → Node) where
   -- names and nodes, seen by the nodes' values
@@ -60,22 +59,11 @@ module _ {A : Type 0} (value : A → Node) where
           let same : place k ≡ place e.0 = sym ((same_place_decides p (place k)).0 c) ∙ (same_place_decides p (place e.0)).0 b in
           true≢false (sym ((place_tied (place k) (place e.0)).1 same) ∙ ap is_eq h))
 
--- where nothing changed, nothing was added
-pub keeps_same : (old new : List (Labels × Node)) → new ≡ old → Keeps (Some (held_in old)) (Some (held_in new))
-keeps_same old new same = λ p n e. sym (ap (λ (entries : List (Labels × Node)). held_in entries p) same) ∙ e
-
--- where a node was put, or nothing changed, nothing else was added
-pub adds_put : {U E : Type 0} (r : Result U E) (old new : List (Labels × Node)) (at : Place) (put_node : Node) → OnOk r ((p : Place) → held_in new p ≡ with_node (held_in old) at put_node p) → OnErr r (new ≡ old)
+-- where a node was put, nothing else was added
+pub adds_put : (old new : List (Labels × Node)) (at : Place) (put_node : Node) → ((p : Place) → held_in new p ≡ with_node (held_in old) at put_node p)
     → Adds (Some (held_in old)) (Some (held_in new)) at put_node
-adds_put (Err e) old new at put_node ok err = λ p n e. inl (sym (ap (λ (entries : List (Labels × Node)). held_in entries p) err) ∙ e)
-adds_put (Ok u) old new at put_node ok err = λ p n e. by p n (same_place p at) refl (sym (ok p) ∙ e)
+adds_put old new at put_node ok = λ p n e. by p n (same_place p at) refl (sym (ok p) ∙ e)
   where
     by : (p : Place) (n : Node) (b : Bool) → same_place p at ≡ b → cond b (Some put_node) (held_in old p) ≡ Some n → (held_in old p ≡ Some n) ⊎ ((p ≡ at) × (n ≡ put_node))
     by p n true b e = inr ((same_place_decides p at).0 b, sym (same_Some put_node n e))
     by p n false b e = inl e
-
--- what is found is held
-pub found_held : {X E : Type 0} (value : X → Node) (r : Result (Option X) E) (held : Held) (at : Place) → IfOk r (λ found. option_map value found ≡ held at) → IfOk r (λ found. IfSome found (λ x. IsHeld (Some held) at (value x)))
-found_held value (Ok None) held at e = tt
-found_held value (Ok (Some x)) held at e = sym e
-found_held value (Err x) held at e = tt

@@ -1,10 +1,10 @@
 //! Caches of nodes (RFC 4035 4.5).
 
-ghost use Rattle.std.specs.Prelude.{◌≡◌, [], List, map, Option, Some, None, IfOk, IfSome, OnOk, OnErr};
+ghost use Rattle.std.specs.Prelude.{◌≡◌, [], List, map, Option, Some, None, true, false, IfOk, IfSome, OnOk, OnErr};
 ghost use Rattle.std.specs.Arc.{arc_value};
 ghost use Rattle.std.specs.Option.{option_map};
 ghost use Rattle.dsec_spec.specs.Names.{Place, place};
-ghost use Rattle.dsec_node.specs.Caches.{Adds, Held, IsHeld, Keeps, held_in, with_node};
+ghost use Rattle.dsec_node.specs.Caches.{Adds, Becomes, Held, IsFound, IsHeld, Keeps, held_in, lasting_in, with_node};
 
 use crate::node::Node;
 use dsec_crypto::Verifier;
@@ -15,51 +15,67 @@ use std::marker::Model;
 use std::sync::Arc;
 
 /// A cache of nodes. Each node that it gives is what its type says, whoever put it; whether it counts for the taker is the
-/// taker's to see. A node may be forgotten at any call.
+/// taker's to see. A node may be forgotten at any call; caches that forget none, and find memory, can say so.
 pub trait Caches<V: Verifier> {
     /// Which nodes are held, where that is told.
     ghost held: { Self → Option Held };
 
+    /// The same, as long as none is forgotten and each call finds memory.
+    ghost lasting: { Self → Option Held };
+
     /// The node that is held for a name, if one is.
     fn get(&mut self, name: &Name) -> Result<Option<Arc<Node<V>>>, NoMemory>
         ensures found { IfOk result (λ found. IfSome found (λ node. IsHeld (held self.old) (place name.now) (arc_value node))) }
-        ensures keeps { Keeps (held self.old) (held self.new) };
+        ensures keeps { Keeps (held self.old) (held self.new) }
+        ensures given { IfOk result (λ found. IsFound (lasting self.old) (place name.now) (option_map (λ node. arc_value node) found)) }
+        ensures lasts { OnOk result (Becomes (lasting self.old) (lasting self.new) (λ held. held)) }
+        ensures wanting { OnErr result (lasting self.new ≡ None) };
 
     /// Holds a node for a name, in the place of the one that is held for it, if one is.
     fn put(&mut self, name: Name, node: &Arc<Node<V>>) -> Result<(), NoMemory>
-        ensures adds { Adds (held self.old) (held self.new) (place name) (arc_value node.now) };
+        ensures adds { Adds (held self.old) (held self.new) (place name) (arc_value node.now) }
+        ensures stored { OnOk result (Becomes (lasting self.old) (lasting self.new) (λ held. with_node held (place name) (arc_value node.now))) }
+        ensures wanting { OnErr result (lasting self.new ≡ None) };
 }
 
 /// Nodes by name, in a map of one owner, which forgets none.
 #[derive(Drop)]
 pub struct OwnedCaches<V: Verifier> {
     nodes: BTreeMap<Name, Arc<Node<V>>>,
+    whole: bool,
 }
 
 impl<V: Verifier> Model for OwnedCaches<V> {
-    ghost use Rattle.std.specs.Prelude.{List, map};
+    ghost use Rattle.std.specs.Prelude.{map};
     ghost use Rattle.std.specs.Arc.{arc_value};
-    ghost use Rattle.dsec_spec.specs.Names.{Labels};
-    ghost use Rattle.dsec_nodes.specs.Nodes.{Node as NodeValue};
+    ghost use Rattle.dsec_node.specs.Caches.{Owned};
 
-    ghost Value = { List (Labels × NodeValue) };
+    ghost Value = { Owned };
 
-    ghost view = { λ it. map (λ e. (e.0, arc_value e.1)) it.nodes.entries };
+    ghost view = { λ it. record { nodes = map (λ e. (e.0, arc_value e.1)) it.nodes.entries; whole = it.whole } };
 }
 
 impl<V: Verifier> OwnedCaches<V> {
     /// Caches that hold nothing.
     pub fn new(alloc: Global) -> Self
-        ensures { result ≡ [] }
+        ensures { result ≡ record { nodes = []; whole = true } }
     {
         OwnedCaches {
             nodes: BTreeMap::new(alloc),
+            whole: true,
         }
+    }
+
+    /// Whether each `get` and `put` has found memory since the caches were made, or cleared: what was put is held then.
+    pub fn is_whole(&self) -> bool
+        ensures { result ≡ self.now.whole }
+    {
+        self.whole
     }
 
     /// The node that is held for a name, if one is.
     fn look_up(&self, name: &Name) -> Result<Option<Arc<Node<V>>>, NoMemory>
-        ensures { IfOk result (λ found. option_map (λ node. arc_value node) found ≡ held_in self.now (place name.now)) }
+        ensures { IfOk result (λ found. option_map (λ node. arc_value node) found ≡ held_in self.now.nodes (place name.now)) }
     {
         match self.nodes.get(name) {
             None => Ok(None),
@@ -69,39 +85,71 @@ impl<V: Verifier> OwnedCaches<V> {
 
     /// Holds a node for a name.
     fn store(&mut self, name: Name, node: Arc<Node<V>>) -> Result<(), NoMemory>
-        ensures ok { OnOk result ((p : Place) → held_in self.new p ≡ with_node (held_in self.old) (place name) (arc_value node) p) }
+        ensures ok { OnOk result ((p : Place) → held_in self.new.nodes p ≡ with_node (held_in self.old.nodes) (place name) (arc_value node) p) }
         ensures err { OnErr result (self.new ≡ self.old) }
+        ensures whole { self.new.whole ≡ self.old.whole }
     {
         self.nodes.insert(name, node)?;
         Ok(())
     }
 
+    /// Holds a copy of a node for a name.
+    fn hold(&mut self, name: Name, node: &Arc<Node<V>>) -> Result<(), NoMemory>
+        ensures ok { OnOk result ((p : Place) → held_in self.new.nodes p ≡ with_node (held_in self.old.nodes) (place name) (arc_value node.now) p) }
+        ensures err { OnErr result (self.new ≡ self.old) }
+        ensures whole { self.new.whole ≡ self.old.whole }
+    {
+        let copy = Arc::try_clone(node)?;
+        self.store(name, copy)
+    }
+
     /// Forgets all nodes.
     pub fn clear(&mut self)
-        ensures { self.new ≡ [] }
+        ensures { self.new ≡ record { nodes = []; whole = true } }
     {
         self.nodes.clear();
+        self.whole = true;
     }
 }
 
 impl<V: Verifier> Caches<V> for OwnedCaches<V> {
-    ghost held = { λ caches. Some (held_in caches) };
+    ghost held = { λ caches. Some (held_in caches.nodes) };
+
+    ghost lasting = { λ caches. lasting_in caches.whole caches.nodes };
 
     fn get(&mut self, name: &Name) -> Result<Option<Arc<Node<V>>>, NoMemory>
-        ensures exact { IfOk result (λ found. option_map (λ node. arc_value node) found ≡ held_in self.old (place name.now)) }
-        ensures unchanged { self.new ≡ self.old }
-        ensures found { IfOk result (λ found. IfSome found (λ node. IsHeld (Some (held_in self.old)) (place name.now) (arc_value node))) }
-        ensures keeps { Keeps (Some (held_in self.old)) (Some (held_in self.new)) }
+        ensures exact { IfOk result (λ found. option_map (λ node. arc_value node) found ≡ held_in self.old.nodes (place name.now)) }
+        ensures unchanged { OnOk result (self.new ≡ self.old) }
+        ensures err { OnErr result (self.new ≡ record { nodes = self.old.nodes; whole = false }) }
+        ensures found { IfOk result (λ found. IfSome found (λ node. IsHeld (Some (held_in self.old.nodes)) (place name.now) (arc_value node))) }
+        ensures keeps { Keeps (Some (held_in self.old.nodes)) (Some (held_in self.new.nodes)) }
+        ensures given { IfOk result (λ found. IsFound (lasting_in self.old.whole self.old.nodes) (place name.now) (option_map (λ node. arc_value node) found)) }
+        ensures lasts { OnOk result (Becomes (lasting_in self.old.whole self.old.nodes) (lasting_in self.new.whole self.new.nodes) (λ held. held)) }
+        ensures wanting { OnErr result (lasting_in self.new.whole self.new.nodes ≡ None) }
     {
-        self.look_up(name)
+        match self.look_up(name) {
+            Ok(found) => Ok(found),
+            Err(NoMemory) => {
+                self.whole = false;
+                Err(NoMemory)
+            }
+        }
     }
 
     fn put(&mut self, name: Name, node: &Arc<Node<V>>) -> Result<(), NoMemory>
-        ensures ok { OnOk result ((p : Place) → held_in self.new p ≡ with_node (held_in self.old) (place name) (arc_value node.now) p) }
-        ensures err { OnErr result (self.new ≡ self.old) }
-        ensures adds { Adds (Some (held_in self.old)) (Some (held_in self.new)) (place name) (arc_value node.now) }
+        ensures ok { OnOk result ((p : Place) → held_in self.new.nodes p ≡ with_node (held_in self.old.nodes) (place name) (arc_value node.now) p) }
+        ensures kept { OnOk result (self.new.whole ≡ self.old.whole) }
+        ensures err { OnErr result (self.new ≡ record { nodes = self.old.nodes; whole = false }) }
+        ensures adds { Adds (Some (held_in self.old.nodes)) (Some (held_in self.new.nodes)) (place name) (arc_value node.now) }
+        ensures stored { OnOk result (Becomes (lasting_in self.old.whole self.old.nodes) (lasting_in self.new.whole self.new.nodes) (λ held. with_node held (place name) (arc_value node.now))) }
+        ensures wanting { OnErr result (lasting_in self.new.whole self.new.nodes ≡ None) }
     {
-        let copy = Arc::try_clone(node)?;
-        self.store(name, copy)
+        match self.hold(name, node) {
+            Ok(()) => Ok(()),
+            Err(NoMemory) => {
+                self.whole = false;
+                Err(NoMemory)
+            }
+        }
     }
 }

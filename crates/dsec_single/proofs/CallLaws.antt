@@ -1,5 +1,5 @@
 -- What a call promises where a group is judged at once, or its walk ends.
-use Rattle.std.proofs.Common.{◌≡◌, ℕ, ◌+◌, ◌*◌, ◌≤◌, [], length, Option, Some, None, IfSome, refl, sym, ap, ◌∙◌, subst, arith}
+use Rattle.std.proofs.Common.{◌≡◌, ℕ, ◌+◌, ◌*◌, ◌≤◌, [], ◌++◌, length, Option, Some, None, IfSome, refl, sym, ap, ◌∙◌, subst, arith}
 use Rattle.std.specs.List.{sum_by}
 use Rattle.dsec_spec.specs.Names.{Place}
 use Rattle.dsec_spec.specs.Outside.{Table}
@@ -7,7 +7,7 @@ use Rattle.dsec_spec.specs.Groups.{Group}
 use Rattle.dsec_nodes.specs.World.{World, Replies, moment}
 use Rattle.dsec_nodes.specs.Nodes.{Node}
 use Rattle.dsec_nodes.specs.Walk.{node_of}
-use Rattle.dsec_nodes.specs.Machine.{started}
+use Rattle.dsec_nodes.specs.Machine.{Step, started}
 use Rattle.dsec_nodes.specs.Likeness.{but_for_times, Alike}
 use Rattle.dsec_nodes.specs.InStep.{AskedOf, GotOf, StepIs}
 use Rattle.dsec_nodes.specs.Judging.{Judged, by_node, target_of, judged_of}
@@ -18,9 +18,11 @@ use Rattle.dsec_course.proofs.GroupLaws.{NeedsWalk, WayIs, way_is, by_its_node}
 use Rattle.dsec_lookup.specs.Outside.{Outside, WasHeld, HoldsTable, replies_of}
 use Rattle.dsec_lookup.proofs.CountLaws.{counted_none}
 use Rattle.dsec_lookup.proofs.HoldingLaws.{more_none, held_of_table, holds_after}
+use Rattle.dsec_lookup.specs.Finding.{all_along}
+use Rattle.dsec_lookup.proofs.FindingLaws.{becomes_same}
 use Rattle.dsec_by_node.specs.Answers.{answer_by, Told}
 use Rattle.dsec_by_node.specs.WithNode.{IsShownBy}
-use Rattle.dsec_single.specs.Trips.{Trip, first_trip, IsTrip}
+use Rattle.dsec_single.specs.Trips.{Trip, put_in, first_trip, IsTrip}
 use Rattle.dsec_single.specs.Progress.{IsStuck, IsEnded}
 use Rattle.dsec_single.specs.Calls.{Tells, TellsAt, ShowsOn, WasJudged, IsWanting, zone_on, zone_for, most_by, AgreesOn, IsSingleCall}
 use Rattle.dsec_walk.specs.Checks.{sets_in}
@@ -30,7 +32,7 @@ use Rattle.dsec_single.proofs.EndLaws.{needs_walk}
 use Rattle.dsec_single.proofs.ShownLaws.{shown_alike}
 use Rattle.dsec_course.proofs.TraceLaws.{got_of}
 use Rattle.dsec_single.proofs.TripLaws.{HoldsTrip}
-use Rattle.dsec_single.proofs.ServeLaws.{trip_holds, trip_first}
+use Rattle.dsec_single.proofs.ServeLaws.{trip_holds, trip_listed, trip_first}
 
 module _ (w : World) (group : Group) (table : Option Table) (before after : Outside) where
   -- what is told where a walk ends is what the recursion tells by each table of which it is, and shown by the recursion's node
@@ -60,15 +62,17 @@ module _ (w : World) (group : Group) (table : Option Table) (before after : Outs
         asked = t.walk.asked;
         lost = lost;
         counted = s.counted;
-        wanting = wanting;
         few = subst (λ (x : Way). length t.walk.asked + lost ≤ most_by group x) (sym way) s.few;
-        puts = t.puts;
+        puts = s.stored;
         holds_more = s.holds_more;
-        judged = subst (WasJudged w group (WasHeld w.accepts before.held) t.walk.asked t.puts told) (sym way) (record {
+        stores = s.lasts;
+        wanting = wanting;
+        judged = subst (WasJudged w group (WasHeld w.accepts before.held) (all_along before.lasting after.lasting) t.walk.asked s.stored told) (sym way) (record {
           inputs = s.inputs;
           given = s.given;
+          found = s.found;
           are = ap (λ (x : Trip). x.walk.asked) (sym s.comes_to);
-          puts_are = ap (λ (x : Trip). x.puts) (sym s.comes_to);
+          puts_are = subst (λ (x : Trip). s.stored ++ put_in x.step ≡ x.puts) (sym s.comes_to) (sym s.puts_are);
           tells = subst (λ (x : Trip). TellsAt w group x.step told) (sym s.comes_to) tells;
         });
         agrees = λ replies h asked.
@@ -78,11 +82,13 @@ module _ (w : World) (group : Group) (table : Option Table) (before after : Outs
             record {
               tells = is.0;
               shows = subst (ShowsOn w replies group told) (sym way) is.1;
-              holds = holds_after but_for_times w replies before.held after.held t.puts s.holds_more h
-                  ((trip_holds w table before after top target lost t s).of_table but_for_times replies of asked);
+              holds = holds_after but_for_times w replies before.held after.held s.stored s.holds_more h (λ n there.
+                  (trip_holds w table before after top target lost t s).of_table but_for_times replies of asked n
+                  (trip_listed w table before after top target lost t s n there));
             };
-        stays = λ like replies h asked. holds_after like w replies before.held after.held t.puts s.holds_more h
-            ((trip_holds w table before after top (target_of group (Some top)) lost t s).of_table like replies (held_of_table like w replies before.held h) asked);
+        stays = λ like replies h asked. holds_after like w replies before.held after.held s.stored s.holds_more h (λ n there.
+            (trip_holds w table before after top (target_of group (Some top)) lost t s).of_table like replies (held_of_table like w replies before.held h) asked n
+            (trip_listed w table before after top (target_of group (Some top)) lost t s n there));
       } in
       record { call = call; few = checks }
 
@@ -132,11 +138,12 @@ module _ (w : World) (group : Group) (table : Option Table) (before : Outside) (
         asked = [];
         lost = 0;
         counted = counted_none table before;
-        wanting = wanting;
         few = omega arith;
         puts = [];
         holds_more = more_none before.held;
-        judged = subst (WasJudged w group (WasHeld w.accepts before.held) [] [] told) (sym way) (refl, refl, tells, bare);
+        stores = becomes_same before.lasting;
+        wanting = wanting;
+        judged = subst (WasJudged w group (WasHeld w.accepts before.held) (all_along before.lasting before.lasting) [] [] told) (sym way) (refl, refl, tells, bare);
         agrees = λ replies h asked. record {
           tells = subst (λ (x : Judged). Tells (answer_by group (moment w) x.finding) told) (sym (once.same replies)) tells;
           shows = subst (ShowsOn w replies group told) (sym way) (unshown replies j told bare);

@@ -97,12 +97,12 @@ module _ (w : World) (table : Option Table) (before now next : Outside) (top tar
 
   -- where a question finds no memory
   pub on_lost : (s : Walking) (x : Step) (from reached : ℕ) → IsOn w table before now top target s x from reached → IsAsking x → next.held ≡ now.held
-      → next.asked ≡ risen now.asked → next.faults ≡ now.faults → next.heard ≡ now.heard → IsStuck w table before next top target from reached
-  on_lost s (ask name rtype) from reached (t, at, its, h, few) asking same a f heard =
-      (t, 1, omega arith, trip_lost w table before now next top target t h name rtype its same a f heard, few)
-  on_lost s (node_get name) from reached on asking same a f heard = absurd asking
-  on_lost s (node_put name n) from reached on asking same a f heard = absurd asking
-  on_lost s (done n) from reached on asking same a f heard = absurd asking
+      → next.lasting ≡ now.lasting → next.asked ≡ risen now.asked → next.faults ≡ now.faults → next.heard ≡ now.heard → IsStuck w table before next top target from reached
+  on_lost s (ask name rtype) from reached (t, at, its, h, few) asking same lasts a f heard =
+      (t, 1, omega arith, trip_lost w table before now next top target t h name rtype its same lasts a f heard, few)
+  on_lost s (node_get name) from reached on asking same lasts a f heard = absurd asking
+  on_lost s (node_put name n) from reached on asking same lasts a f heard = absurd asking
+  on_lost s (done n) from reached on asking same lasts a f heard = absurd asking
 
 -- what follows by one world and table follows by the same
 pub carried : (P Q : World → Option Table → Type 0) (w : World) (s t : Option Table) → s ≡ t → (P w s → Q w s) → P w t → Q w t

@@ -9,6 +9,7 @@ use dsec_name::Name;
 pub struct WithContext<V: Verifier> {
     /// What is told of it.
     pub told: Told<V>,
-    /// The zone that is to have signed it; the root for a group of signatures alone.
+    /// The zone that is to have signed it, in the letters of the signature that names it, or of the group's owner where none does; the root
+    /// for a group of signatures alone.
     pub target: Name,
 }

@@ -9,6 +9,7 @@ ghost use Rattle.dsec_nodes.specs.World.{on_circle};
 ghost use Rattle.dsec_node.specs.Views.{bounds_of, world_of};
 ghost use Rattle.dsec_walk.specs.Views.{world_in};
 ghost use Rattle.dsec_lookup.specs.Outside.{replies_of, HoldsTable};
+ghost use Rattle.dsec_found.specs.Letters.{told_zone_for};
 ghost use Rattle.dsec_by_node.specs.Answers.{CanBeTold, answer_by};
 ghost use Rattle.dsec_single.specs.Calls.{answered, of_no_island, of_signatures_alone, zone_for, AgreesOn, IsSingleCall};
 ghost use Rattle.dsec_single.specs.Checked.{HeardWithin, IsSingleCallWithin};
@@ -22,7 +23,7 @@ use dsec_by_node::{Told, validate_with_node_in_steps};
 use dsec_cause::Cause;
 use dsec_crypto::Verifier;
 use dsec_found::{Target, target_of};
-use dsec_group::{Group, Memo, Steps, ValidationState};
+use dsec_group::{Group, Memo, Steps};
 use dsec_name::{Name, NoMemory};
 use dsec_node::{Caches, Config, Node};
 use dsec_outside::Upstream;
@@ -46,14 +47,15 @@ pub fn validate_with_vc<V: Verifier, C: Caches<V>, M: Memo<V>, U: Upstream>(
     now: u64,
 ) -> Result<WithContext<V>, NoMemory>
     ensures call { IsSingleCall (world_of V.accepts anchors.now (bounds_of config.now) now) group.now (U.table upstream.old)
-        (record { held = C.held caches.old; asked = U.asked upstream.old; faults = U.faults upstream.old; heard = U.heard upstream.old })
-        (record { held = C.held caches.new; asked = U.asked upstream.new; faults = U.faults upstream.new; heard = U.heard upstream.new }) (answered result (λ it. it.told)) }
+        (record { held = C.held caches.old; lasting = C.lasting caches.old; asked = U.asked upstream.old; faults = U.faults upstream.old; heard = U.heard upstream.old })
+        (record { held = C.held caches.new; lasting = C.lasting caches.new; asked = U.asked upstream.new; faults = U.faults upstream.new; heard = U.heard upstream.new }) (answered result (λ it. it.told)) }
     ensures target { IfOk result (λ it. place it.target ≡ zone_for (world_of V.accepts anchors.now (bounds_of config.now) now) group.now) }
+    ensures letters { IfOk result (λ it. it.target ≡ told_zone_for anchors.now group.now) }
     ensures sound { IfOk result (λ it. IsSoundOn (world_of V.accepts anchors.now (bounds_of config.now) now) group.now (place it.target) it.told) }
     ensures justified { IfOk result (λ it. CanBeTold V.accepts group.now (place it.target) it.told) }
     ensures told { IfSome (U.table upstream.old) (λ t. HoldsTable (world_of V.accepts anchors.now (bounds_of config.now) now) (replies_of t) (C.held caches.old)
         → AgreesOn (world_of V.accepts anchors.now (bounds_of config.now) now) group.now
-        (record { held = C.held caches.new; asked = U.asked upstream.new; faults = U.faults upstream.new; heard = U.heard upstream.new }) (answered result (λ it. it.told)) (replies_of t)) }
+        (record { held = C.held caches.new; lasting = C.lasting caches.new; asked = U.asked upstream.new; faults = U.faults upstream.new; heard = U.heard upstream.new }) (answered result (λ it. it.told)) (replies_of t)) }
     ensures same_table { U.table upstream.new ≡ U.table upstream.old }
 {
     counted::<V, C, M, U, Brand>(
@@ -85,14 +87,15 @@ fn counted<V: Verifier, C: Caches<V>, M: Memo<V>, U: Upstream, L: Ledger>(
     requires parts { blank.parts ≡ L.parts }
     requires shared { 0 < L.parts }
     ensures call { IsSingleCall (world_of V.accepts anchors.now (bounds_of config.now) now) group.now (U.table upstream.old)
-        (record { held = C.held caches.old; asked = U.asked upstream.old; faults = U.faults upstream.old; heard = U.heard upstream.old })
-        (record { held = C.held caches.new; asked = U.asked upstream.new; faults = U.faults upstream.new; heard = U.heard upstream.new }) (answered result (λ it. it.told)) }
+        (record { held = C.held caches.old; lasting = C.lasting caches.old; asked = U.asked upstream.old; faults = U.faults upstream.old; heard = U.heard upstream.old })
+        (record { held = C.held caches.new; lasting = C.lasting caches.new; asked = U.asked upstream.new; faults = U.faults upstream.new; heard = U.heard upstream.new }) (answered result (λ it. it.told)) }
     ensures target { IfOk result (λ it. place it.target ≡ zone_for (world_of V.accepts anchors.now (bounds_of config.now) now) group.now) }
+    ensures letters { IfOk result (λ it. it.target ≡ told_zone_for anchors.now group.now) }
     ensures sound { IfOk result (λ it. IsSoundOn (world_of V.accepts anchors.now (bounds_of config.now) now) group.now (place it.target) it.told) }
     ensures justified { IfOk result (λ it. CanBeTold V.accepts group.now (place it.target) it.told) }
     ensures told { IfSome (U.table upstream.old) (λ t. HoldsTable (world_of V.accepts anchors.now (bounds_of config.now) now) (replies_of t) (C.held caches.old)
         → AgreesOn (world_of V.accepts anchors.now (bounds_of config.now) now) group.now
-        (record { held = C.held caches.new; asked = U.asked upstream.new; faults = U.faults upstream.new; heard = U.heard upstream.new }) (answered result (λ it. it.told)) (replies_of t)) }
+        (record { held = C.held caches.new; lasting = C.lasting caches.new; asked = U.asked upstream.new; faults = U.faults upstream.new; heard = U.heard upstream.new }) (answered result (λ it. it.told)) (replies_of t)) }
     ensures same_table { U.table upstream.new ≡ U.table upstream.old }
 {
     let mut steps = Steps::<L>::begin(blank);
@@ -117,17 +120,18 @@ pub fn validate_with_vc_in_steps<V: Verifier, C: Caches<V>, M: Memo<V>, U: Upstr
     steps: &mut Steps<L>,
 ) -> Result<WithContext<V>, NoMemory>
     ensures call { IsSingleCall (world_of V.accepts anchors.now (bounds_of config.now) now) group.now (U.table upstream.old)
-        (record { held = C.held caches.old; asked = U.asked upstream.old; faults = U.faults upstream.old; heard = U.heard upstream.old })
-        (record { held = C.held caches.new; asked = U.asked upstream.new; faults = U.faults upstream.new; heard = U.heard upstream.new }) (answered result (λ it. it.told)) }
+        (record { held = C.held caches.old; lasting = C.lasting caches.old; asked = U.asked upstream.old; faults = U.faults upstream.old; heard = U.heard upstream.old })
+        (record { held = C.held caches.new; lasting = C.lasting caches.new; asked = U.asked upstream.new; faults = U.faults upstream.new; heard = U.heard upstream.new }) (answered result (λ it. it.told)) }
     ensures target { IfOk result (λ it. place it.target ≡ zone_for (world_of V.accepts anchors.now (bounds_of config.now) now) group.now) }
+    ensures letters { IfOk result (λ it. it.target ≡ told_zone_for anchors.now group.now) }
     ensures sound { IfOk result (λ it. IsSoundOn (world_of V.accepts anchors.now (bounds_of config.now) now) group.now (place it.target) it.told) }
     ensures justified { IfOk result (λ it. CanBeTold V.accepts group.now (place it.target) it.told) }
     ensures told { IfSome (U.table upstream.old) (λ t. HoldsTable (world_of V.accepts anchors.now (bounds_of config.now) now) (replies_of t) (C.held caches.old)
         → AgreesOn (world_of V.accepts anchors.now (bounds_of config.now) now) group.now
-        (record { held = C.held caches.new; asked = U.asked upstream.new; faults = U.faults upstream.new; heard = U.heard upstream.new }) (answered result (λ it. it.told)) (replies_of t)) }
+        (record { held = C.held caches.new; lasting = C.lasting caches.new; asked = U.asked upstream.new; faults = U.faults upstream.new; heard = U.heard upstream.new }) (answered result (λ it. it.told)) (replies_of t)) }
     ensures checks { IsSingleCallWithin (world_of V.accepts anchors.now (bounds_of config.now) now) group.now (U.table upstream.old)
-        (record { held = C.held caches.old; asked = U.asked upstream.old; faults = U.faults upstream.old; heard = U.heard upstream.old })
-        (record { held = C.held caches.new; asked = U.asked upstream.new; faults = U.faults upstream.new; heard = U.heard upstream.new }) (answered result (λ it. it.told)) steps.old steps.new }
+        (record { held = C.held caches.old; lasting = C.lasting caches.old; asked = U.asked upstream.old; faults = U.faults upstream.old; heard = U.heard upstream.old })
+        (record { held = C.held caches.new; lasting = C.lasting caches.new; asked = U.asked upstream.new; faults = U.faults upstream.new; heard = U.heard upstream.new }) (answered result (λ it. it.told)) steps.old steps.new }
     ensures heard { HeardWithin (U.heard upstream.old) (U.heard upstream.new) (config.now.max_bad_signatures + 1) steps.old steps.new }
     ensures same_table { U.table upstream.new ≡ U.table upstream.old }
 {
@@ -150,9 +154,10 @@ fn told_of<V: Verifier, C: Caches<V>, M: Memo<V>, U: Upstream, L: Ledger>(
     steps: &mut Steps<L>,
 ) -> Result<WithContext<V>, NoMemory>
     ensures checks { IsSingleCallWithin (world_in V.accepts setting.now) group.now (U.table upstream.old)
-        (record { held = C.held caches.old; asked = U.asked upstream.old; faults = U.faults upstream.old; heard = U.heard upstream.old })
-        (record { held = C.held caches.new; asked = U.asked upstream.new; faults = U.faults upstream.new; heard = U.heard upstream.new }) (answered result (λ it. it.told)) steps.old steps.new }
+        (record { held = C.held caches.old; lasting = C.lasting caches.old; asked = U.asked upstream.old; faults = U.faults upstream.old; heard = U.heard upstream.old })
+        (record { held = C.held caches.new; lasting = C.lasting caches.new; asked = U.asked upstream.new; faults = U.faults upstream.new; heard = U.heard upstream.new }) (answered result (λ it. it.told)) steps.old steps.new }
     ensures target { IfOk result (λ it. place it.target ≡ zone_for (world_in V.accepts setting.now) group.now) }
+    ensures letters { IfOk result (λ it. it.target ≡ told_zone_for setting.now.anchors.now group.now) }
     ensures sound { IfOk result (λ it. IsSoundOn (world_in V.accepts setting.now) group.now (place it.target) it.told) }
     ensures justified { IfOk result (λ it. CanBeTold V.accepts group.now (place it.target) it.told) }
     ensures same_table { U.table upstream.new ≡ U.table upstream.old }
@@ -175,9 +180,10 @@ fn told_of<V: Verifier, C: Caches<V>, M: Memo<V>, U: Upstream, L: Ledger>(
 fn without_set<V: Verifier>(alloc: Global) -> WithContext<V>
     ensures told { result.told ≡ of_signatures_alone }
     ensures target { place result.target ≡ [] }
+    ensures letters { result.target ≡ [] }
 {
     WithContext {
-        told: Told::unsecured(ValidationState::Insecure, Some(Cause::RrsigWithoutRrset)),
+        told: Told::insecure(Cause::RrsigWithoutRrset),
         target: Name::root(alloc),
     }
 }
@@ -188,7 +194,7 @@ fn without_island<V: Verifier>(zone: Name) -> WithContext<V>
     ensures target { result.target ≡ zone }
 {
     WithContext {
-        told: Told::unsecured(ValidationState::Indeterminate, Some(Cause::NoTrustAnchor)),
+        told: Told::indeterminate(Cause::NoTrustAnchor),
         target: zone,
     }
 }
@@ -210,9 +216,10 @@ fn walked<V: Verifier, C: Caches<V>, M: Memo<V>, U: Upstream, L: Ledger>(
     requires way { way_of (world_in V.accepts setting.now) group.now ≡ by_walk (place top) }
     requires target { place zone ≡ target_in group.now (Some (place top)) }
     ensures checks { IsSingleCallWithin (world_in V.accepts setting.now) group.now (U.table upstream.old)
-        (record { held = C.held caches.old; asked = U.asked upstream.old; faults = U.faults upstream.old; heard = U.heard upstream.old })
-        (record { held = C.held caches.new; asked = U.asked upstream.new; faults = U.faults upstream.new; heard = U.heard upstream.new }) (answered result (λ it. it.told)) steps.old steps.new }
+        (record { held = C.held caches.old; lasting = C.lasting caches.old; asked = U.asked upstream.old; faults = U.faults upstream.old; heard = U.heard upstream.old })
+        (record { held = C.held caches.new; lasting = C.lasting caches.new; asked = U.asked upstream.new; faults = U.faults upstream.new; heard = U.heard upstream.new }) (answered result (λ it. it.told)) steps.old steps.new }
     ensures target { IfOk result (λ it. place it.target ≡ zone_for (world_in V.accepts setting.now) group.now) }
+    ensures letters { IfOk result (λ it. it.target ≡ zone) }
     ensures sound { IfOk result (λ it. IsSoundOn (world_in V.accepts setting.now) group.now (place it.target) it.told) }
     ensures justified { IfOk result (λ it. CanBeTold V.accepts group.now (place it.target) it.told) }
     ensures same_table { U.table upstream.new ≡ U.table upstream.old }

@@ -4,6 +4,7 @@ ghost use Rattle.std.specs.Prelude.{◌≡◌, IfOk, IfSome};
 ghost use Rattle.dsec_spec.specs.Names.{place};
 ghost use Rattle.dsec_node.specs.Views.{bounds_of, world_of};
 ghost use Rattle.dsec_lookup.specs.Outside.{replies_of, HoldsTable};
+ghost use Rattle.dsec_found.specs.Letters.{told_zone_for};
 ghost use Rattle.dsec_by_node.specs.Answers.{told_in};
 ghost use Rattle.dsec_single.specs.Calls.{answered, zone_for, AgreesOn, IsSingleCall};
 ghost use Rattle.dsec_single.specs.Sound.{IsSoundOn};
@@ -31,13 +32,14 @@ pub fn validated<V: Verifier, C: Caches<V>, M: Memo<V>, U: Upstream>(
 ) -> Result<ValidatedGroup<V>, NoMemory>
     ensures group { IfOk result (λ it. it.group ≡ group.now) }
     ensures call { IsSingleCall (world_of V.accepts anchors.now (bounds_of config.now) now) group.now (U.table upstream.old)
-        (record { held = C.held caches.old; asked = U.asked upstream.old; faults = U.faults upstream.old; heard = U.heard upstream.old })
-        (record { held = C.held caches.new; asked = U.asked upstream.new; faults = U.faults upstream.new; heard = U.heard upstream.new }) (answered result (λ it. told_in it)) }
+        (record { held = C.held caches.old; lasting = C.lasting caches.old; asked = U.asked upstream.old; faults = U.faults upstream.old; heard = U.heard upstream.old })
+        (record { held = C.held caches.new; lasting = C.lasting caches.new; asked = U.asked upstream.new; faults = U.faults upstream.new; heard = U.heard upstream.new }) (answered result (λ it. told_in it)) }
     ensures signer { IfOk result (λ it. place it.signer ≡ zone_for (world_of V.accepts anchors.now (bounds_of config.now) now) group.now) }
+    ensures letters { IfOk result (λ it. it.signer ≡ told_zone_for anchors.now group.now) }
     ensures sound { IfOk result (λ it. IsSoundOn (world_of V.accepts anchors.now (bounds_of config.now) now) group.now (place it.signer) (told_in it)) }
     ensures told { IfSome (U.table upstream.old) (λ t. HoldsTable (world_of V.accepts anchors.now (bounds_of config.now) now) (replies_of t) (C.held caches.old)
         → AgreesOn (world_of V.accepts anchors.now (bounds_of config.now) now) group.now
-        (record { held = C.held caches.new; asked = U.asked upstream.new; faults = U.faults upstream.new; heard = U.heard upstream.new }) (answered result (λ it. told_in it)) (replies_of t)) }
+        (record { held = C.held caches.new; lasting = C.lasting caches.new; asked = U.asked upstream.new; faults = U.faults upstream.new; heard = U.heard upstream.new }) (answered result (λ it. told_in it)) (replies_of t)) }
     ensures same_table { U.table upstream.new ≡ U.table upstream.old }
 {
     let Ok(own) = group.clone() else {

@@ -44,10 +44,10 @@ pub(crate) fn serve<V: Verifier, C: Caches<V>, M: Memo<V>, U: Upstream, L: Ledge
     step: Step<V>,
 ) -> Result<Arc<Node<V>>, NoMemory>
     requires on { (before : Outside) × (top : Place) × (target : Place) × (from : ℕ)
-        × IsOn (world_in V.accepts setting.now) (U.table upstream.old) before (record { held = C.held caches.old; asked = U.asked upstream.old; faults = U.faults upstream.old; heard = U.heard upstream.old }) top target walk.old (step_view step) from steps.old }
+        × IsOn (world_in V.accepts setting.now) (U.table upstream.old) before (record { held = C.held caches.old; lasting = C.lasting caches.old; asked = U.asked upstream.old; faults = U.faults upstream.old; heard = U.heard upstream.old }) top target walk.old (step_view step) from steps.old }
     ensures ends { (before : Outside) (top target : Place) (from : ℕ)
-        → IsOn (world_in V.accepts setting.now) (U.table upstream.old) before (record { held = C.held caches.old; asked = U.asked upstream.old; faults = U.faults upstream.old; heard = U.heard upstream.old }) top target walk.old (step_view step) from steps.old
-        → EndsOn (world_in V.accepts setting.now) (U.table upstream.old) before (record { held = C.held caches.new; asked = U.asked upstream.new; faults = U.faults upstream.new; heard = U.heard upstream.new }) top target from steps.new result (λ node. arc_value node) }
+        → IsOn (world_in V.accepts setting.now) (U.table upstream.old) before (record { held = C.held caches.old; lasting = C.lasting caches.old; asked = U.asked upstream.old; faults = U.faults upstream.old; heard = U.heard upstream.old }) top target walk.old (step_view step) from steps.old
+        → EndsOn (world_in V.accepts setting.now) (U.table upstream.old) before (record { held = C.held caches.new; lasting = C.lasting caches.new; asked = U.asked upstream.new; faults = U.faults upstream.new; heard = U.heard upstream.new }) top target from steps.new result (λ node. arc_value node) }
     ensures same_table { U.table upstream.new ≡ U.table upstream.old }
 {
     let mut last = step;
@@ -72,8 +72,8 @@ pub(crate) fn node_for<V: Verifier, C: Caches<V>, M: Memo<V>, U: Upstream, L: Le
     steps: &mut Steps<L>,
 ) -> Result<Arc<Node<V>>, NoMemory>
     requires { IsAtOrBelow (place zone) (place top) }
-    ensures ends { EndsOn (world_in V.accepts setting.now) (U.table upstream.old) (record { held = C.held caches.old; asked = U.asked upstream.old; faults = U.faults upstream.old; heard = U.heard upstream.old })
-        (record { held = C.held caches.new; asked = U.asked upstream.new; faults = U.faults upstream.new; heard = U.heard upstream.new }) (place top) (place zone) steps.old steps.new result (λ node. arc_value node) }
+    ensures ends { EndsOn (world_in V.accepts setting.now) (U.table upstream.old) (record { held = C.held caches.old; lasting = C.lasting caches.old; asked = U.asked upstream.old; faults = U.faults upstream.old; heard = U.heard upstream.old })
+        (record { held = C.held caches.new; lasting = C.lasting caches.new; asked = U.asked upstream.new; faults = U.faults upstream.new; heard = U.heard upstream.new }) (place top) (place zone) steps.old steps.new result (λ node. arc_value node) }
     ensures same_table { U.table upstream.new ≡ U.table upstream.old }
 {
     let mut walk = Walk::start(alloc, top, zone);

@@ -31,10 +31,10 @@ pub(crate) fn turn<V: Verifier, C: Caches<V>, M: Memo<V>, U: Upstream, L: Ledger
 ) -> Result<Step<V>, NoMemory>
     requires goes_on { is_last (step_view step) ≡ false }
     requires on { (before : Outside) × (top : Place) × (target : Place) × (from : ℕ)
-        × IsOn (world_in V.accepts setting.now) (U.table upstream.old) before (record { held = C.held caches.old; asked = U.asked upstream.old; faults = U.faults upstream.old; heard = U.heard upstream.old }) top target walk.old (step_view step) from steps.old }
+        × IsOn (world_in V.accepts setting.now) (U.table upstream.old) before (record { held = C.held caches.old; lasting = C.lasting caches.old; asked = U.asked upstream.old; faults = U.faults upstream.old; heard = U.heard upstream.old }) top target walk.old (step_view step) from steps.old }
     ensures comes { (before : Outside) (top target : Place) (from : ℕ)
-        → IsOn (world_in V.accepts setting.now) (U.table upstream.old) before (record { held = C.held caches.old; asked = U.asked upstream.old; faults = U.faults upstream.old; heard = U.heard upstream.old }) top target walk.old (step_view step) from steps.old
-        → ComesOn (world_in V.accepts setting.now) (U.table upstream.old) before (record { held = C.held caches.new; asked = U.asked upstream.new; faults = U.faults upstream.new; heard = U.heard upstream.new }) top target walk.new from steps.new result }
+        → IsOn (world_in V.accepts setting.now) (U.table upstream.old) before (record { held = C.held caches.old; lasting = C.lasting caches.old; asked = U.asked upstream.old; faults = U.faults upstream.old; heard = U.heard upstream.old }) top target walk.old (step_view step) from steps.old
+        → ComesOn (world_in V.accepts setting.now) (U.table upstream.old) before (record { held = C.held caches.new; lasting = C.lasting caches.new; asked = U.asked upstream.new; faults = U.faults upstream.new; heard = U.heard upstream.new }) top target walk.new from steps.new result }
     ensures nearer { IfOk result (λ _. steps_ahead walk.new < steps_ahead walk.old) }
     ensures same_table { U.table upstream.new ≡ U.table upstream.old }
 {

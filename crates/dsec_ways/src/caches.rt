@@ -19,6 +19,8 @@ pub enum Keepless {
 impl Caches<StandIn> for Keepless {
     ghost held = { λ _. None };
 
+    ghost lasting = { λ _. None };
+
     fn get(&mut self, _name: &Name) -> Result<Option<Arc<Node<StandIn>>>, NoMemory> {
         match self {
             Keepless::Forgetting => Ok(None),

@@ -24,7 +24,7 @@ pub finish-requires-clause-at : goal.finish-requires-clause-at
 finish-requires-clause-at g c =
     let begun = c.requires.begun in
     let most = most_of c.args.validation.now in
-    let before : Outside = record { held = g.C.Caches.held c.args.caches.now; asked = g.U.Upstream.asked c.args.upstream.now; faults = g.U.Upstream.faults c.args.upstream.now; heard = g.U.Upstream.heard c.args.upstream.now } in (
+    let before : Outside = record { held = g.C.Caches.held c.args.caches.now; lasting = g.C.Caches.lasting c.args.caches.now; asked = g.U.Upstream.asked c.args.upstream.now; faults = g.U.Upstream.faults c.args.upstream.now; heard = g.U.Upstream.heard c.args.upstream.now } in (
       most,
       begun.0,
       before,
@@ -39,8 +39,8 @@ pub returns-in-Ok-clause-checks : goal.returns-in-Ok-clause-checks
 returns-in-Ok-clause-checks g c = λ message begins.
     let most = most_of c.args.validation.now in
     let from = c.args.steps.now in
-    let before : Outside = record { held = g.C.Caches.held c.args.caches.now; asked = g.U.Upstream.asked c.args.upstream.now; faults = g.U.Upstream.faults c.args.upstream.now; heard = g.U.Upstream.heard c.args.upstream.now } in
-    let after : Outside = record { held = g.C.Caches.held c.finish.new.caches; asked = g.U.Upstream.asked c.finish.new.upstream; faults = g.U.Upstream.faults c.finish.new.upstream; heard = g.U.Upstream.heard c.finish.new.upstream } in
+    let before : Outside = record { held = g.C.Caches.held c.args.caches.now; lasting = g.C.Caches.lasting c.args.caches.now; asked = g.U.Upstream.asked c.args.upstream.now; faults = g.U.Upstream.faults c.args.upstream.now; heard = g.U.Upstream.heard c.args.upstream.now } in
+    let after : Outside = record { held = g.C.Caches.held c.finish.new.caches; lasting = g.C.Caches.lasting c.finish.new.caches; asked = g.U.Upstream.asked c.finish.new.upstream; faults = g.U.Upstream.faults c.finish.new.upstream; heard = g.U.Upstream.heard c.finish.new.upstream } in
     carried (λ (w : World) (t : Option Table). IsAt w most message t before before c.advance.new.self.course (step_view c.in-Ok.step)
     × AreFew w c.advance.new.self.course from c.advance.new.steps)
     (λ (w : World) (t : Option Table). IsJudgingWithin w most message t before after (judgement_at w c.finish.new.validation.course c.finish.result) from c.finish.new.steps)
@@ -58,7 +58,7 @@ returns-in-Err-clause-checks g c = λ message begins.
     let w = world_by g.V.Verifier.accepts c.args.validation.now in
     let most = most_of c.args.validation.now in
     let from = c.args.steps.now in
-    let before : Outside = record { held = g.C.Caches.held c.args.caches.now; asked = g.U.Upstream.asked c.args.upstream.now; faults = g.U.Upstream.faults c.args.upstream.now; heard = g.U.Upstream.heard c.args.upstream.now } in
+    let before : Outside = record { held = g.C.Caches.held c.args.caches.now; lasting = g.C.Caches.lasting c.args.caches.now; asked = g.U.Upstream.asked c.args.upstream.now; faults = g.U.Upstream.faults c.args.upstream.now; heard = g.U.Upstream.heard c.args.upstream.now } in
     subst (λ r. CountsTo w most message (g.U.Upstream.table c.args.upstream.now) before before c.advance.new.self.course from c.advance.new.steps r) c.in-Err.is
     (first_within w most message (g.U.Upstream.table c.args.upstream.now) before c.args.validation.now.course c.advance.new.self.course from c.advance.new.steps c.advance.result
     begins c.advance.ensures.exact c.advance.ensures.bound)

@@ -18,14 +18,14 @@ turn-requires-clause-awaits g c =
     let inv = c.loop-alloc.invariant in
     let begun = c.requires.at in
     at_awaits (world_by g.V.Verifier.accepts c.args.validation.now) begun.0 begun.1 (g.U.Upstream.table c.args.upstream.now) begun.2
-    (record { held = g.C.Caches.held c.loop-alloc.caches; asked = g.U.Upstream.asked c.loop-alloc.upstream; faults = g.U.Upstream.faults c.loop-alloc.upstream; heard = g.U.Upstream.heard c.loop-alloc.upstream })
+    (record { held = g.C.Caches.held c.loop-alloc.caches; lasting = g.C.Caches.lasting c.loop-alloc.caches; asked = g.U.Upstream.asked c.loop-alloc.upstream; faults = g.U.Upstream.faults c.loop-alloc.upstream; heard = g.U.Upstream.heard c.loop-alloc.upstream })
     c.loop-alloc.validation.course (step_view c.loop-alloc.last) (inv.2 begun.0 begun.1 begun.2 begun.3)
 
 pub loop-alloc-smaller : goal.loop-alloc-smaller
 loop-alloc-smaller g c =
     let inv = c.loop-alloc.invariant in
     let begun = c.requires.at in
-    let now : Outside = record { held = g.C.Caches.held c.loop-alloc.caches; asked = g.U.Upstream.asked c.loop-alloc.upstream; faults = g.U.Upstream.faults c.loop-alloc.upstream; heard = g.U.Upstream.heard c.loop-alloc.upstream } in
+    let now : Outside = record { held = g.C.Caches.held c.loop-alloc.caches; lasting = g.C.Caches.lasting c.loop-alloc.caches; asked = g.U.Upstream.asked c.loop-alloc.upstream; faults = g.U.Upstream.faults c.loop-alloc.upstream; heard = g.U.Upstream.heard c.loop-alloc.upstream } in
     carried (λ (w : World) (t : Option Table). IsAt w begun.0 begun.1 t begun.2 now c.loop-alloc.validation.course (step_view c.loop-alloc.last))
     (λ (w : World) (t : Option Table). steps_left w c.turn.new.validation.course < steps_left w c.loop-alloc.validation.course)
     (world_by g.V.Verifier.accepts c.loop-alloc.validation) (world_by g.V.Verifier.accepts c.args.validation.now)
@@ -36,8 +36,8 @@ loop-alloc-smaller g c =
 pub loop-alloc-preserved : goal.loop-alloc-preserved
 loop-alloc-preserved g c =
     let inv = c.loop-alloc.invariant in
-    let now : Outside = record { held = g.C.Caches.held c.loop-alloc.caches; asked = g.U.Upstream.asked c.loop-alloc.upstream; faults = g.U.Upstream.faults c.loop-alloc.upstream; heard = g.U.Upstream.heard c.loop-alloc.upstream } in
-    let next : Outside = record { held = g.C.Caches.held c.turn.new.caches; asked = g.U.Upstream.asked c.turn.new.upstream; faults = g.U.Upstream.faults c.turn.new.upstream; heard = g.U.Upstream.heard c.turn.new.upstream } in (
+    let now : Outside = record { held = g.C.Caches.held c.loop-alloc.caches; lasting = g.C.Caches.lasting c.loop-alloc.caches; asked = g.U.Upstream.asked c.loop-alloc.upstream; faults = g.U.Upstream.faults c.loop-alloc.upstream; heard = g.U.Upstream.heard c.loop-alloc.upstream } in
+    let next : Outside = record { held = g.C.Caches.held c.turn.new.caches; lasting = g.C.Caches.lasting c.turn.new.caches; asked = g.U.Upstream.asked c.turn.new.upstream; faults = g.U.Upstream.faults c.turn.new.upstream; heard = g.U.Upstream.heard c.turn.new.upstream } in (
       c.turn.ensures.same ∙ ap (λ (it : Validating). with_course it c.turn.new.validation.course) inv.0,
       c.turn.ensures.same_table ∙ inv.1,
       λ most message before at.
@@ -71,15 +71,15 @@ overflow_add-questions g c =
     let inv = c.loop-alloc.invariant in
     let begun = c.requires.at in
     let room = room_left (world_by g.V.Verifier.accepts c.args.validation.now) begun.0 begun.1 (g.U.Upstream.table c.args.upstream.now) begun.2
-    (record { held = g.C.Caches.held c.loop-alloc.caches; asked = g.U.Upstream.asked c.loop-alloc.upstream; faults = g.U.Upstream.faults c.loop-alloc.upstream; heard = g.U.Upstream.heard c.loop-alloc.upstream })
+    (record { held = g.C.Caches.held c.loop-alloc.caches; lasting = g.C.Caches.lasting c.loop-alloc.caches; asked = g.U.Upstream.asked c.loop-alloc.upstream; faults = g.U.Upstream.faults c.loop-alloc.upstream; heard = g.U.Upstream.heard c.loop-alloc.upstream })
     c.loop-alloc.validation.course (step_view c.loop-alloc.last) (inv.2 begun.0 begun.1 begun.2 begun.3) in
     omega (arith, room, begun.4, inv.3, c.questions_in.ensures)
 
 pub returns-in-Err-clause-checks : goal.returns-in-Err-clause-checks
 returns-in-Err-clause-checks g c = λ most message before from at few.
     let inv = c.loop-alloc.invariant in
-    let now : Outside = record { held = g.C.Caches.held c.loop-alloc.caches; asked = g.U.Upstream.asked c.loop-alloc.upstream; faults = g.U.Upstream.faults c.loop-alloc.upstream; heard = g.U.Upstream.heard c.loop-alloc.upstream } in
-    let next : Outside = record { held = g.C.Caches.held c.turn.new.caches; asked = g.U.Upstream.asked c.turn.new.upstream; faults = g.U.Upstream.faults c.turn.new.upstream; heard = g.U.Upstream.heard c.turn.new.upstream } in
+    let now : Outside = record { held = g.C.Caches.held c.loop-alloc.caches; lasting = g.C.Caches.lasting c.loop-alloc.caches; asked = g.U.Upstream.asked c.loop-alloc.upstream; faults = g.U.Upstream.faults c.loop-alloc.upstream; heard = g.U.Upstream.heard c.loop-alloc.upstream } in
+    let next : Outside = record { held = g.C.Caches.held c.turn.new.caches; lasting = g.C.Caches.lasting c.turn.new.caches; asked = g.U.Upstream.asked c.turn.new.upstream; faults = g.U.Upstream.faults c.turn.new.upstream; heard = g.U.Upstream.heard c.turn.new.upstream } in
     carried (λ (w : World) (t : Option Table). IsAt w most message t before now c.loop-alloc.validation.course (step_view c.loop-alloc.last)
     × AreFew w c.loop-alloc.validation.course from c.loop-alloc.steps)
     (λ (w : World) (t : Option Table). IsJudgingWithin w most message t before next (judgement_at w c.turn.new.validation.course (Err c.in-Err.error)) from c.turn.new.steps)

@@ -13,10 +13,10 @@ invariant-loop-alloc g l =
     × (g.U.Upstream.table l.upstream ≡ g.U.Upstream.table l.fn.upstream)
     × ((most : ℕ) (message : List ℕ) (before : Outside)
     → IsAt (world_by g.V.Verifier.accepts l.fn.validation) most message (g.U.Upstream.table l.fn.upstream) before
-    (record { held = g.C.Caches.held l.fn.caches; asked = g.U.Upstream.asked l.fn.upstream; faults = g.U.Upstream.faults l.fn.upstream; heard = g.U.Upstream.heard l.fn.upstream })
+    (record { held = g.C.Caches.held l.fn.caches; lasting = g.C.Caches.lasting l.fn.caches; asked = g.U.Upstream.asked l.fn.upstream; faults = g.U.Upstream.faults l.fn.upstream; heard = g.U.Upstream.heard l.fn.upstream })
     l.fn.validation.course (step_view l.fn.step)
     → IsAt (world_by g.V.Verifier.accepts l.fn.validation) most message (g.U.Upstream.table l.fn.upstream) before
-    (record { held = g.C.Caches.held l.caches; asked = g.U.Upstream.asked l.upstream; faults = g.U.Upstream.faults l.upstream; heard = g.U.Upstream.heard l.upstream })
+    (record { held = g.C.Caches.held l.caches; lasting = g.C.Caches.lasting l.caches; asked = g.U.Upstream.asked l.upstream; faults = g.U.Upstream.faults l.upstream; heard = g.U.Upstream.heard l.upstream })
     l.validation.course (step_view l.last))
     × (l.questions ≡ length (asked_in l.validation.course))
     × ((from : ℕ) → AreFew (world_by g.V.Verifier.accepts l.fn.validation) l.fn.validation.course from l.fn.steps

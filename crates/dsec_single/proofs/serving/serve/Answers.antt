@@ -11,7 +11,7 @@ pub turn-requires-clause-on : goal.turn-requires-clause-on
 turn-requires-clause-on g c =
     let inv = c.loop-alloc.invariant in
     let begun = c.requires.on in
-    let now : Outside = record { held = g.C.Caches.held c.loop-alloc.caches; asked = g.U.Upstream.asked c.loop-alloc.upstream; faults = g.U.Upstream.faults c.loop-alloc.upstream; heard = g.U.Upstream.heard c.loop-alloc.upstream } in (
+    let now : Outside = record { held = g.C.Caches.held c.loop-alloc.caches; lasting = g.C.Caches.lasting c.loop-alloc.caches; asked = g.U.Upstream.asked c.loop-alloc.upstream; faults = g.U.Upstream.faults c.loop-alloc.upstream; heard = g.U.Upstream.heard c.loop-alloc.upstream } in (
       begun.0,
       begun.1,
       begun.2,
@@ -23,8 +23,8 @@ turn-requires-clause-on g c =
 pub loop-alloc-preserved : goal.loop-alloc-preserved
 loop-alloc-preserved g c =
     let inv = c.loop-alloc.invariant in
-    let now : Outside = record { held = g.C.Caches.held c.loop-alloc.caches; asked = g.U.Upstream.asked c.loop-alloc.upstream; faults = g.U.Upstream.faults c.loop-alloc.upstream; heard = g.U.Upstream.heard c.loop-alloc.upstream } in
-    let next : Outside = record { held = g.C.Caches.held c.turn.new.caches; asked = g.U.Upstream.asked c.turn.new.upstream; faults = g.U.Upstream.faults c.turn.new.upstream; heard = g.U.Upstream.heard c.turn.new.upstream } in (
+    let now : Outside = record { held = g.C.Caches.held c.loop-alloc.caches; lasting = g.C.Caches.lasting c.loop-alloc.caches; asked = g.U.Upstream.asked c.loop-alloc.upstream; faults = g.U.Upstream.faults c.loop-alloc.upstream; heard = g.U.Upstream.heard c.loop-alloc.upstream } in
+    let next : Outside = record { held = g.C.Caches.held c.turn.new.caches; lasting = g.C.Caches.lasting c.turn.new.caches; asked = g.U.Upstream.asked c.turn.new.upstream; faults = g.U.Upstream.faults c.turn.new.upstream; heard = g.U.Upstream.heard c.turn.new.upstream } in (
       c.turn.ensures.same_table ∙ inv.0,
       λ before top target from on.
           carried (λ (w : World) (t : Option Table). IsOn w t before now top target c.loop-alloc.walk (step_view c.loop-alloc.last) from c.loop-alloc.steps)
@@ -36,8 +36,8 @@ loop-alloc-preserved g c =
 pub returns-in-Err-clause-ends : goal.returns-in-Err-clause-ends
 returns-in-Err-clause-ends g c = λ before top target from on.
     let inv = c.loop-alloc.invariant in
-    let now : Outside = record { held = g.C.Caches.held c.loop-alloc.caches; asked = g.U.Upstream.asked c.loop-alloc.upstream; faults = g.U.Upstream.faults c.loop-alloc.upstream; heard = g.U.Upstream.heard c.loop-alloc.upstream } in
-    let next : Outside = record { held = g.C.Caches.held c.turn.new.caches; asked = g.U.Upstream.asked c.turn.new.upstream; faults = g.U.Upstream.faults c.turn.new.upstream; heard = g.U.Upstream.heard c.turn.new.upstream } in
+    let now : Outside = record { held = g.C.Caches.held c.loop-alloc.caches; lasting = g.C.Caches.lasting c.loop-alloc.caches; asked = g.U.Upstream.asked c.loop-alloc.upstream; faults = g.U.Upstream.faults c.loop-alloc.upstream; heard = g.U.Upstream.heard c.loop-alloc.upstream } in
+    let next : Outside = record { held = g.C.Caches.held c.turn.new.caches; lasting = g.C.Caches.lasting c.turn.new.caches; asked = g.U.Upstream.asked c.turn.new.upstream; faults = g.U.Upstream.faults c.turn.new.upstream; heard = g.U.Upstream.heard c.turn.new.upstream } in
     carried (λ (w : World) (t : Option Table). IsOn w t before now top target c.loop-alloc.walk (step_view c.loop-alloc.last) from c.loop-alloc.steps)
     (λ (w : World) (t : Option Table). IsStuck w t before next top target from c.turn.new.steps)
     (world_in g.V.Verifier.accepts c.args.setting.now) (g.U.Upstream.table c.loop-alloc.upstream) (g.U.Upstream.table c.args.upstream.now)
