@@ -1,15 +1,22 @@
 -- What the program writes of a step, what answers one at once, and to which message an event goes.
-use Rattle.std.specs.Prelude.{◌≡◌, ℕ, List, [], ◌++◌, codes, decimal, Option, Some, None, IfSome}
+use Rattle.std.specs.Prelude.{◌≡◌, ℕ, List, [], ◌∷◌, ◌++◌, length, codes, decimal, Option, Some, None, Ok, IfSome}
 use Rattle.std.specs.Arc.{arc_value}
+use Rattle.std.specs.Option.{option_map}
 use Rattle.dsec_spec.specs.Names.{Labels, place}
+use Rattle.dsec_spec.specs.Numbers.{IN}
+use Rattle.dsec_spec.specs.Records.{Record}
 use Rattle.dsec_number.specs.Words.{type_words, word_of}
 use Rattle.dsec_name.specs.NameDisplay.{name_text}
 use Rattle.dsec_alias.specs.States.{State, secure, insecure, bogus, indeterminate}
 use Rattle.dsec_crypto.specs.StandIn.{stand_in}
 use Rattle.dsec_nodes.specs.Nodes.{Kept}
-use Rattle.dsec_node.specs.Caches.{Held, IsHeld}
+use Rattle.dsec_anchors.specs.Texts.{anchors_in}
+use Rattle.dsec_course.specs.Advancing.{begun as begun_of}
+use Rattle.dsec_node.specs.Caches.{Held, IsHeld, IsFound, Becomes, with_node}
+use Rattle.dsec_node.specs.Configs.{default_settings}
 use Rattle.dsec_walk.specs.declared.steps.Input.{Input}
 use Rattle.dsec_walk.specs.declared.steps.Input.TheVariants as inputs
+use Rattle.dsec_core.specs.Validating.{Validating, begun_as}
 use Rattle.dsec_core.specs.declared.step.Step.{Step}
 use Rattle.dsec_core.specs.declared.step.Step.TheVariants.{NodeGet, NodePut, Ask, Done}
 use Rattle.dsec_uses_steps.specs.declared.event.Event.{Event}
@@ -37,15 +44,30 @@ step_text index (Done outcome) = end_text index outcome.state
 step_text index (NodeGet name) = []
 step_text index (NodePut name node) = []
 
--- what answers a step at once: a node that is held for the name, or none; that a node was put; nothing a question, nor the end
-abbrev pub IsAtHand : {V : Type 0} → Option Held → Step V → Option (Input V) → Type 0
-IsAtHand held (NodeGet name) (Some (inputs.Node found)) = IfSome found (λ node. Kept stand_in (arc_value node) × IsHeld held (place name) (arc_value node))
-IsAtHand held (NodePut name node) (Some inputs.Stored) = Unit {0}
-IsAtHand held (Ask name rtype) None = Unit {0}
-IsAtHand held (Done outcome) None = Unit {0}
-IsAtHand held _ _ = ⊥
+-- What answers a step at once: a node that is held for the name, or none, and by caches that forget none, and find memory, it is what they hold; that a
+-- node was put, which these hold then; nothing a question, nor the end
+abbrev pub IsAtHand : {V : Type 0} → Option Held → Option Held → Option Held → Step V → Option (Input V) → Type 0
+IsAtHand held before after (NodeGet name) (Some (inputs.Node found)) =
+    IfSome found (λ node. Kept stand_in (arc_value node) × IsHeld held (place name) (arc_value node))
+    × IfSome after (λ _. IsFound before (place name) (option_map (λ node. arc_value node) found)) × Becomes before after (λ h. h)
+IsAtHand held before after (NodePut name node) (Some inputs.Stored) = Becomes before after (λ h. with_node h (place name) (arc_value node))
+IsAtHand held before after (Ask name rtype) None = after ≡ before
+IsAtHand held before after (Done outcome) None = after ≡ before
+IsAtHand held before after _ _ = ⊥
 
--- an event goes to the message with this index: a message to itself, behind so many others, and a reply to the one that it names
-abbrev pub GoesTo : {V : Type 0} → Event → ℕ → ℕ × Input V → Type 0
-GoesTo (events.Message message) many (index, input) = (index ≡ many) × (input ≡ inputs.Begin)
-GoesTo (events.Reply named reply) many (index, input) = (index ≡ named) × (input ≡ inputs.Reply reply)
+-- a message is to be judged at this moment from the anchors of this text by the default settings, and nothing was asked for it yet
+abbrev pub IsBegun : List ℕ → ℕ → List ℕ → Validating → Type 0
+IsBegun text moment message it =
+    (anchors : List Record) × (anchors_in (Some IN) text ≡ Ok anchors)
+    × (begun_as anchors default_settings moment (begun_of anchors default_settings.max_cname_dname message) ≡ Ok it)
+
+-- a message that is to be judged so is put behind the others
+abbrev pub IsPut : List ℕ → ℕ → List ℕ → List Validating → List Validating → Type 0
+IsPut text moment message before after = (it : Validating) × (after ≡ before ++ it ∷ []) × IsBegun text moment message it
+
+-- an event goes to the message with this index: a message to itself, which is put behind the others, and a reply to the one that it names, where the
+-- messages are what they were
+abbrev pub GoesTo : {V : Type 0} → List ℕ → ℕ → Event → List Validating → List Validating → ℕ × Input V → Type 0
+GoesTo text moment (events.Message message) before after (index, input) =
+    (index ≡ length before) × (input ≡ inputs.Begin) × IsPut text moment message before after
+GoesTo text moment (events.Reply named reply) before after (index, input) = (index ≡ named) × (input ≡ inputs.Reply reply) × (after ≡ before)

@@ -4,10 +4,11 @@
 
 mod event;
 
-ghost use Rattle.std.specs.Prelude.{◌≡◌, ◌<◌, ◌++◌, length, IfOk, IsOk, OnOk, None};
+ghost use Rattle.std.specs.Prelude.{◌≡◌, ◌<◌, ◌++◌, List, ℕ, codes, length, IfOk, IsOk, OnOk, None};
 ghost use Rattle.std.specs.Io.KnownBytes.{Appends};
 ghost use Rattle.dsec_found.specs.Outcomes.{state_view};
-ghost use Rattle.dsec_uses_steps.specs.Lines.{GoesTo, IsAtHand, ask_text, end_text, state_text, step_text};
+ghost use Rattle.dsec_spec.specs.Outside.{SentFront};
+ghost use Rattle.dsec_uses_steps.specs.Lines.{GoesTo, IsAtHand, IsBegun, IsPut, ask_text, end_text, state_text, step_text};
 
 use anyhow::{Context, Result};
 use dsec_anchors::TrustAnchors;
@@ -91,6 +92,7 @@ fn go_on<K: Sink, L: Ledger>(
 }
 
 /// Writes a line that was made, and answers nothing.
+#[tactic(auto, using(crate::proofs::FrontLaws::nothing_sent))]
 fn said<K: Sink>(
     sink: &mut K,
     pushed: Result<(), NoMemory>,
@@ -99,6 +101,7 @@ fn said<K: Sink>(
     ensures pushed { OnOk result (IsOk pushed) }
     ensures none { IfOk result (λ next. next ≡ None) }
     ensures written { OnOk result (Appends (K.written sink.old) (K.written sink.new) line.now) }
+    ensures front { (text : List ℕ) → OnOk pushed (line.now ≡ text) → SentFront (K.written sink.old) (K.written sink.new) text }
 {
     pushed.ok().context("out of memory")?;
     send(sink, line).ok().context("a write failed")?;
@@ -114,8 +117,9 @@ fn at_hand<C: Caches<StandIn>, K: Sink>(
     step: Step<StandIn>,
     sink: &mut K,
 ) -> Result<Option<Input<StandIn>>>
-    ensures at_hand { IfOk result (λ next. IsAtHand (C.held caches.old) step next) }
+    ensures at_hand { IfOk result (λ next. IsAtHand (C.held caches.old) (C.lasting caches.old) (C.lasting caches.new) step next) }
     ensures written { OnOk result (Appends (K.written sink.old) (K.written sink.new) (step_text index step)) }
+    ensures front { SentFront (K.written sink.old) (K.written sink.new) (step_text index step) }
 {
     match step {
         Step::NodeGet(name) => Ok(Some(Input::Node(held_node(caches, &name)))),
@@ -139,7 +143,9 @@ fn at_hand<C: Caches<StandIn>, K: Sink>(
 }
 
 /// A message that is to be judged from the anchor.
-fn begun(alloc: Global, message: &Message) -> Result<Validation<StandIn>> {
+fn begun(alloc: Global, message: &Message) -> Result<Validation<StandIn>>
+    ensures { IfOk result (λ it. IsBegun (codes "example. 3600 IN DNSKEY 257 3 13 AQI=") 500 message.now it) }
+{
     let anchors = TrustAnchors::from_u8(alloc, ANCHOR.as_bytes())?;
     Ok(Validation::start(alloc, anchors, Config::new(), message, NOW)?)
 }
@@ -150,7 +156,7 @@ fn taken(
     event: Event,
     under_way: &mut Vec<Validation<StandIn>>,
 ) -> Result<(usize, Input<StandIn>)>
-    ensures { IfOk result (λ r. GoesTo event (length under_way.old.items) r) }
+    ensures { IfOk result (λ r. GoesTo (codes "example. 3600 IN DNSKEY 257 3 13 AQI=") 500 event under_way.old.items under_way.new.items r) }
 {
     match event {
         Event::Message(message) => Ok((put(alloc, &message, under_way)?, Input::Begin)),
@@ -160,7 +166,8 @@ fn taken(
 
 /// Puts a message behind the others, and gives its index. There is room for it before it begins.
 fn put(alloc: Global, message: &Message, under_way: &mut Vec<Validation<StandIn>>) -> Result<usize>
-    ensures { IfOk result (λ index. index ≡ length under_way.old.items) }
+    ensures index { IfOk result (λ index. index ≡ length under_way.old.items) }
+    ensures put { OnOk result (IsPut (codes "example. 3600 IN DNSKEY 257 3 13 AQI=") 500 message.now under_way.old.items under_way.new.items) }
 {
     let index = under_way.len();
     under_way.reserve(1)?;
