@@ -1,7 +1,7 @@
 """Checks that the documents say what the repository has:
 
 - the drawing of crates in ARCHITECTURE.md is that of crates.txt;
-- the text that a bug of must-fail/ or planted/ changes stands once in its file;
+- a bug of must-fail/ or planted/ has a line for each text, and the text that it changes stands once in its file;
 - THEOREMS.md names each bug of must-fail/ in bold, each of planted/ plainly, in a section of its crate, and no other;
 - what its rows name stands in the crate, a lemma in the file behind it, and each public call with a clause is named;
 - a file that DEFINITIONS.md names for definitions has them;
@@ -121,7 +121,11 @@ def fitting():
     """The text that a bug changes stands once in its file."""
     for folder in ("must-fail", "planted"):
         for crate, name in sorted(bugs(folder)):
-            file, old = re.match(r"(?s)file: *(.*?)\nold: ?(.*?)\nnew:", read("crates", crate, folder, name + ".edit")).groups()
+            text = read("crates", crate, folder, name + ".edit")
+            if not re.fullmatch(r"(file: .*\n(old: .*\nnew:.*\n)+)+", text):
+                yield "%s of %s has other lines than file:, old: and new:" % (name, crate)
+                continue
+            file, old = re.match(r"file: *(.*?)\nold: ?(.*?)\nnew:", text).groups()
             if read("crates", crate, file).count(old) != 1:
                 yield "%s of %s changes a text that doesn't stand once in %s" % (name, crate, file)
 
