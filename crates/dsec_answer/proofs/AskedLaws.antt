@@ -21,7 +21,6 @@ use Rattle.dsec_context.specs.Judgements.{Judgement, HandsOn, IsJudging}
 use Rattle.dsec_context.specs.Calls.{IsAnswer, WereHeard, most_questions}
 use Rattle.dsec_context.proofs.CallLaws.{heard_few}
 use Rattle.dsec_context.proofs.ServingLaws.{of_no_caches}
-use Rattle.dsec_context.specs.Finding.{all_along}
 use Rattle.dsec_context.proofs.JudgementLaws.{groups_sound}
 use Rattle.dsec_context.specs.Handling.{IsHandling}
 use Rattle.dsec_context.proofs.ComingLaws.{comes, of_verdict}
@@ -43,7 +42,7 @@ module _ (w : World) (most : ℕ) (message : List ℕ) (table : Table) (before a
       by (Err e) f = tt
       by (Ok v) f =
           let so = subst (λ (x : Result Verdict Error). IsAnswer w most message h.call.asked x) f h.call.so in
-          let heard = subst (λ (x : Result Verdict Error). HandsOn w most message (WasHeld w.accepts before.held) (all_along before.lasting after.lasting) h.call.asked h.call.puts x j.groups) f h.hands_on in
+          let heard = subst (λ (x : Result Verdict Error). HandsOn w most message (WasHeld w.accepts before.held) before.lasting after.lasting h.call.asked h.call.puts x j.groups) f h.hands_on in
           record {
             asked = h.call.asked;
             as_many = so.0;
@@ -66,8 +65,8 @@ module _ (w : World) (most : ℕ) (message : List ℕ) (table : Table) (before a
       → (puts : List Node) × WerePut w most message (replies_of table) kept puts × HoldsAmong (kept ++ puts) left
   judged_put left e j h = (h.call.puts, record { asked = h.call.asked; replied = h.call.counted.told; in_turn = turn h.call.in_turn }, all)
     where
-      turn : ((h.call.asked ≡ []) × (h.call.puts ≡ [])) ⊎ WereHeard w most message (WasHeld w.accepts before.held) (all_along before.lasting after.lasting) h.call.asked h.call.puts
-          → (h.call.puts ≡ []) ⊎ WereHeard w most message (Contains kept) None h.call.asked h.call.puts
+      turn : ((h.call.asked ≡ []) × (h.call.puts ≡ []) × (after.lasting ≡ before.lasting)) ⊎ WereHeard w most message (WasHeld w.accepts before.held) before.lasting after.lasting h.call.asked h.call.puts
+          → (h.call.puts ≡ []) ⊎ WereHeard w most message (Contains kept) None None h.call.asked h.call.puts
       turn (inl none) = inl none.1
       turn (inr t) = inr (record {
         course = t.course;
@@ -139,7 +138,7 @@ alone_asked w most replies message kept o e = by (begun w.anchors most message) 
             };
             ends = h.ends ∙ ap (λ (x : Result Outcome Refusal). end_with x) (ends_from_nothing w most message c h.inputs h.end f h.heard h.ends replies h.asked ∙ e);
           };
-          few = heard_few w most message NoNode None asked puts (λ n x. absurd x)
+          few = heard_few w most message NoNode None None asked puts (λ n x. absurd x)
               (record { course = c; begins = f; inputs = h.inputs; heard = h.heard; found = of_no_caches w h.inputs (first_run w c); are = refl; puts_are = at_end });
         }
 

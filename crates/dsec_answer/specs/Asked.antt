@@ -18,14 +18,14 @@ pub record WereAsked (w : World) (most : ℕ) (message : List ℕ) (replies : Re
   pub as_many : number ≡ length asked
   pub replied : AskedOf replies asked
   pub puts : List Node
-  pub heard : WereHeard w most message (Contains kept) None asked puts
+  pub heard : WereHeard w most message (Contains kept) None None asked puts
   pub ends : (after_heard w (first_run w heard.course) heard.inputs).step ≡ end_with (Ok outcome)
 
 -- these nodes were put for a message: none, or those of the message judged a step at a time over these, by the table's replies (RFC 4035 4.5)
 pub record WerePut (w : World) (most : ℕ) (message : List ℕ) (replies : Replies) (kept puts : List Node) : Type 0 where
   pub asked : List Asked
   pub replied : AskedOf replies asked
-  pub in_turn : (puts ≡ []) ⊎ WereHeard w most message (Contains kept) None asked puts
+  pub in_turn : (puts ≡ []) ⊎ WereHeard w most message (Contains kept) None None asked puts
 
 -- each node that is held is one of these
 abbrev pub HoldsAmong : List Node → Held → Type 0

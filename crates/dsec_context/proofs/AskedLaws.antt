@@ -15,7 +15,6 @@ use Rattle.dsec_core.specs.declared.step.Step.{Step}
 use Rattle.dsec_core.specs.Validating.{AdvancesTo}
 use Rattle.dsec_core.specs.Views.{step_view}
 use Rattle.dsec_context.specs.Outside.{Outside, WasHeld, IsServed}
-use Rattle.dsec_context.specs.Finding.{all_along}
 use Rattle.dsec_context.specs.Calls.{WereHeard, most_questions}
 use Rattle.dsec_context.specs.Turns.{asks, IsAt}
 use Rattle.dsec_context.proofs.ServingLaws.{serving_holds, begins_unasked, of_no_caches}
@@ -72,7 +71,7 @@ room_left w most message table before now course step (r, at, its, s) = by step 
     same = ap (λ (c : Course). length (asked_in c)) at
 
     few : length (asked_in r.course) ≤ most_questions w.anchors most message
-    few = heard_few w most message held (all_along before.lasting now.lasting) (asked_in r.course) s.stored (λ n x. x.0) (were_heard w most message table before now r s)
+    few = heard_few w most message held before.lasting now.lasting (asked_in r.course) s.stored (λ n x. x.0) (were_heard w most message table before now r s)
 
     one_more : (name : Place) (rtype : ℕ) → r.step ≡ ask_for name rtype → length (asked_in course) + 1 ≤ most_questions w.anchors most message
     one_more name rtype e =
@@ -80,7 +79,7 @@ room_left w most message table before now course step (r, at, its, s) = by step 
         let first : Run = first_run w s.course in
         let i : Input = reply None in
         let a = subst (λ (z : CourseStep). Awaits z r.course.waits) e h.awaits None in
-        let heard : WereHeard w most message held None (asked_in (ran_on w r i).course) r.puts = record {
+        let heard : WereHeard w most message held None None (asked_in (ran_on w r i).course) r.puts = record {
           course = s.course;
           begins = s.begins;
           inputs = s.inputs ++ i ∷ [];
@@ -91,7 +90,7 @@ room_left w most message table before now course step (r, at, its, s) = by step 
         } in
         let l = ap length (run_asked w most message held r name rtype None h e) in
         let m = length-append (asked_in r.course) (record { name = name; rtype = rtype; reply = None } ∷ []) in
-        omega (arith, heard_few w most message held None (asked_in (ran_on w r i).course) r.puts (λ n x. x.0) heard, l, m, same)
+        omega (arith, heard_few w most message held None None (asked_in (ran_on w r i).course) r.puts (λ n x. x.0) heard, l, m, same)
 
     by : (y : CourseStep) → r.step ≡ y → length (asked_in course) + asks y ≤ most_questions w.anchors most message
     by (get_node name) e = omega (arith, few, same)

@@ -24,15 +24,15 @@ use Rattle.dsec_course.proofs.BeginningLaws.{begun_waits, begun_refused, refused
 use Rattle.dsec_course.proofs.RunLaws.{run_begins, run_asks, run_ends, heard_holds}
 use Rattle.dsec_cut.specs.Cuts.{to_rewrite}
 use Rattle.dsec_cut.proofs.CutLaws.{none_without_groups, none_while_waiting}
-use Rattle.dsec_node.specs.Caches.{Held, Becomes, with_nodes}
+use Rattle.dsec_node.specs.Caches.{Held, Lasting}
+use Rattle.dsec_context.specs.Finding.{AreStored}
 use Rattle.dsec_context.specs.Outside.{Outside, replies_of, WasHeld, HoldsMore, HoldsAlike, HoldsTable, AreApart}
-use Rattle.dsec_context.specs.Finding.{all_along}
 use Rattle.dsec_context.specs.Serving.{IsServing}
 use Rattle.dsec_context.specs.Calls.{Verdict, WereHeard, AgreesWith, IsCall, count_of, most_questions}
 use Rattle.dsec_context.specs.Judgements.{judgement_at, IsToRewrite, IsJudging}
 use Rattle.dsec_lookup.proofs.CountLaws.{counted_lost, counted_none}
 use Rattle.dsec_lookup.proofs.HoldingLaws.{more_none, held_of_table, holds_after, apart_holds}
-use Rattle.dsec_lookup.proofs.FindingLaws.{becomes_same}
+use Rattle.dsec_lookup.proofs.FindingLaws.{stored_none}
 use Rattle.dsec_context.proofs.ReadLaws.{begun_reads}
 use Rattle.dsec_context.proofs.ServingLaws.{serving_holds, serving_listed}
 
@@ -54,7 +54,7 @@ end_so w most message table before now r replies x s e h asked =
     (held_of_table but_for_times w replies before.held h) asked e
 
 pub were_heard : (w : World) (most : ℕ) (message : List ℕ) (table : Option Table) (before now : Outside) (r : Run)
-    (s : IsServing w most message table before now r) → WereHeard w most message (WasHeld w.accepts before.held) (all_along before.lasting now.lasting) (asked_in r.course) s.stored
+    (s : IsServing w most message table before now r) → WereHeard w most message (WasHeld w.accepts before.held) before.lasting now.lasting (asked_in r.course) s.stored
 were_heard w most message table before now r s = record {
   course = s.course;
   begins = s.begins;
@@ -74,7 +74,7 @@ sound_end w most message table before now r x s e =
 -- and its end has the groups by which the message is rewritten
 hands_on_at : (w : World) (most : ℕ) (message : List ℕ) (table : Option Table) (before now : Outside) (r : Run) (x : Result Outcome Refusal)
     (s : IsServing w most message table before now r) → r.step ≡ end_with x
-    → IsToRewrite w most message (WasHeld w.accepts before.held) (all_along before.lasting now.lasting) (asked_in r.course) s.stored x (to_rewrite (moment w) r.course)
+    → IsToRewrite w most message (WasHeld w.accepts before.held) before.lasting now.lasting (asked_in r.course) s.stored x (to_rewrite (moment w) r.course)
 hands_on_at w most message table before now r x s e = record {
   course = s.course;
   begins = s.begins;
@@ -182,9 +182,9 @@ ends_at_a_question w most message table before now next r course s same lasts a 
       counted = counted_lost table before now next (asked_in r.course) s.counted a f heard;
       puts = s.stored;
       holds_more = subst (λ (z : Option Held). HoldsMore before.held z s.stored) (sym same) s.holds_more;
-      stores = subst (λ (z : Option Held). Becomes before.lasting z (λ h. with_nodes h s.stored)) (sym lasts) s.lasts;
+      stores = subst (λ (z : Option Lasting). AreStored before.lasting z s.stored) (sym lasts) s.lasts;
       few = omega arith;
-      in_turn = inr (subst (λ (z : Option Held). WereHeard w most message (WasHeld w.accepts before.held) (all_along before.lasting z) (asked_in r.course) s.stored) (sym lasts)
+      in_turn = inr (subst (λ (z : Option Lasting). WereHeard w most message (WasHeld w.accepts before.held) before.lasting z (asked_in r.course) s.stored) (sym lasts)
           (were_heard w most message table before now r s));
       so = tt;
       agrees = λ replies h asked. record {
@@ -212,9 +212,9 @@ ends_unread w most message table before e =
       counted = counted_none table before;
       puts = [];
       holds_more = more_none before.held;
-      stores = becomes_same before.lasting;
+      stores = stored_none before.lasting;
       few = refl;
-      in_turn = inl (refl, refl);
+      in_turn = inl (refl, refl, refl);
       so = ((begun_refused w.anchors most message unreadable e).none, refl);
       agrees = λ replies h asked. record { says = ap answer_of (refused_alone w most replies message unreadable e); holds = h };
       stays = λ like replies h asked. h;
@@ -231,9 +231,9 @@ ends_unbegun w most message table before =
       counted = counted_none table before;
       puts = [];
       holds_more = more_none before.held;
-      stores = becomes_same before.lasting;
+      stores = stored_none before.lasting;
       few = omega arith;
-      in_turn = inl (refl, refl);
+      in_turn = inl (refl, refl, refl);
       so = tt;
       agrees = λ replies h asked. record { says = tt; holds = h };
       stays = λ like replies h asked. h;
@@ -247,9 +247,9 @@ groups_after w held [] r h = refl
 groups_after w held (i ∷ inputs) r h = groups_after w held inputs (ran_on w r i) h.2 ∙ groups_stay w r.course i h.0
 
 -- the questions that a message has heard are at most 255 for each of its groups
-pub heard_few : (w : World) (most : ℕ) (message : List ℕ) (held : Node → Type 0) (lasting : Option Held) (asked : List Asked) (puts : List Node)
-    → ((n : Node) → held n → Kept w.accepts n) → WereHeard w most message held lasting asked puts → length asked ≤ most_questions w.anchors most message
-heard_few w most message held lasting asked puts kept t =
+pub heard_few : (w : World) (most : ℕ) (message : List ℕ) (held : Node → Type 0) (first last : Option Lasting) (asked : List Asked) (puts : List Node)
+    → ((n : Node) → held n → Kept w.accepts n) → WereHeard w most message held first last asked puts → length asked ≤ most_questions w.anchors most message
+heard_few w most message held first last asked puts kept t =
     let r = after_heard w (first_run w t.course) t.inputs in
     let h : HoldsRun w most message held r = heard_holds w most message held t.inputs (first_run w t.course) kept (run_begins w most message held t.course kept t.begins) t.heard in
     let same : groups_in r.course ≡ groups_in t.course =
@@ -265,13 +265,13 @@ pub call_few : (w : World) (most : ℕ) (message : List ℕ) (table : Option Tab
 call_few w most message table before after (Err e) c = tt
 call_few w most message table before after (Ok v) c = elim c.in_turn [
   | inl none ↦ let l : length c.asked ≡ 0 = ap length none.0 in omega (arith, l, c.so.0)
-  | inr heard ↦ omega (arith, c.so.0, heard_few w most message (WasHeld w.accepts before.held) (all_along before.lasting after.lasting) c.asked c.puts (λ n x. x.0) heard)
+  | inr heard ↦ omega (arith, c.so.0, heard_few w most message (WasHeld w.accepts before.held) before.lasting after.lasting c.asked c.puts (λ n x. x.0) heard)
 ]
 
 -- what a message has put counts where it was judged
-heard_counting : (w : World) (most : ℕ) (message : List ℕ) (held : Node → Type 0) (lasting : Option Held) (asked : List Asked) (puts : List Node)
-    → ((n : Node) → held n → Kept w.accepts n) → WereHeard w most message held lasting asked puts → (n : Node) → Contains puts n → (top : Place) × CountsAt w n top
-heard_counting w most message held lasting asked puts kept t n there =
+heard_counting : (w : World) (most : ℕ) (message : List ℕ) (held : Node → Type 0) (first last : Option Lasting) (asked : List Asked) (puts : List Node)
+    → ((n : Node) → held n → Kept w.accepts n) → WereHeard w most message held first last asked puts → (n : Node) → Contains puts n → (top : Place) × CountsAt w n top
+heard_counting w most message held first last asked puts kept t n there =
     (heard_holds w most message held t.inputs (first_run w t.course) kept (run_begins w most message held t.course kept t.begins) t.heard).traced.counting n
     (subst (λ (ns : List Node). Contains ns n) t.puts_are (in_front n puts (put_by (after_heard w (first_run w t.course) t.inputs).step) there))
 
@@ -282,7 +282,7 @@ pub call_apart : (like : Likeness) (w u : World) (replies : Replies) (most : ℕ
 call_apart like w u replies most message table before after answer apart c =
     apart_holds like w u replies before.held after.held c.puts apart c.holds_more (λ n there. elim c.in_turn [
       | inl none ↦ absurd (not_in_none n (subst (λ (ns : List Node). Contains ns n) none.1 there))
-      | inr heard ↦ heard_counting u most message (WasHeld u.accepts before.held) (all_along before.lasting after.lasting) c.asked c.puts (λ m x. x.0) heard n there
+      | inr heard ↦ heard_counting u most message (WasHeld u.accepts before.held) before.lasting after.lasting c.asked c.puts (λ m x. x.0) heard n there
     ])
 
 -- Where the upstream tells its table, and all that was held is of it, the answer is that of the table

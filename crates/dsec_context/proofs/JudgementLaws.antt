@@ -17,18 +17,17 @@ use Rattle.dsec_course.proofs.RunLaws.{run_begins, heard_holds}
 use Rattle.dsec_cut.specs.Ended.{Both, AreJudged}
 use Rattle.dsec_cut.specs.Cuts.{to_rewrite_alone}
 use Rattle.dsec_cut.proofs.CutLaws.{rewriting_judged, rewriting_alone}
-use Rattle.dsec_node.specs.Caches.{Held}
+use Rattle.dsec_node.specs.Caches.{Lasting}
 use Rattle.dsec_context.specs.Outside.{Outside, replies_of, WasHeld, HoldsTable}
-use Rattle.dsec_context.specs.Finding.{all_along}
 use Rattle.dsec_context.specs.Calls.{Verdict}
 use Rattle.dsec_context.specs.Judgements.{Judgement, IsToRewrite, HandsOn, IsJudging, ComesWith, GroupsAgree}
 use Rattle.dsec_lookup.proofs.HoldingLaws.{held_of_table}
 
 -- they are those of the message, and sound, whatever was asked and replied
-to_rewrite_sound : (w : World) (most : ℕ) (message : List ℕ) (held : Node → Type 0) (lasting : Option Held) (asked : List Asked) (puts : List Node) (x : Result Outcome Refusal) (groups : Option Both)
-    → ((n : Node) → held n → Kept w.accepts n) → IsToRewrite w most message held lasting asked puts x groups → IfSome groups (λ both. AreJudged w most message both)
-to_rewrite_sound w most message held lasting asked puts x None kept t = tt
-to_rewrite_sound w most message held lasting asked puts x (Some both) kept t =
+to_rewrite_sound : (w : World) (most : ℕ) (message : List ℕ) (held : Node → Type 0) (was is : Option Lasting) (asked : List Asked) (puts : List Node) (x : Result Outcome Refusal) (groups : Option Both)
+    → ((n : Node) → held n → Kept w.accepts n) → IsToRewrite w most message held was is asked puts x groups → IfSome groups (λ both. AreJudged w most message both)
+to_rewrite_sound w most message held was is asked puts x None kept t = tt
+to_rewrite_sound w most message held was is asked puts x (Some both) kept t =
     rewriting_judged w most message held t.course t.inputs both kept t.begins t.heard (sym t.groups_are)
 
 none_sound : (w : World) (most : ℕ) (message : List ℕ) (groups : Option Both) → groups ≡ None → IfSome groups (λ both. AreJudged w most message both)
@@ -42,9 +41,9 @@ groups_sound w most message table before after j h = by j.answer h.hands_on
     held : Node → Type 0
     held = WasHeld w.accepts before.held
 
-    by : (r : Result Verdict Error) → HandsOn w most message held (all_along before.lasting after.lasting) h.call.asked h.call.puts r j.groups → IfSome j.groups (λ both. AreJudged w most message both)
-    by (Ok v) t = to_rewrite_sound w most message held (all_along before.lasting after.lasting) h.call.asked h.call.puts (Ok v.outcome) j.groups (λ n x. x.0) t
-    by (Err FormError) t = to_rewrite_sound w most message held (all_along before.lasting after.lasting) h.call.asked h.call.puts (Err not_one_question) j.groups (λ n x. x.0) t
+    by : (r : Result Verdict Error) → HandsOn w most message held before.lasting after.lasting h.call.asked h.call.puts r j.groups → IfSome j.groups (λ both. AreJudged w most message both)
+    by (Ok v) t = to_rewrite_sound w most message held before.lasting after.lasting h.call.asked h.call.puts (Ok v.outcome) j.groups (λ n x. x.0) t
+    by (Err FormError) t = to_rewrite_sound w most message held before.lasting after.lasting h.call.asked h.call.puts (Err not_one_question) j.groups (λ n x. x.0) t
     by (Err ParseError) e = none_sound w most message j.groups e
     by (Err NoMemory) e = none_sound w most message j.groups e
     by (Err (InplaceError x)) e = none_sound w most message j.groups e
@@ -55,10 +54,10 @@ groups_sound w most message table before after j h = by j.answer h.hands_on
     by (Err ShortMessage) e = none_sound w most message j.groups e
 
 -- by a table of which is all that was held and heard they are those of the recursion
-to_rewrite_told : (w : World) (most : ℕ) (message : List ℕ) (before : Outside) (lasting : Option Held) (asked : List Asked) (puts : List Node) (x : Result Outcome Refusal) (groups : Option Both)
-    (replies : Replies) → IsToRewrite w most message (WasHeld w.accepts before.held) lasting asked puts x groups → HoldsTable w replies before.held → AskedOf replies asked
+to_rewrite_told : (w : World) (most : ℕ) (message : List ℕ) (before : Outside) (was is : Option Lasting) (asked : List Asked) (puts : List Node) (x : Result Outcome Refusal) (groups : Option Both)
+    (replies : Replies) → IsToRewrite w most message (WasHeld w.accepts before.held) was is asked puts x groups → HoldsTable w replies before.held → AskedOf replies asked
     → groups ≡ to_rewrite_alone w most replies message
-to_rewrite_told w most message before lasting asked puts x groups replies t h of =
+to_rewrite_told w most message before was is asked puts x groups replies t h of =
     t.groups_are
     ∙ rewriting_alone w most message held t.course t.inputs kept t.begins t.heard holds
     (subst (λ (y : CourseStep). Awaits y last.course.waits) t.ends holds.awaits) but_for_times replies (held_of_table but_for_times w replies before.held h)
@@ -81,10 +80,10 @@ pub groups_alone : (w : World) (most : ℕ) (message : List ℕ) (table : Option
     → GroupsAgree w most replies message j
 groups_alone w most message table before after j h replies holds of = by j.answer h.hands_on
   where
-    by : (r : Result Verdict Error) → HandsOn w most message (WasHeld w.accepts before.held) (all_along before.lasting after.lasting) h.call.asked h.call.puts r j.groups
+    by : (r : Result Verdict Error) → HandsOn w most message (WasHeld w.accepts before.held) before.lasting after.lasting h.call.asked h.call.puts r j.groups
         → ComesWith (to_rewrite_alone w most replies message) r j.groups
-    by (Ok v) x = to_rewrite_told w most message before (all_along before.lasting after.lasting) h.call.asked h.call.puts (Ok v.outcome) j.groups replies x holds of
-    by (Err FormError) x = to_rewrite_told w most message before (all_along before.lasting after.lasting) h.call.asked h.call.puts (Err not_one_question) j.groups replies x holds of
+    by (Ok v) x = to_rewrite_told w most message before before.lasting after.lasting h.call.asked h.call.puts (Ok v.outcome) j.groups replies x holds of
+    by (Err FormError) x = to_rewrite_told w most message before before.lasting after.lasting h.call.asked h.call.puts (Err not_one_question) j.groups replies x holds of
     by (Err ParseError) e = e
     by (Err NoMemory) e = e
     by (Err (InplaceError x)) e = e

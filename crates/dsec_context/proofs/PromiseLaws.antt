@@ -10,7 +10,6 @@ use Rattle.dsec_plain.specs.PlainAnswers.{IsPlainAnswer}
 use Rattle.dsec_found.specs.declared.error.Error.{Error}
 use Rattle.dsec_context.specs.Verdicts.{Verdict}
 use Rattle.dsec_context.specs.Outside.{Outside, HoldsTable, WasHeld, replies_of}
-use Rattle.dsec_context.specs.Finding.{all_along}
 use Rattle.dsec_context.specs.Calls.{most_questions}
 use Rattle.dsec_context.specs.Judgements.{Judgement, IsJudging}
 use Rattle.dsec_context.specs.Leaving.{handed_on, IsHanded}
@@ -60,7 +59,7 @@ module _ (w : World) (most : ℕ) (message : List ℕ) (table : Option Table) (b
       unreadable = λ e. coming.unreadable w.anchors most message j.answer answer e (h.unreadable e) how;
       not_one = λ x. coming.refusal w.anchors most message j.answer answer (h.not_one x) how;
       says = coming.says w most message h.judging.call.asked j.answer answer h.judging.call.so how;
-      leaves = leaving.leaves w most message left (WasHeld w.accepts before.held) (all_along before.lasting after.lasting) h.judging.call.asked h.judging.call.puts j.answer answer j.groups
+      leaves = leaving.leaves w most message left (WasHeld w.accepts before.held) before.lasting after.lasting h.judging.call.asked h.judging.call.puts j.answer answer j.groups
           h.judging.hands_on h.groups_sound handed back;
       few = coming.of_verdict (λ v. v.questions ≤ most_questions w.anchors most message) w.anchors most message j.answer answer h.few how;
     }

@@ -1,5 +1,5 @@
 -- A message goes on by each step that is served, and keeps what it promises.
-use Rattle.std.proofs.Common.{◌≡◌, ◌⊎◌, inl, inr, ℕ, List, [], ◌∷◌, ◌++◌, Option, Some, None, IfSome, Ok, refl, sym, ap, ◌∙◌, subst, append-nil}
+use Rattle.std.proofs.Common.{◌≡◌, ℕ, List, [], ◌∷◌, ◌++◌, Option, Some, None, IfSome, Ok, refl, sym, ap, ◌∙◌, subst, append-nil}
 use Rattle.std.specs.Prelude.{Contains}
 use Rattle.std.specs.List.{flat_map}
 use Rattle.dsec_spec.specs.Names.{Place}
@@ -8,7 +8,7 @@ use Rattle.dsec_spec.proofs.Members.{first_in, in_front, in_back}
 use Rattle.dsec_nodes.specs.World.{World}
 use Rattle.dsec_nodes.specs.Nodes.{Node, Kept}
 use Rattle.dsec_nodes.specs.Machine.{Question as Asked, Walking, Input, begin, node, stored, reply}
-use Rattle.dsec_node.specs.Caches.{Held, IsHeld, Becomes, with_node, with_nodes}
+use Rattle.dsec_node.specs.Caches.{Held, Lasting, IsHeld}
 use Rattle.dsec_course.specs.Course.{Waiting, to_begin, to_end, for_walk, for_nothing, Course, CourseStep, get_node, put_node, ask_for, end_with, CourseAnswers, Awaits, asked_in, asked_by}
 use Rattle.dsec_course.specs.Advancing.{begun}
 use Rattle.dsec_course.specs.Justified.{CourseStepSound}
@@ -17,11 +17,11 @@ use Rattle.dsec_course.proofs.BeginningLaws.{begun_sound, begun_waits}
 use Rattle.dsec_course.proofs.RunLaws.{run_begins, run_asked, run_got, run_put, heard_holds, heard_more, after_more}
 use Rattle.dsec_course.proofs.StepLaws.{asked_grows}
 use Rattle.dsec_context.specs.Outside.{Outside, AreCounted, WasHeld, HoldsMore, IsServed}
-use Rattle.dsec_context.specs.Finding.{all_along, IsOfCaches}
-use Rattle.dsec_context.specs.Serving.{AreOfCaches, IsServing}
+use Rattle.dsec_context.specs.Finding.{calls_by, LeadTo, AreStored}
+use Rattle.dsec_context.specs.Serving.{calls_in, IsServing}
 use Rattle.dsec_lookup.proofs.CountLaws.{counted_more, counted_same, counted_none}
 use Rattle.dsec_lookup.proofs.HoldingLaws.{more_none, more_puts, more_kept, more_added, given_from}
-use Rattle.dsec_lookup.proofs.FindingLaws.{becomes_same, becomes_kept, becomes_put, along, found_after}
+use Rattle.dsec_lookup.proofs.FindingLaws.{lead_on, led_so_far, lead_nowhere, stored_none, stored_got, stored_more}
 
 -- what has come so far is sound and in step
 pub serving_holds : (w : World) (most : ℕ) (message : List ℕ) (table : Option Table) (before now : Outside) (r : Run)
@@ -38,31 +38,19 @@ pub serving_listed : (w : World) (most : ℕ) (message : List ℕ) (table : Opti
 serving_listed w most message table before now r s n there =
     subst (λ (ns : List Node). Contains ns n) (sym s.puts_are) (in_front n s.stored (put_by r.step) there)
 
--- one more input that is of the caches
-of_caches_more : (w : World) (lasting : Option Held) (inputs : List Input) (r : Run) (i : Input) → AreOfCaches w lasting r inputs
-    → IsOfCaches lasting (after_heard w r inputs).puts (after_heard w r inputs).step i → AreOfCaches w lasting r (inputs ++ i ∷ [])
-of_caches_more w lasting [] r i h f = (f, tt)
-of_caches_more w lasting (j ∷ inputs) r i h f = (h.0, of_caches_more w lasting inputs (ran_on w r j) i h.1 f)
+-- the calls of one more input
+pub calls_more : (w : World) (first now next : Option Lasting) (inputs : List Input) (r : Run) (i : Input) → LeadTo first (calls_in w r inputs) now
+    → LeadTo now (calls_by (after_heard w r inputs).step i) next → LeadTo first (calls_in w r (inputs ++ i ∷ [])) next
+calls_more w first now next [] r i h f =
+    lead_on first next next (calls_by r.step i) [] (subst (λ (o : Option Lasting). LeadTo o (calls_by r.step i) next) h f) refl
+calls_more w first now next (j ∷ inputs) r i h f =
+    let so_far = led_so_far first now (calls_by r.step j) (calls_in w (ran_on w r j) inputs) h in
+    lead_on first so_far.0 next (calls_by r.step j) (calls_in w (ran_on w r j) (inputs ++ i ∷ [])) so_far.1
+    (calls_more w so_far.0 now next inputs (ran_on w r j) i so_far.2 f)
 
 -- where caches may forget, or don't tell, nothing is said
-no_caches : (puts : List Node) (step : CourseStep) (i : Input) → IsOfCaches None puts step i
-no_caches puts (get_node name) (node o) = tt
-no_caches puts (get_node name) begin = tt
-no_caches puts (get_node name) stored = tt
-no_caches puts (get_node name) (reply octets) = tt
-no_caches puts (put_node name n) i = tt
-no_caches puts (ask_for name rtype) i = tt
-no_caches puts (end_with x) i = tt
-
-pub of_no_caches : (w : World) (inputs : List Input) (r : Run) → AreOfCaches w None r inputs
-of_no_caches w [] r = tt
-of_no_caches w (i ∷ inputs) r = (no_caches r.puts r.step i, of_no_caches w inputs (ran_on w r i))
-
--- what was found is so still, or caches no longer tell
-found_still : (w : World) (now next : Option Held) (inputs : List Input) (r : Run) → (next ≡ None) ⊎ (next ≡ now) → AreOfCaches w now r inputs
-    → AreOfCaches w next r inputs
-found_still w now next inputs r (inl none) f = subst (λ (o : Option Held). AreOfCaches w o r inputs) (sym none) (of_no_caches w inputs r)
-found_still w now next inputs r (inr same) f = subst (λ (o : Option Held). AreOfCaches w o r inputs) (sym same) f
+pub of_no_caches : (w : World) (inputs : List Input) (r : Run) → LeadTo None (calls_in w r inputs) None
+of_no_caches w inputs r = lead_nowhere (calls_in w r inputs)
 
 -- nothing is asked at the beginning
 unasked_begin : (waits : Waiting) → asked_by waits begin ≡ []
@@ -91,18 +79,17 @@ serving_begins w most message table before c e = record {
   stored = [];
   puts_are = refl;
   holds_more = more_none before.held;
-  found = tt;
-  lasts = becomes_same before.lasting;
+  found = refl;
+  lasts = stored_none before.lasting;
 }
 
 -- it goes on by an input that answers
 on_by : (w : World) (most : ℕ) (message : List ℕ) (table : Option Table) (before now next : Outside) (r : Run) (i : Input)
     → IsServing w most message table before now r → CourseAnswers r.course.waits i → GivenFrom (WasHeld w.accepts before.held) r.puts i
     → AreCounted table before next (asked_in (ran_on w r i).course) 0 → HoldsMore before.held next.held r.puts
-    → (all_along before.lasting next.lasting ≡ None) ⊎ (all_along before.lasting next.lasting ≡ all_along before.lasting now.lasting)
-    → IsOfCaches (all_along before.lasting next.lasting) r.puts r.step i → Becomes before.lasting next.lasting (λ h. with_nodes h r.puts)
+    → LeadTo now.lasting (calls_by r.step i) next.lasting → AreStored before.lasting next.lasting r.puts
     → IsServing w most message table before next (ran_on w r i)
-on_by w most message table before now next r i s a from counted more same found lasts =
+on_by w most message table before now next r i s a from counted more found lasts =
     let held : Node → Type 0 = WasHeld w.accepts before.held in
     let first : Run = first_run w s.course in
     record {
@@ -116,9 +103,8 @@ on_by w most message table before now next r i s a from counted more same found 
       stored = r.puts;
       puts_are = refl;
       holds_more = more;
-      found = of_caches_more w (all_along before.lasting next.lasting) s.inputs first i
-          (found_still w (all_along before.lasting now.lasting) (all_along before.lasting next.lasting) s.inputs first same s.found)
-          (subst (λ (x : Run). IsOfCaches (all_along before.lasting next.lasting) x.puts x.step i) (sym s.comes_to) found);
+      found = calls_more w before.lasting now.lasting next.lasting s.inputs first i s.found
+          (subst (λ (x : Run). LeadTo now.lasting (calls_by x.step i) next.lasting) (sym s.comes_to) found);
       lasts = lasts;
     }
 
@@ -167,42 +153,38 @@ serving_goes_on w most message table before now next r i s served = by r.step i 
     none_more x e none = sym (append-nil s.stored) ∙ (ap (λ (ns : List Node). s.stored ++ ns) (sym none) ∙ done x e)
 
     -- a step that puts nothing leaves it
-    kept : (x : CourseStep) → r.step ≡ x → put_by x ≡ [] → Becomes now.lasting next.lasting (λ h. h)
-        → Becomes before.lasting next.lasting (λ h. with_nodes h r.puts)
-    kept x e none k =
-        subst (λ (ns : List Node). Becomes before.lasting next.lasting (λ h. with_nodes h ns)) (none_more x e none)
-        (becomes_kept before.lasting now.lasting next.lasting s.stored s.lasts k)
+    kept : (x : CourseStep) → r.step ≡ x → put_by x ≡ [] → AreStored before.lasting next.lasting s.stored → AreStored before.lasting next.lasting r.puts
+    kept x e none k = subst (AreStored before.lasting next.lasting) (none_more x e none) k
+
+    -- the calls of a step
+    by_calls : (x : CourseStep) (j : Input) → r.step ≡ x → LeadTo now.lasting (calls_by x j) next.lasting → LeadTo now.lasting (calls_by r.step j) next.lasting
+    by_calls x j e k = subst (λ (z : CourseStep). LeadTo now.lasting (calls_by z j) next.lasting) (sym e) k
 
     by : (x : CourseStep) (j : Input) → r.step ≡ x → IsServed w.accepts table now next x j → IsServing w most message table before next (ran_on w r j)
     by (get_node name) (node o) e y =
         on_by w most message table before now next r (node o) s (subst (λ (z : CourseStep). Awaits z r.course.waits) e h.awaits o)
-        (subst (λ (ns : List Node). GivenFrom held ns (node o)) (none_more (get_node name) e refl) (from name o y.4))
+        (subst (λ (ns : List Node). GivenFrom held ns (node o)) (none_more (get_node name) e refl) (from name o y.3))
         (unasked (node o) (run_got w most message held r name o h e) y.2.0 y.2.1 y.2.2)
         (subst (HoldsMore before.held next.held) (none_more (get_node name) e refl) (more_kept before.held now.held next.held s.stored s.holds_more y.0))
-        (along before.lasting now.lasting next.lasting (λ h. h) y.1)
-        (subst (λ (z : CourseStep). IsOfCaches (all_along before.lasting next.lasting) r.puts z (node o)) (sym e)
-        (subst (λ (ns : List Node). IsOfCaches (all_along before.lasting next.lasting) ns (get_node name) (node o)) (none_more (get_node name) e refl)
-        (found_after before.lasting now.lasting next.lasting s.stored name o s.lasts y.1 y.3)))
-        (kept (get_node name) e refl y.1)
+        (by_calls (get_node name) (node o) e (next.lasting, y.1, refl))
+        (kept (get_node name) e refl (stored_got before.lasting now.lasting next.lasting s.stored name o s.lasts y.1))
     by (put_node name n) stored e y =
         on_by w most message table before now next r stored s (subst (λ (z : CourseStep). Awaits z r.course.waits) e h.awaits) tt
         (unasked stored (run_put w most message held r name n h e) y.2.0 y.2.1 y.2.2)
         (subst (HoldsMore before.held next.held) (done (put_node name n) e)
         (more_added before.held now.held next.held (s.stored ++ n ∷ []) name n (more_puts before.held now.held s.stored (n ∷ []) s.holds_more) y.0
         (in_back n s.stored (n ∷ []) (first_in n [])) (own name n e)))
-        (along before.lasting now.lasting next.lasting (λ h. with_node h name n) y.1)
-        (subst (λ (z : CourseStep). IsOfCaches (all_along before.lasting next.lasting) r.puts z stored) (sym e) tt)
-        (subst (λ (ns : List Node). Becomes before.lasting next.lasting (λ h. with_nodes h ns)) (done (put_node name n) e)
-        (becomes_put before.lasting now.lasting next.lasting s.stored name n s.lasts y.1 (own name n e)))
+        (by_calls (put_node name n) stored e (next.lasting, y.1, refl))
+        (subst (AreStored before.lasting next.lasting) (done (put_node name n) e)
+        (stored_more before.lasting now.lasting next.lasting s.stored name n s.lasts y.1 (own name n e)))
     by (ask_for name rtype) (reply octets) e y =
         on_by w most message table before now next r (reply octets) s (subst (λ (z : CourseStep). Awaits z r.course.waits) e h.awaits octets).0 tt
         (subst (λ (qs : List Asked). AreCounted table before next qs 0) (sym (run_asked w most message held r name rtype octets h e))
         (counted_more table before now next (asked_in r.course) name rtype octets s.counted y.2 y.3 y.4 y.5))
         (subst (λ (z : Option Held). HoldsMore before.held z r.puts) (sym y.0)
         (subst (HoldsMore before.held now.held) (none_more (ask_for name rtype) e refl) s.holds_more))
-        (inr (ap (all_along before.lasting) y.1))
-        (subst (λ (z : CourseStep). IsOfCaches (all_along before.lasting next.lasting) r.puts z (reply octets)) (sym e) tt)
-        (kept (ask_for name rtype) e refl (subst (λ (z : Option Held). Becomes now.lasting z (λ h. h)) (sym y.1) (becomes_same now.lasting)))
+        (by_calls (ask_for name rtype) (reply octets) e y.1)
+        (kept (ask_for name rtype) e refl (subst (λ (z : Option Lasting). AreStored before.lasting z s.stored) (sym y.1) s.lasts))
     by (get_node name) begin e y = absurd y
     by (get_node name) stored e y = absurd y
     by (get_node name) (reply octets) e y = absurd y

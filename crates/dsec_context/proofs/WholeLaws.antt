@@ -1,25 +1,46 @@
--- What a context that is whole holds after a call (RFC 4035 4.5).
-use Rattle.std.proofs.Common.{◌≡◌, ℕ, List, Bool, true, false, Option, Some, None, Result, refl, subst}
+-- What a context gave and holds after a call in which no get and no put has found no memory (RFC 4035 4.5).
+use Rattle.std.proofs.Common.{◌≡◌, ◌<◌, ℕ, List, Option, Result, refl, subst}
 use Rattle.dsec_spec.specs.Names.{Labels, Place}
-use Rattle.dsec_spec.specs.Outside.{Table}
+use Rattle.dsec_spec.specs.Outside.{Table, last_count}
 use Rattle.dsec_nodes.specs.World.{World}
 use Rattle.dsec_nodes.specs.Nodes.{Node}
+use Rattle.dsec_nodes.specs.Machine.{Question as Asked}
+use Rattle.dsec_nodes.specs.Outcomes.{Outcome}
+use Rattle.dsec_nodes.specs.Alone.{Refusal}
+use Rattle.dsec_cut.specs.Ended.{Both}
 use Rattle.dsec_found.specs.declared.error.Error.{Error}
-use Rattle.dsec_node.specs.Caches.{Held, Becomes, held_in, lasting_in, with_nodes}
+use Rattle.dsec_course.specs.Hearing.{first_run}
+use Rattle.dsec_node.specs.Caches.{Lasting, held_in, lasting_in, with_nodes}
 use Rattle.dsec_context.specs.Verdicts.{Verdict}
 use Rattle.dsec_context.specs.Outside.{Outside}
-use Rattle.dsec_context.specs.Calls.{IsCall}
+use Rattle.dsec_context.specs.Finding.{AreStored, AreExact}
+use Rattle.dsec_context.specs.Serving.{calls_in}
+use Rattle.dsec_context.specs.Calls.{WereHeard, IsCall}
+use Rattle.dsec_context.specs.Judgements.{IsToRewrite}
+use Rattle.dsec_lookup.proofs.ExactLaws.{stored_all, lead_exactly}
 
-whole_after : (was : Bool) (old new : List (Labels × Node)) (puts : List Node) → Becomes (lasting_in was old) (lasting_in true new) (λ held. with_nodes held puts)
-    → (was ≡ true) × ((p : Place) → held_in new p ≡ with_nodes (held_in old) puts p)
-whole_after true old new puts b = (refl, b)
-whole_after false old new puts b = absurd (let clash : Some (held_in new) ≡ None = b in cc)
+module _ (old new : List (Labels × Node)) (wants : ℕ) (below : wants < last_count) where
+  -- A context that counts as many wants of memory as before a call holds what it held with all that the call put, whatever it answered
+  pub call_stored : (w : World) (most : ℕ) (message : List ℕ) (table : Option Table) (before after : Outside) (answer : Result Verdict Error)
+      → before.lasting ≡ lasting_in old wants → after.lasting ≡ lasting_in new wants → (c : IsCall w most message table before after answer)
+      → (p : Place) → held_in new p ≡ with_nodes (held_in old) c.puts p
+  call_stored w most message table before after answer at_first at_last c =
+      stored_all (record { held = held_in old; wants = wants }) (record { held = held_in new; wants = wants }) c.puts
+      (subst (λ (o : Option Lasting). AreStored o (lasting_in new wants) c.puts) at_first
+      (subst (λ (o : Option Lasting). AreStored before.lasting o c.puts) at_last c.stores)) refl below
 
--- A context that is whole after a call was so before it, and holds what it held with all that the call put, whatever it answered
-pub call_stored : (w : World) (most : ℕ) (message : List ℕ) (table : Option Table) (before after : Outside) (answer : Result Verdict Error)
-    (was : Bool) (old new : List (Labels × Node)) → before.lasting ≡ lasting_in was old → after.lasting ≡ lasting_in true new
-    → (c : IsCall w most message table before after answer) → (was ≡ true) × ((p : Place) → held_in new p ≡ with_nodes (held_in old) c.puts p)
-call_stored w most message table before after answer was old new at_first at_last c =
-    whole_after was old new c.puts
-    (subst (λ (o : Option Held). Becomes o (lasting_in true new) (λ held. with_nodes held c.puts)) at_first
-    (subst (λ (o : Option Held). Becomes before.lasting o (λ held. with_nodes held c.puts)) at_last c.stores))
+  -- and each get in it gave what was held then
+  pub heard_exactly : (w : World) (most : ℕ) (message : List ℕ) (held : Node → Type 0) (asked : List Asked) (puts : List Node)
+      → (h : WereHeard w most message held (lasting_in old wants) (lasting_in new wants) asked puts)
+      → AreExact (held_in old) (calls_in w (first_run w h.course) h.inputs) (held_in new)
+  heard_exactly w most message held asked puts h =
+      lead_exactly (calls_in w (first_run w h.course) h.inputs) (record { held = held_in old; wants = wants }) (record { held = held_in new; wants = wants })
+      h.found refl below
+
+  -- of a verdict too, by the inputs that it comes from
+  pub judged_exactly : (w : World) (most : ℕ) (message : List ℕ) (held : Node → Type 0) (asked : List Asked) (puts : List Node) (end : Result Outcome Refusal)
+      (groups : Option Both) → (h : IsToRewrite w most message held (lasting_in old wants) (lasting_in new wants) asked puts end groups)
+      → AreExact (held_in old) (calls_in w (first_run w h.course) h.inputs) (held_in new)
+  judged_exactly w most message held asked puts end groups h =
+      lead_exactly (calls_in w (first_run w h.course) h.inputs) (record { held = held_in old; wants = wants }) (record { held = held_in new; wants = wants })
+      h.found refl below

@@ -20,19 +20,19 @@ use Rattle.dsec_course.specs.Advancing.{begun}
 use Rattle.dsec_course.specs.Hearing.{put_by, first_run, AreHeard, after_heard}
 pub use Rattle.dsec_context.specs.Verdicts.{Verdict}
 use Rattle.dsec_context.specs.Outside.{Outside, AreCounted, WasHeld, HoldsMore, HoldsAlike, HoldsTable}
-use Rattle.dsec_context.specs.Finding.{all_along}
-use Rattle.dsec_context.specs.Serving.{AreOfCaches}
-use Rattle.dsec_node.specs.Caches.{Held, Becomes, with_nodes}
+use Rattle.dsec_context.specs.Finding.{LeadTo, AreStored}
+use Rattle.dsec_context.specs.Serving.{calls_in}
+use Rattle.dsec_node.specs.Caches.{Lasting}
 
 -- The questions, with their replies, and the nodes that were put are those of the message judged a step at a time up to a step that isn't taken any more:
--- it heard inputs, whose nodes were held when the call began or were put on the way, and are what caches that forget none, and find memory, held then
--- (RFC 4035 4.3, 4.5)
-pub record WereHeard (w : World) (most : ℕ) (message : List ℕ) (held : Node → Type 0) (lasting : Option Held) (asked : List Asked) (puts : List Node) : Type 0 where
+-- it heard inputs, whose nodes were held when the call began or were put on the way; caches that forget none gave at each get what they held then, if they
+-- found memory (RFC 4035 4.3, 4.5)
+pub record WereHeard (w : World) (most : ℕ) (message : List ℕ) (held : Node → Type 0) (first last : Option Lasting) (asked : List Asked) (puts : List Node) : Type 0 where
   pub course : Course
   pub begins : begun w.anchors most message ≡ Ok course
   pub inputs : List Input
   pub heard : AreHeard w held (first_run w course) inputs
-  pub found : AreOfCaches w lasting (first_run w course) inputs
+  pub found : LeadTo first (calls_in w (first_run w course) inputs) last
   pub are : asked ≡ asked_in (after_heard w (first_run w course) inputs).course
   pub puts_are : puts ++ put_by (after_heard w (first_run w course) inputs).step ≡ (after_heard w (first_run w course) inputs).puts
 
@@ -65,7 +65,7 @@ pub record AgreesWith (w : World) (most : ℕ) (message : List ℕ) (after : Out
   pub holds : HoldsTable w replies after.held
 
 -- What a call promises: there is a list of its questions with their replies, and one of the nodes that it put. The questions are counted, no other
--- node is held afterwards that wasn't before, and by caches that forget none, and find memory, all that were put are held; both lists
+-- node is held afterwards that wasn't before, and by caches that forget none all that were put are held but those that have found no memory; both lists
 -- are those of the message judged a step at a time, the answer is so by them, and where all that was held and heard is of one table the answer is
 -- that of the table; where it is wholly of it, so is all that is held afterwards
 -- (RFC 4033 5, RFC 4035 4.3, 4.5)
@@ -75,9 +75,10 @@ pub record IsCall (w : World) (most : ℕ) (message : List ℕ) (table : Option 
   pub counted : AreCounted table before after asked lost
   pub puts : List Node
   pub holds_more : HoldsMore before.held after.held puts
-  pub stores : Becomes before.lasting after.lasting (λ held. with_nodes held puts)
+  pub stores : AreStored before.lasting after.lasting puts
   pub few : IsLost answer lost
-  pub in_turn : ((asked ≡ []) × (puts ≡ [])) ⊎ WereHeard w most message (WasHeld w.accepts before.held) (all_along before.lasting after.lasting) asked puts
+  pub in_turn : ((asked ≡ []) × (puts ≡ []) × (after.lasting ≡ before.lasting))
+      ⊎ WereHeard w most message (WasHeld w.accepts before.held) before.lasting after.lasting asked puts
   pub so : IsAnswer w most message asked answer
   pub agrees : (replies : Replies) → HoldsTable w replies before.held → AskedOf replies asked → AgreesWith w most message after answer replies
   pub stays : (like : Likeness) (replies : Replies) → HoldsAlike like w replies before.held → AskedOf replies asked → HoldsAlike like w replies after.held

@@ -4,20 +4,20 @@ use Rattle.dsec_spec.specs.Outside.{Table}
 use Rattle.dsec_nodes.specs.World.{World}
 use Rattle.dsec_nodes.specs.Nodes.{Node}
 use Rattle.dsec_nodes.specs.Machine.{Input}
-use Rattle.dsec_node.specs.Caches.{Held, Becomes, with_nodes}
 use Rattle.dsec_course.specs.Course.{Course, asked_in}
 use Rattle.dsec_course.specs.Advancing.{begun}
 use Rattle.dsec_course.specs.Hearing.{Run, put_by, first_run, ran_on, AreHeard, after_heard}
 use Rattle.dsec_context.specs.Outside.{Outside, AreCounted, WasHeld, HoldsMore}
-use Rattle.dsec_context.specs.Finding.{all_along, IsOfCaches}
+use Rattle.dsec_context.specs.Finding.{CacheCall, calls_by, LeadTo, AreStored}
 
--- each node that is given where one is asked for is what caches that forget none hold then for its name: what they held, and what was put since
-abbrev pub AreOfCaches : World → Option Held → Run → List Input → Type 0
-AreOfCaches w lasting r [] = Unit {0}
-AreOfCaches w lasting r (i ∷ inputs) = IsOfCaches lasting r.puts r.step i × AreOfCaches w lasting (ran_on w r i) inputs
+-- the calls to caches by which a message's steps were answered
+abbrev pub calls_in : World → Run → List Input → List CacheCall
+calls_in w r [] = []
+calls_in w r (i ∷ inputs) = calls_by r.step i ++ calls_in w (ran_on w r i) inputs
 
--- A message has come so far: it began and heard inputs, whose nodes were held when the call began or were put on the way, and are what caches that
--- forget none, and find memory, hold; its questions are counted, and what is held now was held then or was put, but for the node of the pending step, and by these it is that with what was put
+-- A message has come so far: it began and heard inputs, whose nodes were held when the call began or were put on the way; its questions are counted, and
+-- what is held now was held then or was put, but for the node of the pending step. Caches that forget none gave, at each call, what they held, and hold what
+-- they held with what was put, but where they have found no memory, which they count
 pub record IsServing (w : World) (most : ℕ) (message : List ℕ) (table : Option Table) (before now : Outside) (r : Run) : Type 0 where
   pub course : Course
   pub begins : begun w.anchors most message ≡ Ok course
@@ -28,5 +28,5 @@ pub record IsServing (w : World) (most : ℕ) (message : List ℕ) (table : Opti
   pub stored : List Node
   pub puts_are : r.puts ≡ stored ++ put_by r.step
   pub holds_more : HoldsMore before.held now.held stored
-  pub found : AreOfCaches w (all_along before.lasting now.lasting) (first_run w course) inputs
-  pub lasts : Becomes before.lasting now.lasting (λ held. with_nodes held stored)
+  pub found : LeadTo before.lasting (calls_in w (first_run w course) inputs) now.lasting
+  pub lasts : AreStored before.lasting now.lasting stored

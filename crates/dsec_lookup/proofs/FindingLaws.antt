@@ -1,65 +1,146 @@
--- What caches that forget none hold after gets and puts, as long as they find memory, is what they held with these puts.
-use Rattle.std.proofs.Common.{◌≡◌, ◌⊎◌, List, [], ◌∷◌, ◌++◌, Option, Some, None, refl, sym, ap, ◌∙◌, subst, inl, inr}
-use Rattle.std.specs.Prelude.{IfSome, if◌then◌else◌}
+-- What caches that forget none hold after gets and puts, and how often these have found no memory.
+use Rattle.std.proofs.Common.{◌≡◌, ℕ, suc, ◌+◌, List, [], ◌∷◌, ◌++◌, length, Option, Some, None, refl, sym, ap, ◌∙◌, subst, inl, inr, arith}
+use Rattle.std.specs.Prelude.{if◌then◌else◌}
+use Rattle.std.proofs.lemmas.List.{length-append}
 use Rattle.dsec_spec.specs.Names.{Place, same_place}
+use Rattle.dsec_spec.specs.Outside.{risen, risen_by}
 use Rattle.dsec_nodes.specs.Nodes.{Node}
-use Rattle.dsec_node.specs.Caches.{Held, Becomes, IsFound, with_node, with_nodes}
-use Rattle.dsec_lookup.specs.Finding.{all_along, IsFoundAfter}
+use Rattle.dsec_node.specs.Caches.{Held, Lasting, IsFound, Becomes, Wants, with_node, with_nodes}
+use Rattle.dsec_lookup.specs.Finding.{GetLeads, PutLeads, CacheCall, got, put, LeadsTo, LeadTo, IsPart, Stored, AreStored}
 
-pub becomes_same : (held : Option Held) → Becomes held held (λ h. h)
-becomes_same None = refl
-becomes_same (Some h) = λ p. refl
+-- a get that has found memory
+pub gives_found : (old new : Option Lasting) (name : Place) (found : Option Node) → IsFound old name found → Becomes old new (λ h. h) → GetLeads old new name found
+gives_found old new name found f b = inl (f, b)
 
--- caches that don't tell, or no longer, may do so by any change
-pub becomes_none : (old new : Option Held) (by : Held → Held) → new ≡ None → Becomes old new by
-becomes_none None new by e = e
-becomes_none (Some old) None by e = tt
-becomes_none (Some old) (Some new) by e = absurd cc
+-- and one that has found none
+pub gives_none : (old new : Option Lasting) (name : Place) → Wants old new → GetLeads old new name None
+gives_none old new name w = inr (refl, w)
 
-pub still : (o : Option Held) (P : Type 0) → P → IfSome o (λ _. P)
-still None P p = tt
-still (Some held) P p = p
+-- a put that has found memory
+pub takes_put : (old new : Option Lasting) (name : Place) (n : Node) → Becomes old new (λ h. with_node h name n) → PutLeads old new name n
+takes_put old new name n b = inl b
 
-pub not_still : (o : Option Held) (P : Type 0) → o ≡ None → IfSome o (λ _. P)
-not_still None P e = tt
-not_still (Some held) P e = absurd cc
+-- and one that has found none
+pub takes_none : (old new : Option Lasting) (name : Place) (n : Node) → Wants old new → PutLeads old new name n
+takes_none old new name n w = inr w
+
+-- calls behind others
+pub lead_on : (old now new : Option Lasting) (calls more : List CacheCall) → LeadTo old calls now → LeadTo now more new → LeadTo old (calls ++ more) new
+lead_on old now new [] more h k = subst (λ (o : Option Lasting). LeadTo o more new) h k
+lead_on old now new (c ∷ calls) more h k = (h.0, h.1, lead_on h.0 now new calls more h.2 k)
+
+-- what calls led to before others
+pub led_so_far : (old new : Option Lasting) (calls more : List CacheCall) → LeadTo old (calls ++ more) new
+    → (now : Option Lasting) × LeadTo old calls now × LeadTo now more new
+led_so_far old new [] more h = (old, refl, h)
+led_so_far old new (c ∷ calls) more h = let rest = led_so_far h.0 new calls more h.2 in (rest.0, (h.0, h.1, rest.1), rest.2)
+
+-- caches that don't tell what they hold are led to the same by any calls
+no_call : (c : CacheCall) → LeadsTo None c None
+no_call (got name found) = inl (tt, refl)
+no_call (put name n) = inl refl
+
+pub lead_nowhere : (calls : List CacheCall) → LeadTo None calls None
+lead_nowhere [] = refl
+lead_nowhere (c ∷ calls) = (None, no_call c, lead_nowhere calls)
 
 -- with one node more at the end
-one_more : (held : Held) (puts : List Node) (n : Node) (p : Place)
-    → with_nodes held (puts ++ n ∷ []) p ≡ with_node (with_nodes held puts) n.name n p
+one_more : (held : Held) (puts : List Node) (n : Node) (p : Place) → with_nodes held (puts ++ n ∷ []) p ≡ with_node (with_nodes held puts) n.name n p
 one_more held [] n p = refl
 one_more held (m ∷ puts) n p = one_more (with_node held m.name m) puts n p
 
+part_kept : (part whole : List Node) (n : Node) → IsPart part whole → IsPart (part ++ n ∷ []) (whole ++ n ∷ [])
+part_kept [] [] n h = inl (refl, tt)
+part_kept [] (m ∷ whole) n h = inr (part_kept [] whole n tt)
+part_kept (m ∷ part) [] n h = absurd h
+part_kept (m ∷ part) (k ∷ whole) n (inl h) = inl (h.0, part_kept part whole n h.1)
+part_kept (m ∷ part) (k ∷ whole) n (inr h) = inr (part_kept (m ∷ part) whole n h)
+
+part_longer : (part whole : List Node) (n : Node) → IsPart part whole → IsPart part (whole ++ n ∷ [])
+part_longer [] whole n h = tt
+part_longer (m ∷ part) [] n h = absurd h
+part_longer (m ∷ part) (k ∷ whole) n (inl h) = inl (h.0, part_longer part whole n h.1)
+part_longer (m ∷ part) (k ∷ whole) n (inr h) = inr (part_longer (m ∷ part) whole n h)
+
+-- where nothing was put
+nothing_stored : (it : Lasting) → Stored it it []
+nothing_stored it = record { kept = []; part = tt; held = λ p. refl; wants = 0; counted = refl; others = omega arith }
+
+pub stored_none : (it : Option Lasting) → AreStored it it []
+stored_none None = refl
+stored_none (Some it) = nothing_stored it
+
+module _ (old now next : Lasting) (puts : List Node) (s : Stored old now puts) where
+  -- a get or a question leaves it
+  stored_same : ((p : Place) → next.held p ≡ now.held p) → next.wants ≡ now.wants → Stored old next puts
+  stored_same k e = record { kept = s.kept; part = s.part; held = λ p. k p ∙ s.held p; wants = s.wants; counted = e ∙ s.counted; others = s.others }
+
+  -- and so does a get that finds no memory
+  stored_wants : ((p : Place) → next.held p ≡ now.held p) → next.wants ≡ risen now.wants → Stored old next puts
+  stored_wants k e = record {
+    kept = s.kept;
+    part = s.part;
+    held = λ p. k p ∙ s.held p;
+    wants = s.wants + 1;
+    counted = e ∙ (ap risen s.counted ∙ one_later s.wants);
+    others = omega (arith, s.others);
+  }
+    where
+      one_later : (k : ℕ) → risen (risen_by old.wants k) ≡ risen_by old.wants (k + 1)
+      one_later k = let e : suc k ≡ k + 1 = omega arith in ap (risen_by old.wants) e
+
+  module _ (name : Place) (n : Node) (own : n.name ≡ name) where
+    longer : length (puts ++ n ∷ []) ≡ length puts + 1
+    longer = length-append puts (n ∷ [])
+
+    -- a node is put for its own name
+    stored_put : ((p : Place) → next.held p ≡ with_node now.held name n p) → next.wants ≡ now.wants → Stored old next (puts ++ n ∷ [])
+    stored_put k e =
+        let more : length (s.kept ++ n ∷ []) ≡ length s.kept + 1 = length-append s.kept (n ∷ []) in
+        record {
+          kept = s.kept ++ n ∷ [];
+          part = part_kept s.kept puts n s.part;
+          held = λ p.
+              k p
+              ∙ (ap (λ (x : Option Node). if same_place p name then Some n else x) (s.held p)
+              ∙ (ap (λ (q : Place). with_node (with_nodes old.held s.kept) q n p) (sym own) ∙ sym (one_more old.held s.kept n p)));
+          wants = s.wants;
+          counted = e ∙ s.counted;
+          others = omega (arith, s.others, longer, more);
+        }
+
+    -- or finds no memory
+    stored_lost : ((p : Place) → next.held p ≡ now.held p) → next.wants ≡ risen now.wants → Stored old next (puts ++ n ∷ [])
+    unfolding stored_wants
+    stored_lost k e =
+        let x = stored_wants k e in
+        record {
+          kept = s.kept;
+          part = part_longer s.kept puts n s.part;
+          held = x.held;
+          wants = s.wants + 1;
+          counted = x.counted;
+          others = omega (arith, s.others, longer);
+        }
+
 -- after a get
-pub becomes_kept : (old now next : Option Held) (puts : List Node) → Becomes old now (λ h. with_nodes h puts) → Becomes now next (λ h. h)
-    → Becomes old next (λ h. with_nodes h puts)
-becomes_kept None now next puts b k = subst (λ (z : Option Held). Becomes z next (λ h. h)) b k
-becomes_kept (Some old) None next puts b k = becomes_none (Some old) next (λ h. with_nodes h puts) k
-becomes_kept (Some old) (Some now) None puts b k = tt
-becomes_kept (Some old) (Some now) (Some next) puts b k = λ p. k p ∙ b p
+pub stored_got : (old now next : Option Lasting) (puts : List Node) (name : Place) (found : Option Node) → AreStored old now puts → GetLeads now next name found
+    → AreStored old next puts
+stored_got None now next puts name found s (inl g) = subst (λ (o : Option Lasting). Becomes o next (λ h. h)) s g.1
+stored_got None now next puts name found s (inr g) = subst (λ (o : Option Lasting). Wants o next) s g.1
+stored_got (Some old) now None puts name found s g = tt
+stored_got (Some old) None (Some next) puts name found s (inl g) = absurd (let clash : Some next ≡ None = g.1 in cc)
+stored_got (Some old) None (Some next) puts name found s (inr g) = absurd (let clash : Some next ≡ None = g.1 in cc)
+stored_got (Some old) (Some now) (Some next) puts name found s (inl g) = stored_same old now next puts s g.1.0 g.1.1
+stored_got (Some old) (Some now) (Some next) puts name found s (inr g) = stored_wants old now next puts s g.1.0 g.1.1
 
 -- after a put of a node for its own name
-pub becomes_put : (old now next : Option Held) (puts : List Node) (at : Place) (n : Node) → Becomes old now (λ h. with_nodes h puts)
-    → Becomes now next (λ h. with_node h at n) → n.name ≡ at → Becomes old next (λ h. with_nodes h (puts ++ n ∷ []))
-becomes_put None now next puts at n b k own = subst (λ (z : Option Held). Becomes z next (λ h. with_node h at n)) b k
-becomes_put (Some old) None next puts at n b k own = becomes_none (Some old) next (λ h. with_nodes h (puts ++ n ∷ [])) k
-becomes_put (Some old) (Some now) None puts at n b k own = tt
-becomes_put (Some old) (Some now) (Some next) puts at n b k own = λ p.
-    k p
-    ∙ (ap (λ (x : Option Node). if same_place p at then Some n else x) (b p)
-    ∙ (ap (λ (q : Place). with_node (with_nodes old puts) q n p) (sym own) ∙ sym (one_more old puts n p)))
-
--- those that tell still have told all along
-pub along : (first now next : Option Held) (by : Held → Held) → Becomes now next by
-    → (all_along first next ≡ None) ⊎ (all_along first next ≡ all_along first now)
-along first now None by b = inl refl
-along first None (Some next) by b = absurd (let clash : Some next ≡ None = b in cc)
-along first (Some now) (Some next) by b = inr refl
-
--- what is found is what was held with these puts
-pub found_after : (old now next : Option Held) (puts : List Node) (name : Place) (found : Option Node) → Becomes old now (λ h. with_nodes h puts)
-    → Becomes now next (λ h. h) → IfSome next (λ _. IsFound now name found) → IsFoundAfter (all_along old next) puts name found
-found_after old now None puts name found b k f = tt
-found_after old None (Some next) puts name found b k f = absurd (let clash : Some next ≡ None = k in cc)
-found_after None (Some now) (Some next) puts name found b k f = tt
-found_after (Some old) (Some now) (Some next) puts name found b k f = f ∙ b name
+pub stored_more : (old now next : Option Lasting) (puts : List Node) (name : Place) (n : Node) → AreStored old now puts → PutLeads now next name n → n.name ≡ name
+    → AreStored old next (puts ++ n ∷ [])
+stored_more None now next puts name n s (inl t) own = subst (λ (o : Option Lasting). Becomes o next (λ h. with_node h name n)) s t
+stored_more None now next puts name n s (inr t) own = subst (λ (o : Option Lasting). Wants o next) s t
+stored_more (Some old) now None puts name n s t own = tt
+stored_more (Some old) None (Some next) puts name n s (inl t) own = absurd (let clash : Some next ≡ None = t in cc)
+stored_more (Some old) None (Some next) puts name n s (inr t) own = absurd (let clash : Some next ≡ None = t in cc)
+stored_more (Some old) (Some now) (Some next) puts name n s (inl t) own = stored_put old now next puts s name n own t.0 t.1
+stored_more (Some old) (Some now) (Some next) puts name n s (inr t) own = stored_lost old now next puts s name n own t.0 t.1

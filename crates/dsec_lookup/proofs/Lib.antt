@@ -3,3 +3,4 @@ pub mod HoldingLaws
 pub mod HeardLaws
 pub mod MomentLaws
 pub mod FindingLaws
+pub mod ExactLaws

@@ -1,2 +1,2 @@
-pub mod Outside
 pub mod Finding
+pub mod Outside

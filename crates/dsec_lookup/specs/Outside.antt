@@ -10,7 +10,8 @@ use Rattle.dsec_nodes.specs.Moments.{at_moment, MayCount, IsSteadyWay}
 use Rattle.dsec_nodes.specs.Machine.{Question as Asked, Input, node, stored, reply}
 use Rattle.dsec_nodes.specs.Likeness.{Likeness, but_for_times}
 use Rattle.dsec_nodes.specs.InStep.{AskedOf}
-use Rattle.dsec_node.specs.Caches.{Held, IsHeld, Keeps, Adds, IsFound, Becomes, with_node}
+use Rattle.dsec_node.specs.Caches.{Held, Lasting, IsHeld, Keeps, Adds}
+use Rattle.dsec_lookup.specs.Finding.{GetLeads, PutLeads}
 use Rattle.dsec_course.specs.Course.{CourseStep, get_node, put_node, ask_for}
 use Rattle.dsec_course.specs.Hearing.{IsOfTable}
 
@@ -18,11 +19,11 @@ use Rattle.dsec_course.specs.Hearing.{IsOfTable}
 abbrev pub replies_of : Table → Replies
 replies_of table p rtype = reply_of (find (λ entry. same_place (place entry.name) p && (entry.rtype == rtype)) table)
 
--- what a call sees of the outside: which nodes are held, where that is told, and the same, as long as none is forgotten and each get and put finds
--- memory; what the upstream has heard, where that is told; and how many questions were asked and have failed
+-- what a call sees of the outside: which nodes are held, where that is told; the same of caches that forget none, and how many gets and puts have found
+-- no memory; what the upstream has heard, where that is told; and how many questions were asked and have failed
 pub record Outside : Type 0 where
   pub held : Option Held
-  pub lasting : Option Held
+  pub lasting : Option Lasting
   pub asked : ℕ
   pub faults : ℕ
   pub heard : Option (List Entry)
@@ -93,15 +94,15 @@ faults_after before (Some octets) = before
 abbrev pub IsUnasked : Outside → Outside → Type 0
 IsUnasked before after = (after.asked ≡ before.asked) × (after.faults ≡ before.faults) × (after.heard ≡ before.heard)
 
--- A step was served by this input: a node that is held for the name, or none, and by caches that forget none and find memory it is what they hold; a
--- node put, which may be forgotten, but not by these; or the reply to the question, which the upstream's table has where that is told, and which
--- counts and is heard
+-- A step was served by this input: a node that is held for the name, or none, and by caches that forget none it is what they hold, unless they find no
+-- memory; a node put, which may be forgotten, but not by these where they find memory; or the reply to the question, which the upstream's table has
+-- where that is told, and which counts and is heard
 abbrev pub IsServed : Accepts → Option Table → Outside → Outside → CourseStep → Input → Type 0
 IsServed accepts table before after (get_node name) (node o) =
-    Keeps before.held after.held × Becomes before.lasting after.lasting (λ held. held) × IsUnasked before after
-    × IfSome after.lasting (λ _. IsFound before.lasting name o) × IfSome o (λ n. Kept accepts n × IsHeld before.held name n)
+    Keeps before.held after.held × GetLeads before.lasting after.lasting name o × IsUnasked before after
+    × IfSome o (λ n. Kept accepts n × IsHeld before.held name n)
 IsServed accepts table before after (put_node name n) stored =
-    Adds before.held after.held name n × Becomes before.lasting after.lasting (λ held. with_node held name n) × IsUnasked before after
+    Adds before.held after.held name n × PutLeads before.lasting after.lasting name n × IsUnasked before after
 IsServed accepts table before after (ask_for name rtype) (reply octets) =
     (after.held ≡ before.held) × (after.lasting ≡ before.lasting) × (after.asked ≡ risen before.asked) × (after.faults ≡ faults_after before.faults octets)
     × HeardMore before.heard after.heard (record { name = name; rtype = rtype; reply = octets } ∷ []) × IfSome table (λ t. replies_of t name rtype ≡ octets)

@@ -6,7 +6,8 @@ ghost use Rattle.std.specs.Option.{option_map};
 ghost use Rattle.dsec_spec.specs.Names.{place};
 ghost use Rattle.dsec_spec.specs.Outside.{risen};
 ghost use Rattle.dsec_nodes.specs.Nodes.{Kept};
-ghost use Rattle.dsec_node.specs.Caches.{Adds, Becomes, IsFound, IsHeld, Keeps, with_node};
+ghost use Rattle.dsec_node.specs.Caches.{Adds, IsHeld, Keeps};
+ghost use Rattle.dsec_lookup.specs.Finding.{GetLeads, PutLeads};
 ghost use Rattle.dsec_lookup.specs.Outside.{HeardMore, faults_after, replies_of};
 
 use dsec_crypto::Verifier;
@@ -17,13 +18,12 @@ use dsec_outside::{AskError, Upstream};
 use std::alloc::Global;
 use std::sync::Arc;
 
-/// The node that caches hold for a name, if they give one. Where they find no memory they give none.
-#[tactic(auto, using(crate::proofs::FindingLaws::still, crate::proofs::FindingLaws::not_still, crate::proofs::FindingLaws::becomes_none))]
+/// The node that caches hold for a name, if they give one. Where they find no memory they give none, and lose none.
+#[tactic(auto, using(crate::proofs::FindingLaws::gives_found, crate::proofs::FindingLaws::gives_none))]
 pub fn held_node<V: Verifier, C: Caches<V>>(caches: &mut C, name: &Name) -> Option<Arc<Node<V>>>
     ensures keeps { Keeps (C.held caches.old) (C.held caches.new) }
     ensures found { IfSome result (λ node. Kept V.accepts (arc_value node) × IsHeld (C.held caches.old) (place name.now) (arc_value node)) }
-    ensures given { IfSome (C.lasting caches.new) (λ _. IsFound (C.lasting caches.old) (place name.now) (option_map (λ node. arc_value node) result)) }
-    ensures lasts { Becomes (C.lasting caches.old) (C.lasting caches.new) (λ held. held) }
+    ensures given { GetLeads (C.lasting caches.old) (C.lasting caches.new) (place name.now) (option_map (λ node. arc_value node) result) }
 {
     match caches.get(name) {
         Ok(Some(node)) => {
@@ -43,10 +43,10 @@ fn rely_on<V: Verifier>(node: &Node<V>)
 }
 
 /// Holds a node for a name, where caches find memory.
-#[tactic(auto, using(crate::proofs::FindingLaws::becomes_none))]
+#[tactic(auto, using(crate::proofs::FindingLaws::takes_put, crate::proofs::FindingLaws::takes_none))]
 pub fn put_node<V: Verifier, C: Caches<V>>(caches: &mut C, name: Name, node: &Arc<Node<V>>)
     ensures adds { Adds (C.held caches.old) (C.held caches.new) (place name) (arc_value node.now) }
-    ensures lasts { Becomes (C.lasting caches.old) (C.lasting caches.new) (λ held. with_node held (place name) (arc_value node.now)) }
+    ensures stored { PutLeads (C.lasting caches.old) (C.lasting caches.new) (place name) (arc_value node.now) }
 {
     match caches.put(name, node) {
         Ok(()) => (),

@@ -1,7 +1,8 @@
 -- What caches of nodes hold (RFC 4035 4.5).
-use Rattle.std.specs.Prelude.{◌≡◌, ◌⊎◌, List, [], ◌∷◌, Option, Some, None, Bool, true, false, if◌then◌else◌}
+use Rattle.std.specs.Prelude.{◌≡◌, ◌⊎◌, ℕ, List, [], ◌∷◌, Option, Some, None, if◌then◌else◌}
 use Rattle.std.specs.Map.{lookup}
 use Rattle.dsec_spec.specs.Names.{Labels, Place, place, same_place}
+use Rattle.dsec_spec.specs.Outside.{risen}
 use Rattle.dsec_nodes.specs.Nodes.{Node}
 
 -- which node is held for a place, if one is; only finitely many places have one
@@ -38,24 +39,34 @@ Adds None new at put = new ≡ None
 Adds (Some old) None at put = ⊥
 Adds (Some old) (Some new) at put = (p : Place) (n : Node) → new p ≡ Some n → (old p ≡ Some n) ⊎ ((p ≡ at) × (n ≡ put))
 
--- by caches that forget none: the node that is found for a place is the one that is held there, and none is found where none is held
-abbrev pub IsFound : Option Held → Place → Option Node → Type 0
-IsFound None p found = Unit {0}
-IsFound (Some held) p found = found ≡ held p
+-- what caches hold that forget none, and how many of their calls have found no memory
+pub record Lasting : Type 0 where
+  pub held : Held
+  pub wants : ℕ
 
--- by caches that forget none: what is held afterwards is, by this change, what was held before, as long as they find memory; once they don't, or have
--- forgotten one, they don't tell it again
-abbrev pub Becomes : Option Held → Option Held → (Held → Held) → Type 0
+-- by caches that forget none: the node that is found for a place is the one that is held there, and none is found where none is held
+abbrev pub IsFound : Option Lasting → Place → Option Node → Type 0
+IsFound None p found = Unit {0}
+IsFound (Some it) p found = found ≡ it.held p
+
+-- by caches that forget none: a call has found memory, and what is held afterwards is, by this change, what was held before; once they have forgotten a
+-- node, they don't tell it again
+abbrev pub Becomes : Option Lasting → Option Lasting → (Held → Held) → Type 0
 Becomes None new by = new ≡ None
 Becomes (Some old) None by = Unit {0}
-Becomes (Some old) (Some new) by = (p : Place) → new p ≡ by old p
+Becomes (Some old) (Some new) by = ((p : Place) → new.held p ≡ by old.held p) × (new.wants ≡ old.wants)
 
--- the nodes that caches of one owner hold, by name, and whether each call has found memory since there was none
+-- by caches that forget none: a call has found no memory, which is counted, and what was held is held
+abbrev pub Wants : Option Lasting → Option Lasting → Type 0
+Wants None new = new ≡ None
+Wants (Some old) None = Unit {0}
+Wants (Some old) (Some new) = ((p : Place) → new.held p ≡ old.held p) × (new.wants ≡ risen old.wants)
+
+-- the nodes that caches of one owner hold, by name, and how many of their calls have found no memory since there was none
 pub record Owned : Type 0 where
   pub nodes : List (Labels × Node)
-  pub whole : Bool
+  pub wants : ℕ
 
--- what they hold, as long as each call has found memory
-abbrev pub lasting_in : Bool → List (Labels × Node) → Option Held
-lasting_in true nodes = Some (held_in nodes)
-lasting_in false nodes = None
+-- what they hold, who forget none
+abbrev pub lasting_in : List (Labels × Node) → ℕ → Option Lasting
+lasting_in nodes wants = Some (record { held = held_in nodes; wants = wants })

@@ -1,10 +1,11 @@
 //! Caches of nodes (RFC 4035 4.5).
 
-ghost use Rattle.std.specs.Prelude.{◌≡◌, [], List, map, Option, Some, None, true, false, IfOk, IfSome, OnOk, OnErr};
+ghost use Rattle.std.specs.Prelude.{◌≡◌, [], List, ℕ, map, Option, Some, IfOk, IfSome, OnOk, OnErr};
 ghost use Rattle.std.specs.Arc.{arc_value};
 ghost use Rattle.std.specs.Option.{option_map};
 ghost use Rattle.dsec_spec.specs.Names.{Place, place};
-ghost use Rattle.dsec_node.specs.Caches.{Adds, Becomes, Held, IsFound, IsHeld, Keeps, held_in, lasting_in, with_node};
+ghost use Rattle.dsec_spec.specs.Outside.{risen};
+ghost use Rattle.dsec_node.specs.Caches.{Adds, Becomes, Held, IsFound, IsHeld, Keeps, Lasting, Wants, held_in, lasting_in, with_node};
 
 use crate::node::Node;
 use dsec_crypto::Verifier;
@@ -15,13 +16,13 @@ use std::marker::Model;
 use std::sync::Arc;
 
 /// A cache of nodes. Each node that it gives is what its type says, whoever put it; whether it counts for the taker is the
-/// taker's to see. A node may be forgotten at any call; caches that forget none, and find memory, can say so.
+/// taker's to see. A node may be forgotten at any call; caches that forget none can say so.
 pub trait Caches<V: Verifier> {
     /// Which nodes are held, where that is told.
     ghost held: { Self → Option Held };
 
-    /// The same, as long as none is forgotten and each call finds memory.
-    ghost lasting: { Self → Option Held };
+    /// The same, as long as none is forgotten, and how many calls have found no memory: such a call loses nothing.
+    ghost lasting: { Self → Option Lasting };
 
     /// The node that is held for a name, if one is.
     fn get(&mut self, name: &Name) -> Result<Option<Arc<Node<V>>>, NoMemory>
@@ -29,20 +30,20 @@ pub trait Caches<V: Verifier> {
         ensures keeps { Keeps (held self.old) (held self.new) }
         ensures given { IfOk result (λ found. IsFound (lasting self.old) (place name.now) (option_map (λ node. arc_value node) found)) }
         ensures lasts { OnOk result (Becomes (lasting self.old) (lasting self.new) (λ held. held)) }
-        ensures wanting { OnErr result (lasting self.new ≡ None) };
+        ensures wanting { OnErr result (Wants (lasting self.old) (lasting self.new)) };
 
     /// Holds a node for a name, in the place of the one that is held for it, if one is.
     fn put(&mut self, name: Name, node: &Arc<Node<V>>) -> Result<(), NoMemory>
         ensures adds { Adds (held self.old) (held self.new) (place name) (arc_value node.now) }
         ensures stored { OnOk result (Becomes (lasting self.old) (lasting self.new) (λ held. with_node held (place name) (arc_value node.now))) }
-        ensures wanting { OnErr result (lasting self.new ≡ None) };
+        ensures wanting { OnErr result (Wants (lasting self.old) (lasting self.new)) };
 }
 
 /// Nodes by name, in a map of one owner, which forgets none.
 #[derive(Drop)]
 pub struct OwnedCaches<V: Verifier> {
     nodes: BTreeMap<Name, Arc<Node<V>>>,
-    whole: bool,
+    wants: u64,
 }
 
 impl<V: Verifier> Model for OwnedCaches<V> {
@@ -52,25 +53,33 @@ impl<V: Verifier> Model for OwnedCaches<V> {
 
     ghost Value = { Owned };
 
-    ghost view = { λ it. record { nodes = map (λ e. (e.0, arc_value e.1)) it.nodes.entries; whole = it.whole } };
+    ghost view = { λ it. record { nodes = map (λ e. (e.0, arc_value e.1)) it.nodes.entries; wants = it.wants } };
 }
 
 impl<V: Verifier> OwnedCaches<V> {
     /// Caches that hold nothing.
     pub fn new(alloc: Global) -> Self
-        ensures { result ≡ record { nodes = []; whole = true } }
+        ensures { result ≡ record { nodes = []; wants = 0 } }
     {
         OwnedCaches {
             nodes: BTreeMap::new(alloc),
-            whole: true,
+            wants: 0,
         }
     }
 
-    /// Whether each `get` and `put` has found memory since the caches were made, or cleared: what was put is held then.
-    pub fn is_whole(&self) -> bool
-        ensures { result ≡ self.now.whole }
+    /// How many of the calls of `get` and `put` have found no memory since the caches were made, or cleared; it stays at the greatest number. Such a call
+    /// puts nothing, and gives nothing.
+    pub fn wants(&self) -> u64
+        ensures { result ≡ self.now.wants }
     {
-        self.whole
+        self.wants
+    }
+
+    /// Counts a call that finds no memory.
+    fn count_want(&mut self)
+        ensures { self.new ≡ record { nodes = self.old.nodes; wants = risen self.old.wants } }
+    {
+        self.wants = self.wants.saturating_add(1);
     }
 
     /// The node that is held for a name, if one is.
@@ -87,7 +96,7 @@ impl<V: Verifier> OwnedCaches<V> {
     fn store(&mut self, name: Name, node: Arc<Node<V>>) -> Result<(), NoMemory>
         ensures ok { OnOk result ((p : Place) → held_in self.new.nodes p ≡ with_node (held_in self.old.nodes) (place name) (arc_value node) p) }
         ensures err { OnErr result (self.new ≡ self.old) }
-        ensures whole { self.new.whole ≡ self.old.whole }
+        ensures wants { self.new.wants ≡ self.old.wants }
     {
         self.nodes.insert(name, node)?;
         Ok(())
@@ -97,7 +106,7 @@ impl<V: Verifier> OwnedCaches<V> {
     fn hold(&mut self, name: Name, node: &Arc<Node<V>>) -> Result<(), NoMemory>
         ensures ok { OnOk result ((p : Place) → held_in self.new.nodes p ≡ with_node (held_in self.old.nodes) (place name) (arc_value node.now) p) }
         ensures err { OnErr result (self.new ≡ self.old) }
-        ensures whole { self.new.whole ≡ self.old.whole }
+        ensures wants { self.new.wants ≡ self.old.wants }
     {
         let copy = Arc::try_clone(node)?;
         self.store(name, copy)
@@ -105,32 +114,32 @@ impl<V: Verifier> OwnedCaches<V> {
 
     /// Forgets all nodes.
     pub fn clear(&mut self)
-        ensures { self.new ≡ record { nodes = []; whole = true } }
+        ensures { self.new ≡ record { nodes = []; wants = 0 } }
     {
         self.nodes.clear();
-        self.whole = true;
+        self.wants = 0;
     }
 }
 
 impl<V: Verifier> Caches<V> for OwnedCaches<V> {
     ghost held = { λ caches. Some (held_in caches.nodes) };
 
-    ghost lasting = { λ caches. lasting_in caches.whole caches.nodes };
+    ghost lasting = { λ caches. lasting_in caches.nodes caches.wants };
 
     fn get(&mut self, name: &Name) -> Result<Option<Arc<Node<V>>>, NoMemory>
         ensures exact { IfOk result (λ found. option_map (λ node. arc_value node) found ≡ held_in self.old.nodes (place name.now)) }
         ensures unchanged { OnOk result (self.new ≡ self.old) }
-        ensures err { OnErr result (self.new ≡ record { nodes = self.old.nodes; whole = false }) }
+        ensures err { OnErr result (self.new ≡ record { nodes = self.old.nodes; wants = risen self.old.wants }) }
         ensures found { IfOk result (λ found. IfSome found (λ node. IsHeld (Some (held_in self.old.nodes)) (place name.now) (arc_value node))) }
         ensures keeps { Keeps (Some (held_in self.old.nodes)) (Some (held_in self.new.nodes)) }
-        ensures given { IfOk result (λ found. IsFound (lasting_in self.old.whole self.old.nodes) (place name.now) (option_map (λ node. arc_value node) found)) }
-        ensures lasts { OnOk result (Becomes (lasting_in self.old.whole self.old.nodes) (lasting_in self.new.whole self.new.nodes) (λ held. held)) }
-        ensures wanting { OnErr result (lasting_in self.new.whole self.new.nodes ≡ None) }
+        ensures given { IfOk result (λ found. IsFound (lasting_in self.old.nodes self.old.wants) (place name.now) (option_map (λ node. arc_value node) found)) }
+        ensures lasts { OnOk result (Becomes (lasting_in self.old.nodes self.old.wants) (lasting_in self.new.nodes self.new.wants) (λ held. held)) }
+        ensures wanting { OnErr result (Wants (lasting_in self.old.nodes self.old.wants) (lasting_in self.new.nodes self.new.wants)) }
     {
         match self.look_up(name) {
             Ok(found) => Ok(found),
             Err(NoMemory) => {
-                self.whole = false;
+                self.count_want();
                 Err(NoMemory)
             }
         }
@@ -138,16 +147,16 @@ impl<V: Verifier> Caches<V> for OwnedCaches<V> {
 
     fn put(&mut self, name: Name, node: &Arc<Node<V>>) -> Result<(), NoMemory>
         ensures ok { OnOk result ((p : Place) → held_in self.new.nodes p ≡ with_node (held_in self.old.nodes) (place name) (arc_value node.now) p) }
-        ensures kept { OnOk result (self.new.whole ≡ self.old.whole) }
-        ensures err { OnErr result (self.new ≡ record { nodes = self.old.nodes; whole = false }) }
+        ensures kept { OnOk result (self.new.wants ≡ self.old.wants) }
+        ensures err { OnErr result (self.new ≡ record { nodes = self.old.nodes; wants = risen self.old.wants }) }
         ensures adds { Adds (Some (held_in self.old.nodes)) (Some (held_in self.new.nodes)) (place name) (arc_value node.now) }
-        ensures stored { OnOk result (Becomes (lasting_in self.old.whole self.old.nodes) (lasting_in self.new.whole self.new.nodes) (λ held. with_node held (place name) (arc_value node.now))) }
-        ensures wanting { OnErr result (lasting_in self.new.whole self.new.nodes ≡ None) }
+        ensures stored { OnOk result (Becomes (lasting_in self.old.nodes self.old.wants) (lasting_in self.new.nodes self.new.wants) (λ held. with_node held (place name) (arc_value node.now))) }
+        ensures wanting { OnErr result (Wants (lasting_in self.old.nodes self.old.wants) (lasting_in self.new.nodes self.new.wants)) }
     {
         match self.hold(name, node) {
             Ok(()) => Ok(()),
             Err(NoMemory) => {
-                self.whole = false;
+                self.count_want();
                 Err(NoMemory)
             }
         }

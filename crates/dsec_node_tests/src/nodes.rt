@@ -220,10 +220,10 @@ fn caches_give_what_was_put(rt: HostRuntime) {
     assert!(rt; is_held(alloc, &mut caches, "A.example."));
     assert!(rt; is_held(alloc, &mut caches, "b.example."));
     assert!(rt; !is_held(alloc, &mut caches, "example."));
-    assert!(rt; caches.is_whole());
+    assert!(rt; caches.wants() == 0);
     caches.clear();
     assert!(rt; !is_held(alloc, &mut caches, "a.example."));
-    assert!(rt; caches.is_whole());
+    assert!(rt; caches.wants() == 0);
 }
 
 /// Whether the keys of a set are the one key, of the tag 1296, in data and in a link.

@@ -14,8 +14,7 @@ use Rattle.dsec_course.specs.Course.{Way, at_once, by_walk, way_of}
 use Rattle.dsec_course.specs.Hearing.{CountsAt}
 use Rattle.dsec_course.proofs.AgreeingLaws.{target_below}
 use Rattle.dsec_lookup.specs.Outside.{Outside, WasHeld, HoldsAlike, AreApart}
-use Rattle.dsec_node.specs.Caches.{Held}
-use Rattle.dsec_lookup.specs.Finding.{all_along}
+use Rattle.dsec_node.specs.Caches.{Lasting}
 use Rattle.dsec_lookup.proofs.HoldingLaws.{apart_holds}
 use Rattle.dsec_by_node.specs.Answers.{Told}
 use Rattle.dsec_single.specs.Trips.{put_in, first_trip, after_given}
@@ -24,11 +23,11 @@ use Rattle.dsec_single.proofs.EndLaws.{needs_walk}
 use Rattle.dsec_single.proofs.TripLaws.{given_holds, trip_begins}
 
 -- what a group's walk has put counts where it was judged
-judged_counting : (w : World) (group : Group) (table : Option Table) (before : Outside) (lasting : Option Held) (asked : List Asked) (puts : List Node) (told : Option Told) (x : Way)
-    → way_of w group ≡ x → WasJudged w group (WasHeld w.accepts before.held) lasting asked puts told x → (n : Node) → Contains puts n
+judged_counting : (w : World) (group : Group) (table : Option Table) (before : Outside) (first last : Option Lasting) (asked : List Asked) (puts : List Node) (told : Option Told) (x : Way)
+    → way_of w group ≡ x → WasJudged w group (WasHeld w.accepts before.held) first last asked puts told x → (n : Node) → Contains puts n
     → (top : Place) × CountsAt w n top
-judged_counting w group table before lasting asked puts told (at_once j) e h n there = absurd (not_in_none n (subst (λ (ns : List Node). Contains ns n) h.1 there))
-judged_counting w group table before lasting asked puts told (by_walk top) e h n there =
+judged_counting w group table before first last asked puts told (at_once j) e h n there = absurd (not_in_none n (subst (λ (ns : List Node). Contains ns n) h.1 there))
+judged_counting w group table before first last asked puts told (by_walk top) e h n there =
     let target : Place = target_of group (Some top) in
     let held : Node → Type 0 = WasHeld w.accepts before.held in
     let below = target_below w group top (needs_walk w group top e).from_island in
@@ -39,4 +38,4 @@ judged_counting w group table before lasting asked puts told (by_walk top) e h n
 pub single_apart : (like : Likeness) (w u : World) (replies : Replies) (group : Group) (table : Option Table) (before after : Outside) (told : Option Told)
     → AreApart w u → IsSingleCall u group table before after told → HoldsAlike like w replies before.held → HoldsAlike like w replies after.held
 single_apart like w u replies group table before after told apart c =
-    apart_holds like w u replies before.held after.held c.puts apart c.holds_more (judged_counting u group table before (all_along before.lasting after.lasting) c.asked c.puts told (way_of u group) refl c.judged)
+    apart_holds like w u replies before.held after.held c.puts apart c.holds_more (judged_counting u group table before before.lasting after.lasting c.asked c.puts told (way_of u group) refl c.judged)

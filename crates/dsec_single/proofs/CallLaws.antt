@@ -7,7 +7,7 @@ use Rattle.dsec_spec.specs.Groups.{Group}
 use Rattle.dsec_nodes.specs.World.{World, Replies, moment}
 use Rattle.dsec_nodes.specs.Nodes.{Node}
 use Rattle.dsec_nodes.specs.Walk.{node_of}
-use Rattle.dsec_nodes.specs.Machine.{Step, started}
+use Rattle.dsec_nodes.specs.Machine.{started}
 use Rattle.dsec_nodes.specs.Likeness.{but_for_times, Alike}
 use Rattle.dsec_nodes.specs.InStep.{AskedOf, GotOf, StepIs}
 use Rattle.dsec_nodes.specs.Judging.{Judged, by_node, target_of, judged_of}
@@ -18,8 +18,7 @@ use Rattle.dsec_course.proofs.GroupLaws.{NeedsWalk, WayIs, way_is, by_its_node}
 use Rattle.dsec_lookup.specs.Outside.{Outside, WasHeld, HoldsTable, replies_of}
 use Rattle.dsec_lookup.proofs.CountLaws.{counted_none}
 use Rattle.dsec_lookup.proofs.HoldingLaws.{more_none, held_of_table, holds_after}
-use Rattle.dsec_lookup.specs.Finding.{all_along}
-use Rattle.dsec_lookup.proofs.FindingLaws.{becomes_same}
+use Rattle.dsec_lookup.proofs.FindingLaws.{stored_none}
 use Rattle.dsec_by_node.specs.Answers.{answer_by, Told}
 use Rattle.dsec_by_node.specs.WithNode.{IsShownBy}
 use Rattle.dsec_single.specs.Trips.{Trip, put_in, first_trip, IsTrip}
@@ -67,7 +66,7 @@ module _ (w : World) (group : Group) (table : Option Table) (before after : Outs
         holds_more = s.holds_more;
         stores = s.lasts;
         wanting = wanting;
-        judged = subst (WasJudged w group (WasHeld w.accepts before.held) (all_along before.lasting after.lasting) t.walk.asked s.stored told) (sym way) (record {
+        judged = subst (WasJudged w group (WasHeld w.accepts before.held) before.lasting after.lasting t.walk.asked s.stored told) (sym way) (record {
           inputs = s.inputs;
           given = s.given;
           found = s.found;
@@ -141,9 +140,9 @@ module _ (w : World) (group : Group) (table : Option Table) (before : Outside) (
         few = omega arith;
         puts = [];
         holds_more = more_none before.held;
-        stores = becomes_same before.lasting;
+        stores = stored_none before.lasting;
         wanting = wanting;
-        judged = subst (WasJudged w group (WasHeld w.accepts before.held) (all_along before.lasting before.lasting) [] [] told) (sym way) (refl, refl, tells, bare);
+        judged = subst (WasJudged w group (WasHeld w.accepts before.held) before.lasting before.lasting [] [] told) (sym way) (refl, refl, refl, tells, bare);
         agrees = λ replies h asked. record {
           tells = subst (λ (x : Judged). Tells (answer_by group (moment w) x.finding) told) (sym (once.same replies)) tells;
           shows = subst (ShowsOn w replies group told) (sym way) (unshown replies j told bare);

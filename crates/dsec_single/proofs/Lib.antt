@@ -11,3 +11,4 @@ pub mod CallLaws
 pub mod SoundLaws
 pub mod ClosingLaws
 pub mod ApartLaws
+pub mod WholeLaws

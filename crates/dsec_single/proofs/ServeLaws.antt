@@ -1,5 +1,5 @@
 -- A walk goes on by each step that is served, and its questions are counted.
-use Rattle.std.proofs.Common.{◌≡◌, ◌⊎◌, inl, inr, ℕ, ◌+◌, ◌-◌, ◌*◌, ◌≤◌, List, [], ◌∷◌, ◌++◌, length, take, Option, Some, None, IfSome, refl, sym, ap, ◌∙◌, subst, arith, append-nil}
+use Rattle.std.proofs.Common.{◌≡◌, ℕ, ◌+◌, ◌-◌, ◌*◌, ◌≤◌, List, [], ◌∷◌, ◌++◌, length, take, Option, Some, None, IfSome, refl, sym, ap, ◌∙◌, subst, arith, append-nil}
 use Rattle.std.specs.Prelude.{Contains}
 use Rattle.std.proofs.lemmas.List.{length-append}
 use Rattle.dsec_spec.specs.Names.{Place}
@@ -7,20 +7,20 @@ use Rattle.dsec_spec.specs.Outside.{Table, risen}
 use Rattle.dsec_spec.proofs.Members.{first_in, in_front, in_back}
 use Rattle.dsec_nodes.specs.World.{World}
 use Rattle.dsec_nodes.specs.Nodes.{Node, Kept}
-use Rattle.dsec_nodes.specs.Machine.{Question as Asked, Step, node_get, node_put, ask, done, Input, begin, node, stored, reply, started, asked_type, Answers}
+use Rattle.dsec_nodes.specs.Machine.{Question as Asked, Step, node_get, node_put, ask, Input, begin, node, stored, reply, started, asked_type, Answers}
 use Rattle.dsec_nodes.proofs.CountLaws.{asked_at_most}
-use Rattle.dsec_node.specs.Caches.{Held, IsHeld, Adds, Becomes, with_node, with_nodes}
+use Rattle.dsec_node.specs.Caches.{Held, Lasting, IsHeld, Adds}
 use Rattle.dsec_course.specs.Course.{get_node, put_node, ask_for}
 use Rattle.dsec_course.specs.Hearing.{GivenFrom}
 use Rattle.dsec_course.specs.Justified.{most_on}
 use Rattle.dsec_course.proofs.WalkPuts.{PutUnder}
 use Rattle.dsec_course.proofs.WalkSteps.{WalkAwaits, asked_after, advances}
 use Rattle.dsec_lookup.specs.Outside.{Outside, AreCounted, WasHeld, HoldsMore, IsServed}
-use Rattle.dsec_lookup.specs.Finding.{all_along}
+use Rattle.dsec_lookup.specs.Finding.{LeadTo, AreStored}
 use Rattle.dsec_lookup.proofs.CountLaws.{counted_more, counted_same, counted_none, counted_lost}
 use Rattle.dsec_lookup.proofs.HoldingLaws.{more_none, more_puts, more_kept, more_added, given_from}
-use Rattle.dsec_lookup.proofs.FindingLaws.{becomes_same, becomes_kept, becomes_put, along, found_after}
-use Rattle.dsec_single.specs.Trips.{Trip, put_in, first_trip, trip_on, after_given, IsOfCaches, AreOfCaches, IsTrip}
+use Rattle.dsec_lookup.proofs.FindingLaws.{lead_on, led_so_far, stored_none, stored_got, stored_more}
+use Rattle.dsec_single.specs.Trips.{Trip, put_in, first_trip, trip_on, after_given, calls_for, calls_in, IsTrip}
 use Rattle.dsec_single.proofs.TripLaws.{HoldsTrip, trip_begins, trip_goes_on, given_holds, given_more, after_more}
 
 -- what was asked after an input that answers
@@ -68,44 +68,26 @@ trip_first w table before top target below le =
       stored = [];
       puts_are = refl;
       holds_more = more_none before.held;
-      found = tt;
-      lasts = becomes_same before.lasting;
+      found = refl;
+      lasts = stored_none before.lasting;
     }
 
--- one more input that is of the caches
-of_caches_more : (w : World) (lasting : Option Held) (inputs : List Input) (t : Trip) (i : Input) → AreOfCaches w lasting t inputs
-    → IsOfCaches lasting (after_given w t inputs).puts (after_given w t inputs).step i → AreOfCaches w lasting t (inputs ++ i ∷ [])
-of_caches_more w lasting [] t i h f = (f, tt)
-of_caches_more w lasting (j ∷ inputs) t i h f = (h.0, of_caches_more w lasting inputs (trip_on w t j) i h.1 f)
-
--- where caches may forget, or don't tell, nothing is said
-no_caches : (puts : List Node) (step : Step) (i : Input) → IsOfCaches None puts step i
-no_caches puts (node_get name) (node o) = tt
-no_caches puts (node_get name) begin = tt
-no_caches puts (node_get name) stored = tt
-no_caches puts (node_get name) (reply octets) = tt
-no_caches puts (node_put name n) i = tt
-no_caches puts (ask name rtype) i = tt
-no_caches puts (done n) i = tt
-
-of_no_caches : (w : World) (inputs : List Input) (t : Trip) → AreOfCaches w None t inputs
-of_no_caches w [] t = tt
-of_no_caches w (i ∷ inputs) t = (no_caches t.puts t.step i, of_no_caches w inputs (trip_on w t i))
-
--- what was found is so still, or caches no longer tell
-found_still : (w : World) (now next : Option Held) (inputs : List Input) (t : Trip) → (next ≡ None) ⊎ (next ≡ now) → AreOfCaches w now t inputs
-    → AreOfCaches w next t inputs
-found_still w now next inputs t (inl none) f = subst (λ (o : Option Held). AreOfCaches w o t inputs) (sym none) (of_no_caches w inputs t)
-found_still w now next inputs t (inr same) f = subst (λ (o : Option Held). AreOfCaches w o t inputs) (sym same) f
+-- the calls of one more input
+calls_more : (w : World) (first now next : Option Lasting) (inputs : List Input) (t : Trip) (i : Input) → LeadTo first (calls_in w t inputs) now
+    → LeadTo now (calls_for (after_given w t inputs).step i) next → LeadTo first (calls_in w t (inputs ++ i ∷ [])) next
+calls_more w first now next [] t i h f =
+    lead_on first next next (calls_for t.step i) [] (subst (λ (o : Option Lasting). LeadTo o (calls_for t.step i) next) h f) refl
+calls_more w first now next (j ∷ inputs) t i h f =
+    let so_far = led_so_far first now (calls_for t.step j) (calls_in w (trip_on w t j) inputs) h in
+    lead_on first so_far.0 next (calls_for t.step j) (calls_in w (trip_on w t j) (inputs ++ i ∷ [])) so_far.1
+    (calls_more w so_far.0 now next inputs (trip_on w t j) i so_far.2 f)
 
 -- it goes on by an input that answers
 on_by : (w : World) (table : Option Table) (before now next : Outside) (top target : Place) (t : Trip) (i : Input)
     → IsTrip w table before now top target 0 t → Answers t.walk.phase i → GivenFrom (WasHeld w.accepts before.held) t.puts i
     → AreCounted table before next (trip_on w t i).walk.asked 0 → HoldsMore before.held next.held t.puts
-    → (all_along before.lasting next.lasting ≡ None) ⊎ (all_along before.lasting next.lasting ≡ all_along before.lasting now.lasting)
-    → IsOfCaches (all_along before.lasting next.lasting) t.puts t.step i
-    → Becomes before.lasting next.lasting (λ h. with_nodes h t.puts) → IsTrip w table before next top target 0 (trip_on w t i)
-on_by w table before now next top target t i s a from counted more same found lasts =
+    → LeadTo now.lasting (calls_for t.step i) next.lasting → AreStored before.lasting next.lasting t.puts → IsTrip w table before next top target 0 (trip_on w t i)
+on_by w table before now next top target t i s a from counted more found lasts =
     let held : Node → Type 0 = WasHeld w.accepts before.held in
     let first : Trip = first_trip w top target in
     let h = trip_goes_on w held top target t i (λ n x. x.0) (trip_holds w table before now top target 0 t s) a from in
@@ -122,9 +104,8 @@ on_by w table before now next top target t i s a from counted more same found la
       stored = t.puts;
       puts_are = refl;
       holds_more = more;
-      found = of_caches_more w (all_along before.lasting next.lasting) s.inputs first i
-          (found_still w (all_along before.lasting now.lasting) (all_along before.lasting next.lasting) s.inputs first same s.found)
-          (subst (λ (x : Trip). IsOfCaches (all_along before.lasting next.lasting) x.puts x.step i) (sym s.comes_to) found);
+      found = calls_more w before.lasting now.lasting next.lasting s.inputs first i s.found
+          (subst (λ (x : Trip). LeadTo now.lasting (calls_for x.step i) next.lasting) (sym s.comes_to) found);
       lasts = lasts;
     }
 
@@ -163,10 +144,12 @@ module _ (w : World) (table : Option Table) (before now next : Outside) (top tar
   none_more x e none = sym (append-nil s.stored) ∙ (ap (λ (ns : List Node). s.stored ++ ns) (sym none) ∙ done_so x e)
 
   -- a step that puts nothing leaves it
-  kept_so : (x : Step) → t.step ≡ x → put_in x ≡ [] → Becomes now.lasting next.lasting (λ h. h) → Becomes before.lasting next.lasting (λ h. with_nodes h t.puts)
-  kept_so x e none k =
-      subst (λ (ns : List Node). Becomes before.lasting next.lasting (λ h. with_nodes h ns)) (none_more x e none)
-      (becomes_kept before.lasting now.lasting next.lasting s.stored s.lasts k)
+  kept_so : (x : Step) → t.step ≡ x → put_in x ≡ [] → AreStored before.lasting next.lasting s.stored → AreStored before.lasting next.lasting t.puts
+  kept_so x e none k = subst (AreStored before.lasting next.lasting) (none_more x e none) k
+
+  -- the calls of a step
+  by_calls : (x : Step) (i : Input) → t.step ≡ x → LeadTo now.lasting (calls_for x i) next.lasting → LeadTo now.lasting (calls_for t.step i) next.lasting
+  by_calls x i e k = subst (λ (z : Step). LeadTo now.lasting (calls_for z i) next.lasting) (sym e) k
 
   -- a node is put for its own name, and is among the puts
   own : (name : Place) (n : Node) → t.step ≡ node_put name n → n.name ≡ name
@@ -183,24 +166,20 @@ module _ (w : World) (table : Option Table) (before now next : Outside) (top tar
       → IsTrip w table before next top target 0 (trip_on w t (node o))
   trip_gets name o e y =
       on_by w table before now next top target t (node o) s (waits (node_get name) e o)
-      (subst (λ (ns : List Node). GivenFrom (WasHeld w.accepts before.held) ns (node o)) (none_more (node_get name) e refl) (from_held name o y.4))
+      (subst (λ (ns : List Node). GivenFrom (WasHeld w.accepts before.held) ns (node o)) (none_more (node_get name) e refl) (from_held name o y.3))
       (unasked (node o) (waits (node_get name) e o) refl y.2.0 y.2.1 y.2.2)
       (subst (HoldsMore before.held next.held) (none_more (node_get name) e refl) (more_kept before.held now.held next.held s.stored s.holds_more y.0))
-      (along before.lasting now.lasting next.lasting (λ h. h) y.1)
-      (subst (λ (z : Step). IsOfCaches (all_along before.lasting next.lasting) t.puts z (node o)) (sym e)
-      (subst (λ (ns : List Node). IsOfCaches (all_along before.lasting next.lasting) ns (node_get name) (node o)) (none_more (node_get name) e refl)
-      (found_after before.lasting now.lasting next.lasting s.stored name o s.lasts y.1 y.3)))
-      (kept_so (node_get name) e refl y.1)
+      (by_calls (node_get name) (node o) e (next.lasting, y.1, refl))
+      (kept_so (node_get name) e refl (stored_got before.lasting now.lasting next.lasting s.stored name o s.lasts y.1))
 
   -- a node is put
   pub trip_puts : (name : Place) (n : Node) → t.step ≡ node_put name n → IsServed w.accepts table now next (put_node name n) stored
       → IsTrip w table before next top target 0 (trip_on w t stored)
   trip_puts name n e y =
       on_by w table before now next top target t stored s (waits (node_put name n) e) tt (unasked stored (waits (node_put name n) e) refl y.2.0 y.2.1 y.2.2)
-      (added name n e y.0) (along before.lasting now.lasting next.lasting (λ h. with_node h name n) y.1)
-      (subst (λ (z : Step). IsOfCaches (all_along before.lasting next.lasting) t.puts z stored) (sym e) tt)
-      (subst (λ (ns : List Node). Becomes before.lasting next.lasting (λ h. with_nodes h ns)) (done_so (node_put name n) e)
-      (becomes_put before.lasting now.lasting next.lasting s.stored name n s.lasts y.1 (own name n e)))
+      (added name n e y.0) (by_calls (node_put name n) stored e (next.lasting, y.1, refl))
+      (subst (AreStored before.lasting next.lasting) (done_so (node_put name n) e)
+      (stored_more before.lasting now.lasting next.lasting s.stored name n s.lasts y.1 (own name n e)))
 
   -- a reply is heard
   pub trip_hears : (name : Place) (rtype : ℕ) (octets : Option (List ℕ)) → t.step ≡ ask name rtype
@@ -210,9 +189,8 @@ module _ (w : World) (table : Option Table) (before now next : Outside) (top tar
       (subst (λ (qs : List Asked). AreCounted table before next qs 0) (sym (asked_one name rtype octets e))
       (counted_more table before now next t.walk.asked name rtype octets s.counted y.2 y.3 y.4 y.5))
       (subst (λ (z : Option Held). HoldsMore before.held z t.puts) (sym y.0) (subst (HoldsMore before.held now.held) (none_more (ask name rtype) e refl) s.holds_more))
-      (inr (ap (all_along before.lasting) y.1))
-      (subst (λ (z : Step). IsOfCaches (all_along before.lasting next.lasting) t.puts z (reply octets)) (sym e) tt)
-      (kept_so (ask name rtype) e refl (subst (λ (z : Option Held). Becomes now.lasting z (λ h. h)) (sym y.1) (becomes_same now.lasting)))
+      (by_calls (ask name rtype) (reply octets) e y.1)
+      (kept_so (ask name rtype) e refl (subst (λ (z : Option Lasting). AreStored before.lasting z s.stored) (sym y.1) s.lasts))
 
   -- a question finds no memory
   pub trip_lost : (name : Place) (rtype : ℕ) → t.step ≡ ask name rtype → next.held ≡ now.held → next.lasting ≡ now.lasting → next.asked ≡ risen now.asked
@@ -234,6 +212,6 @@ module _ (w : World) (table : Option Table) (before now next : Outside) (top tar
         stored = s.stored;
         puts_are = s.puts_are;
         holds_more = subst (λ (z : Option Held). HoldsMore before.held z s.stored) (sym same) s.holds_more;
-        found = subst (λ (z : Option Held). AreOfCaches w (all_along before.lasting z) (first_trip w top target) s.inputs) (sym kept) s.found;
-        lasts = subst (λ (z : Option Held). Becomes before.lasting z (λ g. with_nodes g s.stored)) (sym kept) s.lasts;
+        found = subst (λ (z : Option Lasting). LeadTo before.lasting (calls_in w (first_trip w top target) s.inputs) z) (sym kept) s.found;
+        lasts = subst (λ (z : Option Lasting). AreStored before.lasting z s.stored) (sym kept) s.lasts;
       }

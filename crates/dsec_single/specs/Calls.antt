@@ -14,12 +14,12 @@ use Rattle.dsec_nodes.specs.InStep.{AskedOf}
 use Rattle.dsec_nodes.specs.Judging.{by_node, target_of, judged_of}
 use Rattle.dsec_course.specs.Course.{Way, at_once, by_walk, way_of}
 use Rattle.dsec_course.specs.Justified.{most_on}
-use Rattle.dsec_node.specs.Caches.{Held, Becomes, with_nodes}
+use Rattle.dsec_node.specs.Caches.{Lasting}
 use Rattle.dsec_lookup.specs.Outside.{Outside, AreCounted, WasHeld, HoldsMore, HoldsAlike, HoldsTable}
-use Rattle.dsec_lookup.specs.Finding.{all_along}
+use Rattle.dsec_lookup.specs.Finding.{LeadTo, AreStored}
 use Rattle.dsec_by_node.specs.Answers.{Answer, answer_by, Told}
 use Rattle.dsec_by_node.specs.WithNode.{IsShownBy}
-use Rattle.dsec_single.specs.Trips.{put_in, first_trip, AreGiven, AreOfCaches, after_given}
+use Rattle.dsec_single.specs.Trips.{put_in, first_trip, AreGiven, calls_in, after_given}
 
 -- the zone that is to have signed a group, by how it is judged; the root for one of signatures alone (RFC 4035 5.3.1)
 abbrev pub zone_on : Group → Way → Place
@@ -68,22 +68,22 @@ ShowsOn w replies group (Some told) (by_walk top) = IsShownBy w group (node_of w
 ShowsOn w replies group None way = Unit {0}
 
 -- The questions, with their replies, and the nodes that were put are those of a walk from the island to the group's zone, and what is told is that of
--- its end, or none by a step that isn't taken any more: it was given inputs, whose nodes were held when the call began or were put on the way, and are what
--- caches that forget none, and find memory, held then (RFC 4035 4.3, 5)
-pub record WasWalked (w : World) (group : Group) (held : Node → Type 0) (lasting : Option Held) (top : Place) (asked : List Asked) (puts : List Node) (told : Option Told) : Type 0 where
+-- its end, or none by a step that isn't taken any more: it was given inputs, whose nodes were held when the call began or were put on the way; caches that
+-- forget none gave at each get what they held then, if they found memory (RFC 4035 4.3, 5)
+pub record WasWalked (w : World) (group : Group) (held : Node → Type 0) (first last : Option Lasting) (top : Place) (asked : List Asked) (puts : List Node) (told : Option Told) : Type 0 where
   pub inputs : List Input
   pub given : AreGiven w held (first_trip w top (target_of group (Some top))) inputs
-  pub found : AreOfCaches w lasting (first_trip w top (target_of group (Some top))) inputs
+  pub found : LeadTo first (calls_in w (first_trip w top (target_of group (Some top))) inputs) last
   pub are : asked ≡ (after_given w (first_trip w top (target_of group (Some top))) inputs).walk.asked
   pub puts_are : puts ++ put_in (after_given w (first_trip w top (target_of group (Some top))) inputs).step
       ≡ (after_given w (first_trip w top (target_of group (Some top))) inputs).puts
   pub tells : TellsAt w group (after_given w (first_trip w top (target_of group (Some top))) inputs).step told
 
 -- the group was judged in its way: at once, and nothing was asked, put or shown, or by a walk (RFC 4035 4.3)
-abbrev pub WasJudged : World → Group → (Node → Type 0) → Option Held → List Asked → List Node → Option Told → Way → Type 0
-WasJudged w group held lasting asked puts told (at_once j) =
-    (asked ≡ []) × (puts ≡ []) × Tells (answer_by group (moment w) j.finding) told × IfSome told (λ it. it.shown ≡ None)
-WasJudged w group held lasting asked puts told (by_walk top) = WasWalked w group held lasting top asked puts told
+abbrev pub WasJudged : World → Group → (Node → Type 0) → Option Lasting → Option Lasting → List Asked → List Node → Option Told → Way → Type 0
+WasJudged w group held first last asked puts told (at_once j) =
+    (asked ≡ []) × (puts ≡ []) × (last ≡ first) × Tells (answer_by group (moment w) j.finding) told × IfSome told (λ it. it.shown ≡ None)
+WasJudged w group held first last asked puts told (by_walk top) = WasWalked w group held first last top asked puts told
 
 -- at most one question finds no memory, and then neither does the call
 abbrev pub IsWanting : Option Told → ℕ → Type 0
@@ -98,7 +98,7 @@ pub record AgreesOn (w : World) (group : Group) (after : Outside) (told : Option
   pub holds : HoldsTable w replies after.held
 
 -- What a call promises: there is a list of its questions with their replies, and one of the nodes that it put. The questions are counted, and few;
--- no other node is held afterwards that wasn't before, and by caches that forget none, and find memory, all that were put are held;
+-- no other node is held afterwards that wasn't before, and by caches that forget none all that were put are held but those that have found no memory;
 -- the group was judged by them, and where all that was held and heard is of one table what is
 -- told is that of the table; where it is wholly of it, so is all that is held afterwards. An upstream that tells nothing has many tables: by each of
 -- them that has these replies, it is that of the table (RFC 4033 5, RFC 4035 4.3, 4.5, 5)
@@ -109,8 +109,8 @@ pub record IsSingleCall (w : World) (group : Group) (table : Option Table) (befo
   pub few : length asked + lost ≤ most_asked_for w group
   pub puts : List Node
   pub holds_more : HoldsMore before.held after.held puts
-  pub stores : Becomes before.lasting after.lasting (λ held. with_nodes held puts)
+  pub stores : AreStored before.lasting after.lasting puts
   pub wanting : IsWanting told lost
-  pub judged : WasJudged w group (WasHeld w.accepts before.held) (all_along before.lasting after.lasting) asked puts told (way_of w group)
+  pub judged : WasJudged w group (WasHeld w.accepts before.held) before.lasting after.lasting asked puts told (way_of w group)
   pub agrees : (replies : Replies) → HoldsTable w replies before.held → AskedOf replies asked → AgreesOn w group after told replies
   pub stays : (like : Likeness) (replies : Replies) → HoldsAlike like w replies before.held → AskedOf replies asked → HoldsAlike like w replies after.held

@@ -4,12 +4,11 @@ use Rattle.dsec_spec.specs.Names.{Place}
 use Rattle.dsec_spec.specs.Outside.{Table}
 use Rattle.dsec_nodes.specs.World.{World}
 use Rattle.dsec_nodes.specs.Nodes.{Node}
-use Rattle.dsec_nodes.specs.Machine.{Walking, Step, node_get, node_put, ask, done, Input, begin, node, started, Answers, advanced}
+use Rattle.dsec_nodes.specs.Machine.{Walking, Step, node_get, node_put, ask, done, Input, begin, node, stored, started, Answers, advanced}
 use Rattle.dsec_course.specs.Hearing.{GivenFrom}
 use Rattle.dsec_course.specs.Justified.{most_on}
-use Rattle.dsec_node.specs.Caches.{Held, Becomes, with_nodes}
 use Rattle.dsec_lookup.specs.Outside.{Outside, AreCounted, WasHeld, HoldsMore}
-use Rattle.dsec_lookup.specs.Finding.{all_along, IsFoundAfter}
+use Rattle.dsec_lookup.specs.Finding.{CacheCall, got, put, LeadTo, AreStored}
 
 -- how far a walk has come, its pending step, and the nodes that it has put, in order
 pub record Trip : Type 0 where
@@ -46,19 +45,20 @@ abbrev pub after_given : World → Trip → List Input → Trip
 after_given w t [] = t
 after_given w t (i ∷ inputs) = after_given w (trip_on w t i) inputs
 
--- what is given where a step asks for a node is what caches that forget none hold once these nodes are put
-abbrev pub IsOfCaches : Option Held → List Node → Step → Input → Type 0
-IsOfCaches lasting puts (node_get name) (node found) = IsFoundAfter lasting puts name found
-IsOfCaches lasting puts step input = Unit {0}
+-- the calls to caches that answer a step of a walk
+abbrev pub calls_for : Step → Input → List CacheCall
+calls_for (node_get name) (node found) = got name found ∷ []
+calls_for (node_put name n) stored = put name n ∷ []
+calls_for step input = []
 
--- each node that is given where one is asked for is what caches that forget none hold then for its name: what they held, and what was put since
-abbrev pub AreOfCaches : World → Option Held → Trip → List Input → Type 0
-AreOfCaches w lasting t [] = Unit {0}
-AreOfCaches w lasting t (i ∷ inputs) = IsOfCaches lasting t.puts t.step i × AreOfCaches w lasting (trip_on w t i) inputs
+-- and those by which the steps of a walk were answered
+abbrev pub calls_in : World → Trip → List Input → List CacheCall
+calls_in w t [] = []
+calls_in w t (i ∷ inputs) = calls_for t.step i ++ calls_in w (trip_on w t i) inputs
 
--- A walk from an island to a name has come so far: it began and was given inputs, whose nodes were held when the call began or were put on the way,
--- and are what caches that forget none, and find memory, hold; its questions are counted, beside so many that found no memory, and what is held now was
--- held then or was put, but for the node of the pending step, and by these caches it is that with what was put
+-- A walk from an island to a name has come so far: it began and was given inputs, whose nodes were held when the call began or were put on the way; its
+-- questions are counted, beside so many that found no memory, and what is held now was held then or was put, but for the node of the pending step. Caches
+-- that forget none gave, at each call, what they held, and hold what they held with what was put, but where they have found no memory, which they count
 pub record IsTrip (w : World) (table : Option Table) (before now : Outside) (top target : Place) (lost : ℕ) (t : Trip) : Type 0 where
   pub below : top ≡ take (length top) target
   pub shorter : length top ≤ length target
@@ -70,5 +70,5 @@ pub record IsTrip (w : World) (table : Option Table) (before now : Outside) (top
   pub stored : List Node
   pub puts_are : t.puts ≡ stored ++ put_in t.step
   pub holds_more : HoldsMore before.held now.held stored
-  pub found : AreOfCaches w (all_along before.lasting now.lasting) (first_trip w top target) inputs
-  pub lasts : Becomes before.lasting now.lasting (λ held. with_nodes held stored)
+  pub found : LeadTo before.lasting (calls_in w (first_trip w top target) inputs) now.lasting
+  pub lasts : AreStored before.lasting now.lasting stored

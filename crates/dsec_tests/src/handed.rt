@@ -60,7 +60,7 @@ fn octets(alloc: Global, message: Octets) -> Option<Vec<u8>> {
     Some(octets)
 }
 
-/// Whether this is told of a message, whether it is left so, and the context is whole then.
+/// Whether this is told of a message, whether it is left so, and no get or put found no memory.
 fn row_holds(alloc: Global, row: &Row) -> Option<bool> {
     let (sent, told, left) = *row;
     let Ok(mut message) = Message::from_octets(octets(alloc, sent)?) else {
@@ -76,7 +76,7 @@ fn row_holds(alloc: Global, row: &Row) -> Option<bool> {
         Err(error) => told == Err(error),
     };
     let left = octets(alloc, left)?;
-    Some(is_told && context.is_whole() && message.as_slice() == left.as_slice())
+    Some(is_told && context.wants() == 0 && message.as_slice() == left.as_slice())
 }
 
 fn assert_rows(rt: &impl Abort, alloc: Global, rows: &[Row]) {

@@ -41,8 +41,8 @@ fn secure_verdict<U: Upstream>(
 ) -> Result<Option<Verdict<OneAlgorithm>>, Error>
     ensures sound { IfOk result (λ found. IfSome found (λ v. IsSound (world_at by_one_algorithm context.old.anchors context.old.config now) context.old.config.max_cname_dname reply.old v.outcome)) }
     ensures finds { Finds (world_at by_one_algorithm context.old.anchors context.old.config now) context.old.config.max_cname_dname reply.old (U.table upstream.old)
-        (record { held = Some (held_in context.old.nodes); lasting = lasting_in context.old.whole context.old.nodes; asked = U.asked upstream.old; faults = U.faults upstream.old; heard = U.heard upstream.old })
-        (record { held = Some (held_in context.new.nodes); lasting = lasting_in context.new.whole context.new.nodes; asked = U.asked upstream.new; faults = U.faults upstream.new; heard = U.heard upstream.new }) result reply.new }
+        (record { held = Some (held_in context.old.nodes); lasting = lasting_in context.old.nodes context.old.wants; asked = U.asked upstream.old; faults = U.faults upstream.old; heard = U.heard upstream.old })
+        (record { held = Some (held_in context.new.nodes); lasting = lasting_in context.new.nodes context.new.wants; asked = U.asked upstream.new; faults = U.faults upstream.new; heard = U.heard upstream.new }) result reply.new }
     ensures same_anchors { context.new.anchors ≡ context.old.anchors }
     ensures same_config { context.new.config ≡ context.old.config }
 {
@@ -82,8 +82,8 @@ fn tell<U: Upstream, K: Sink>(
     sink: &mut K,
 ) -> Result<(), Halt>
     ensures told { OnOk result (Tells (world_at by_one_algorithm context.old.anchors context.old.config now) context.old.config.max_cname_dname reply.old (U.table upstream.old)
-        (record { held = Some (held_in context.old.nodes); lasting = lasting_in context.old.whole context.old.nodes; asked = U.asked upstream.old; faults = U.faults upstream.old; heard = U.heard upstream.old })
-        (record { held = Some (held_in context.new.nodes); lasting = lasting_in context.new.whole context.new.nodes; asked = U.asked upstream.new; faults = U.faults upstream.new; heard = U.heard upstream.new })
+        (record { held = Some (held_in context.old.nodes); lasting = lasting_in context.old.nodes context.old.wants; asked = U.asked upstream.old; faults = U.faults upstream.old; heard = U.heard upstream.old })
+        (record { held = Some (held_in context.new.nodes); lasting = lasting_in context.new.nodes context.new.wants; asked = U.asked upstream.new; faults = U.faults upstream.new; heard = U.heard upstream.new })
         (K.written sink.old) (K.written sink.new) reply.new) }
     ensures counts { CountsWrites (K.faults sink.old) (K.faults sink.new) result }
     ensures same_anchors { context.new.anchors ≡ context.old.anchors }
@@ -104,8 +104,8 @@ fn judge<U: Upstream, K: Sink>(
     sink: &mut K,
 ) -> anyhow::Result<()>
     ensures told { OnOk result (TellsLine (world_at by_one_algorithm context.old.anchors context.old.config 500) context.old.config.max_cname_dname line.now (U.table upstream.old)
-        (record { held = Some (held_in context.old.nodes); lasting = lasting_in context.old.whole context.old.nodes; asked = U.asked upstream.old; faults = U.faults upstream.old; heard = U.heard upstream.old })
-        (record { held = Some (held_in context.new.nodes); lasting = lasting_in context.new.whole context.new.nodes; asked = U.asked upstream.new; faults = U.faults upstream.new; heard = U.heard upstream.new })
+        (record { held = Some (held_in context.old.nodes); lasting = lasting_in context.old.nodes context.old.wants; asked = U.asked upstream.old; faults = U.faults upstream.old; heard = U.heard upstream.old })
+        (record { held = Some (held_in context.new.nodes); lasting = lasting_in context.new.nodes context.new.wants; asked = U.asked upstream.new; faults = U.faults upstream.new; heard = U.heard upstream.new })
         (K.written sink.old) (K.written sink.new)) }
     ensures same_anchors { context.new.anchors ≡ context.old.anchors }
     ensures same_config { context.new.config ≡ context.old.config }

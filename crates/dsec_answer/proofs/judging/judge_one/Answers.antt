@@ -14,7 +14,7 @@ returns-clause-holds g c =
     let long : 12 ≤ length c.args.item.octets = subst (λ m. 12 ≤ length m) copied (c.in-Ok.ensures.long.0 refl) in
     let judged = item_judged g.V.Verifier.accepts c.args.context.now.anchors c.args.context.now.config c.args.upstream.now.replies c.args.item c.in-Ok.message c.validate_msg.new.message
     (held_in c.args.context.now.nodes)
-    (record { held = Some (held_in c.validate_msg.new.self.nodes); lasting = lasting_in c.validate_msg.new.self.whole c.validate_msg.new.self.nodes; asked = c.validate_msg.new.upstream.asked; faults = c.validate_msg.new.upstream.faults; heard = None })
+    (record { held = Some (held_in c.validate_msg.new.self.nodes); lasting = lasting_in c.validate_msg.new.self.nodes c.validate_msg.new.self.wants; asked = c.validate_msg.new.upstream.asked; faults = c.validate_msg.new.upstream.faults; heard = None })
     (held_in c.validate_msg.new.self.nodes)
     c.validate_msg.result c.requires.config (c.in-Ok.ensures.value ∙ copied) long c.requires.holds
     (λ h. record {
@@ -33,7 +33,7 @@ returns-clause-outcome g c =
     let long : 12 ≤ length c.args.item.octets = subst (λ m. 12 ≤ length m) copied (c.in-Ok.ensures.long.0 refl) in
     let judged = item_judged g.V.Verifier.accepts c.args.context.now.anchors c.args.context.now.config c.args.upstream.now.replies c.args.item c.in-Ok.message c.validate_msg.new.message
     (held_in c.args.context.now.nodes)
-    (record { held = Some (held_in c.validate_msg.new.self.nodes); lasting = lasting_in c.validate_msg.new.self.whole c.validate_msg.new.self.nodes; asked = c.validate_msg.new.upstream.asked; faults = c.validate_msg.new.upstream.faults; heard = None })
+    (record { held = Some (held_in c.validate_msg.new.self.nodes); lasting = lasting_in c.validate_msg.new.self.nodes c.validate_msg.new.self.wants; asked = c.validate_msg.new.upstream.asked; faults = c.validate_msg.new.upstream.faults; heard = None })
     (held_in c.validate_msg.new.self.nodes)
     c.validate_msg.result c.requires.config (c.in-Ok.ensures.value ∙ copied) long c.requires.holds
     (λ h. record {
