@@ -12,7 +12,8 @@ use Rattle.dsec_crypto.specs.StandIn.{stand_in}
 use Rattle.dsec_nodes.specs.Nodes.{Kept}
 use Rattle.dsec_anchors.specs.Texts.{anchors_in}
 use Rattle.dsec_course.specs.Advancing.{begun as begun_of}
-use Rattle.dsec_node.specs.Caches.{Held, IsHeld, IsFound, Becomes, with_node}
+use Rattle.dsec_node.specs.Caches.{Held, Lasting, IsHeld, Keeps, Adds}
+use Rattle.dsec_lookup.specs.Finding.{GetLeads, PutLeads}
 use Rattle.dsec_node.specs.Configs.{default_settings}
 use Rattle.dsec_walk.specs.declared.steps.Input.{Input}
 use Rattle.dsec_walk.specs.declared.steps.Input.TheVariants as inputs
@@ -44,16 +45,17 @@ step_text index (Done outcome) = end_text index outcome.state
 step_text index (NodeGet name) = []
 step_text index (NodePut name node) = []
 
--- What answers a step at once: a node that is held for the name, or none, and by caches that forget none, and find memory, it is what they hold; that a
--- node was put, which these hold then; nothing a question, nor the end
-abbrev pub IsAtHand : {V : Type 0} → Option Held → Option Held → Option Held → Step V → Option (Input V) → Type 0
-IsAtHand held before after (NodeGet name) (Some (inputs.Node found)) =
-    IfSome found (λ node. Kept stand_in (arc_value node) × IsHeld held (place name) (arc_value node))
-    × IfSome after (λ _. IsFound before (place name) (option_map (λ node. arc_value node) found)) × Becomes before after (λ h. h)
-IsAtHand held before after (NodePut name node) (Some inputs.Stored) = Becomes before after (λ h. with_node h (place name) (arc_value node))
-IsAtHand held before after (Ask name rtype) None = after ≡ before
-IsAtHand held before after (Done outcome) None = after ≡ before
-IsAtHand held before after _ _ = ⊥
+-- What answers a step at once: a node that is held for the name, or none, and by caches that forget none it is what they hold, unless they find no
+-- memory; that a node was put, which these hold then, unless they find none; nothing a question, nor the end. No other node is held then than before.
+abbrev pub IsAtHand : {V : Type 0} → Option Held → Option Held → Option Lasting → Option Lasting → Step V → Option (Input V) → Type 0
+IsAtHand held left before after (NodeGet name) (Some (inputs.Node found)) =
+    IfSome found (λ node. Kept stand_in (arc_value node) × IsHeld held (place name) (arc_value node)) × Keeps held left
+    × GetLeads before after (place name) (option_map (λ node. arc_value node) found)
+IsAtHand held left before after (NodePut name node) (Some inputs.Stored) =
+    Adds held left (place name) (arc_value node) × PutLeads before after (place name) (arc_value node)
+IsAtHand held left before after (Ask name rtype) None = (left ≡ held) × (after ≡ before)
+IsAtHand held left before after (Done outcome) None = (left ≡ held) × (after ≡ before)
+IsAtHand held left before after _ _ = ⊥
 
 -- a message is to be judged at this moment from the anchors of this text by the default settings, and nothing was asked for it yet
 abbrev pub IsBegun : List ℕ → ℕ → List ℕ → Validating → Type 0

@@ -4,10 +4,18 @@
 
 mod event;
 
-ghost use Rattle.std.specs.Prelude.{◌≡◌, ◌<◌, ◌++◌, List, ℕ, codes, length, IfOk, IsOk, OnOk, None};
+ghost use Rattle.std.specs.Prelude.{◌≡◌, ◌⊎◌, ◌<◌, ◌++◌, List, ℕ, codes, is_ok, length, slice_get, true, IfOk, IfSome, IsOk, OnOk, OnErr, None};
+ghost use Rattle.dsec_course.specs.Course.{CourseAnswers};
+ghost use Rattle.dsec_course.specs.Ending.{steps_left};
+ghost use Rattle.dsec_core.specs.Validating.{with_course, world_by};
+ghost use Rattle.dsec_crypto.specs.StandIn.{stand_in};
+ghost use Rattle.dsec_walk.specs.Views.{input_view};
 ghost use Rattle.std.specs.Io.KnownBytes.{Appends};
 ghost use Rattle.dsec_found.specs.Outcomes.{state_view};
 ghost use Rattle.dsec_spec.specs.Outside.{SentFront};
+ghost use Rattle.dsec_uses_steps.specs.Events.{IsEventOf};
+ghost use Rattle.dsec_uses_steps.specs.Going.{Breaks, IsLeft, IsTaken, StepsOn, TakesIn, TakesInput};
+ghost use Rattle.dsec_uses_steps.specs.declared.event.Event.{Event};
 ghost use Rattle.dsec_uses_steps.specs.Lines.{GoesTo, IsAtHand, IsBegun, IsPut, ask_text, end_text, state_text, step_text};
 
 use anyhow::{Context, Result};
@@ -70,25 +78,53 @@ fn push_end(out: &mut Vec<u8>, index: usize, state: ValidationState) -> Result<(
     Ok(())
 }
 
-/// Goes on with a message until it asks a question or is judged.
-fn go_on<K: Sink, L: Ledger>(
+/// Goes on with a message until it asks a question or is judged. An input that it doesn't wait for is passed over.
+fn go_on<C: Caches<StandIn>, K: Sink, L: Ledger>(
     alloc: Global,
     index: usize,
     validation: &mut Validation<StandIn>,
-    caches: &mut OwnedCaches<StandIn>,
+    caches: &mut C,
     steps: &mut Steps<L>,
     input: Input<StandIn>,
     sink: &mut K,
-) -> Result<()> {
+) -> Result<()>
+    ensures takes { TakesInput index (is_ok result)
+        (record { message = validation.old; around = record { held = C.held caches.old; lasting = C.lasting caches.old; written = K.written sink.old } })
+        (record { message = validation.new; around = record { held = C.held caches.new; lasting = C.lasting caches.new; written = K.written sink.new } }) input }
+{
     let mut input = input;
     while validation.awaits(&input) {
-        let step = validation.advance(alloc, input, &mut NoMemo, steps)?;
-        match at_hand(alloc, index, caches, step, sink)? {
+        match step_on(alloc, index, validation, caches, steps, input, sink)? {
             Some(next) => input = next,
-            None => break,
+            None => return Ok(()),
         }
     }
     Ok(())
+}
+
+/// The next step of a message by an input that it waits for, and what answers it at once.
+fn step_on<C: Caches<StandIn>, K: Sink, L: Ledger>(
+    alloc: Global,
+    index: usize,
+    validation: &mut Validation<StandIn>,
+    caches: &mut C,
+    steps: &mut Steps<L>,
+    input: Input<StandIn>,
+    sink: &mut K,
+) -> Result<Option<Input<StandIn>>>
+    requires awaited { CourseAnswers validation.old.course.waits (input_view input) }
+    ensures steps { IfOk result (λ next. StepsOn index
+        (record { message = validation.old; around = record { held = C.held caches.old; lasting = C.lasting caches.old; written = K.written sink.old } })
+        (record { message = validation.new; around = record { held = C.held caches.new; lasting = C.lasting caches.new; written = K.written sink.new } }) input next) }
+    ensures breaks { OnErr result (Breaks index
+        (record { message = validation.old; around = record { held = C.held caches.old; lasting = C.lasting caches.old; written = K.written sink.old } })
+        (record { message = validation.new; around = record { held = C.held caches.new; lasting = C.lasting caches.new; written = K.written sink.new } }) input) }
+    ensures awaits { IfOk result (λ next. IfSome next (λ answer. CourseAnswers validation.new.course.waits (input_view answer))) }
+    ensures same { validation.new ≡ with_course validation.old validation.new.course }
+    ensures nearer { steps_left (world_by stand_in validation.old) validation.new.course < steps_left (world_by stand_in validation.old) validation.old.course }
+{
+    let step = validation.advance(alloc, input, &mut NoMemo, steps)?;
+    at_hand(alloc, index, caches, step, sink)
 }
 
 /// Writes a line that was made, and answers nothing.
@@ -117,9 +153,10 @@ fn at_hand<C: Caches<StandIn>, K: Sink>(
     step: Step<StandIn>,
     sink: &mut K,
 ) -> Result<Option<Input<StandIn>>>
-    ensures at_hand { IfOk result (λ next. IsAtHand (C.held caches.old) (C.lasting caches.old) (C.lasting caches.new) step next) }
+    ensures at_hand { IfOk result (λ next. IsAtHand (C.held caches.old) (C.held caches.new) (C.lasting caches.old) (C.lasting caches.new) step next) }
     ensures written { OnOk result (Appends (K.written sink.old) (K.written sink.new) (step_text index step)) }
     ensures front { SentFront (K.written sink.old) (K.written sink.new) (step_text index step) }
+    ensures err { OnErr result ((C.held caches.new ≡ C.held caches.old) × (C.lasting caches.new ≡ C.lasting caches.old)) }
 {
     match step {
         Step::NodeGet(name) => Ok(Some(Input::Node(held_node(caches, &name)))),
@@ -156,7 +193,8 @@ fn taken(
     event: Event,
     under_way: &mut Vec<Validation<StandIn>>,
 ) -> Result<(usize, Input<StandIn>)>
-    ensures { IfOk result (λ r. GoesTo (codes "example. 3600 IN DNSKEY 257 3 13 AQI=") 500 event under_way.old.items under_way.new.items r) }
+    ensures goes_to { IfOk result (λ r. GoesTo (codes "example. 3600 IN DNSKEY 257 3 13 AQI=") 500 event under_way.old.items under_way.new.items r) }
+    ensures err { OnErr result (under_way.new.items ≡ under_way.old.items) }
 {
     match event {
         Event::Message(message) => Ok((put(alloc, &message, under_way)?, Input::Begin)),
@@ -168,6 +206,7 @@ fn taken(
 fn put(alloc: Global, message: &Message, under_way: &mut Vec<Validation<StandIn>>) -> Result<usize>
     ensures index { IfOk result (λ index. index ≡ length under_way.old.items) }
     ensures put { OnOk result (IsPut (codes "example. 3600 IN DNSKEY 257 3 13 AQI=") 500 message.now under_way.old.items under_way.new.items) }
+    ensures err { OnErr result (under_way.new.items ≡ under_way.old.items) }
 {
     let index = under_way.len();
     under_way.reserve(1)?;
@@ -175,20 +214,69 @@ fn put(alloc: Global, message: &Message, under_way: &mut Vec<Validation<StandIn>
     Ok(index)
 }
 
-/// Takes an event: the message that it is for goes on.
-fn take<K: Sink, L: Ledger>(
+/// Takes the event of a line: the message that it is for goes on.
+fn take<C: Caches<StandIn>, K: Sink, L: Ledger>(
     alloc: Global,
     line: &str,
     under_way: &mut Vec<Validation<StandIn>>,
-    caches: &mut OwnedCaches<StandIn>,
+    caches: &mut C,
     steps: &mut Steps<L>,
     sink: &mut K,
-) -> Result<()> {
+) -> Result<()>
+    ensures taken { OnOk result ((event : Event) × IsEventOf line.now event × IsTaken (codes "example. 3600 IN DNSKEY 257 3 13 AQI=") 500 event true under_way.old.items under_way.new.items
+        (record { held = C.held caches.old; lasting = C.lasting caches.old; written = K.written sink.old })
+        (record { held = C.held caches.new; lasting = C.lasting caches.new; written = K.written sink.new })) }
+{
     let event = read_event(alloc, line).context("no event")?;
+    take_event(alloc, event, under_way, caches, steps, sink)
+}
+
+/// The message that an event is for goes on.
+fn take_event<C: Caches<StandIn>, K: Sink, L: Ledger>(
+    alloc: Global,
+    event: Event,
+    under_way: &mut Vec<Validation<StandIn>>,
+    caches: &mut C,
+    steps: &mut Steps<L>,
+    sink: &mut K,
+) -> Result<()>
+    ensures taken { IsTaken (codes "example. 3600 IN DNSKEY 257 3 13 AQI=") 500 event (is_ok result) under_way.old.items under_way.new.items
+        (record { held = C.held caches.old; lasting = C.lasting caches.old; written = K.written sink.old })
+        (record { held = C.held caches.new; lasting = C.lasting caches.new; written = K.written sink.new })
+        ⊎ IsLeft under_way.old.items under_way.new.items
+        (record { held = C.held caches.old; lasting = C.lasting caches.old; written = K.written sink.old })
+        (record { held = C.held caches.new; lasting = C.lasting caches.new; written = K.written sink.new }) (is_ok result) }
+{
     let (index, input) = taken(alloc, event, under_way)?;
-    match under_way.get_mut(index) {
-        Some(validation) => go_on(alloc, index, validation, caches, steps, input, sink),
-        None => Ok(()),
+    take_at(alloc, index, under_way, caches, steps, input, sink)
+}
+
+/// Goes on with the message that has this index, if there is one.
+fn take_at<C: Caches<StandIn>, K: Sink, L: Ledger>(
+    alloc: Global,
+    index: usize,
+    under_way: &mut Vec<Validation<StandIn>>,
+    caches: &mut C,
+    steps: &mut Steps<L>,
+    input: Input<StandIn>,
+    sink: &mut K,
+) -> Result<()>
+    ensures takes { TakesIn index (is_ok result) under_way.old.items under_way.new.items
+        (record { held = C.held caches.old; lasting = C.lasting caches.old; written = K.written sink.old })
+        (record { held = C.held caches.new; lasting = C.lasting caches.new; written = K.written sink.new }) input (slice_get under_way.old.items index) }
+{
+    if index < under_way.len() {
+        go_on(
+            alloc,
+            index,
+            &mut under_way[index],
+            caches,
+            steps,
+            input,
+            sink,
+        )
+    } else {
+        Ok(())
     }
 }
 
