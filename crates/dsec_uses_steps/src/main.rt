@@ -4,7 +4,7 @@
 
 mod event;
 
-ghost use Rattle.std.specs.Prelude.{◌≡◌, ◌⊎◌, ◌<◌, ◌++◌, List, ℕ, codes, is_ok, length, slice_get, true, IfOk, IfSome, IsOk, OnOk, OnErr, None};
+ghost use Rattle.std.specs.Prelude.{◌≡◌, ◌⊎◌, ◌<◌, ◌++◌, List, ℕ, codes, is_ok, length, slice_get, false, true, IfOk, IfSome, IsOk, OnOk, OnErr, None};
 ghost use Rattle.dsec_course.specs.Course.{CourseAnswers};
 ghost use Rattle.dsec_course.specs.Ending.{steps_left};
 ghost use Rattle.dsec_core.specs.Validating.{with_course, world_by};
@@ -226,6 +226,12 @@ fn take<C: Caches<StandIn>, K: Sink, L: Ledger>(
     ensures taken { OnOk result ((event : Event) × IsEventOf line.now event × IsTaken (codes "example. 3600 IN DNSKEY 257 3 13 AQI=") 500 event true under_way.old.items under_way.new.items
         (record { held = C.held caches.old; lasting = C.lasting caches.old; written = K.written sink.old })
         (record { held = C.held caches.new; lasting = C.lasting caches.new; written = K.written sink.new })) }
+    ensures left { OnErr result (IsLeft under_way.old.items under_way.new.items
+        (record { held = C.held caches.old; lasting = C.lasting caches.old; written = K.written sink.old })
+        (record { held = C.held caches.new; lasting = C.lasting caches.new; written = K.written sink.new }) false
+        ⊎ ((event : Event) × IsEventOf line.now event × IsTaken (codes "example. 3600 IN DNSKEY 257 3 13 AQI=") 500 event false under_way.old.items under_way.new.items
+        (record { held = C.held caches.old; lasting = C.lasting caches.old; written = K.written sink.old })
+        (record { held = C.held caches.new; lasting = C.lasting caches.new; written = K.written sink.new }))) }
 {
     let event = read_event(alloc, line).context("no event")?;
     take_event(alloc, event, under_way, caches, steps, sink)
