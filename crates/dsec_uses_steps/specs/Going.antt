@@ -1,5 +1,5 @@
 -- How a message goes on by an event, over caches of nodes, and what is written of it.
-use Rattle.std.specs.Prelude.{◌≡◌, ◌⊎◌, ℕ, List, Bool, true, false, Option, Some, None, slice_get, slice_set}
+use Rattle.std.specs.Prelude.{◌≡◌, ◌⊎◌, ℕ, List, [], ◌∷◌, Bool, true, false, Option, Some, None, slice_get, slice_set}
 use Rattle.std.specs.Io.KnownBytes.{Appends}
 use Rattle.dsec_spec.specs.Outside.{SentFront}
 use Rattle.dsec_crypto.specs.StandIn.{stand_in}
@@ -13,6 +13,7 @@ use Rattle.dsec_core.specs.Validating.{Validating, with_course, world_by}
 use Rattle.dsec_core.specs.Views.{step_view}
 use Rattle.dsec_core.specs.declared.step.Step.{Step}
 use Rattle.dsec_uses_steps.specs.declared.event.Event.{Event}
+use Rattle.dsec_uses_steps.specs.Events.{IsEventOf}
 use Rattle.dsec_uses_steps.specs.Lines.{GoesTo, IsAtHand, step_text}
 
 -- what caches hold, and what was written so far
@@ -76,3 +77,10 @@ pub record IsTaken (text : List ℕ) (moment : ℕ) (event : Event) (well : Bool
 -- an event of which no message can be made, for want of memory or since it is refused: nothing is done
 abbrev pub IsLeft : List Validating → List Validating → Around → Around → Bool → Type 0
 IsLeft before after was is well = (after ≡ before) × (is ≡ was) × (well ≡ false)
+
+-- lines are taken one after the other, each as the event that it writes, and none besides
+abbrev pub AreTaken : List ℕ → ℕ → List (List ℕ) → List Validating → List Validating → Around → Around → Type 0
+AreTaken text moment [] before after was is = (after ≡ before) × (is ≡ was)
+AreTaken text moment (line ∷ lines) before after was is =
+    (event : Event) × (now : List Validating) × (later : Around) × IsEventOf line event × IsTaken text moment event true before now was later
+    × AreTaken text moment lines now after later is

@@ -14,7 +14,7 @@ ghost use Rattle.std.specs.Io.KnownBytes.{Appends};
 ghost use Rattle.dsec_found.specs.Outcomes.{state_view};
 ghost use Rattle.dsec_spec.specs.Outside.{SentFront};
 ghost use Rattle.dsec_uses_steps.specs.Events.{IsEventOf};
-ghost use Rattle.dsec_uses_steps.specs.Going.{Breaks, IsLeft, IsTaken, StepsOn, TakesIn, TakesInput};
+ghost use Rattle.dsec_uses_steps.specs.Going.{AreTaken, Breaks, IsLeft, IsTaken, StepsOn, TakesIn, TakesInput};
 ghost use Rattle.dsec_uses_steps.specs.declared.event.Event.{Event};
 ghost use Rattle.dsec_uses_steps.specs.Lines.{GoesTo, IsAtHand, IsBegun, IsPut, ask_text, end_text, state_text, step_text};
 
@@ -286,20 +286,21 @@ fn take_at<C: Caches<StandIn>, K: Sink, L: Ledger>(
     }
 }
 
-/// Takes each event in turn.
-fn take_all<L: Ledger>(
+/// Takes the event of each line of the standard input in turn.
+fn take_all<C: Caches<StandIn>, K: Sink, L: Ledger>(
     rt: &HostRuntime,
     under_way: &mut Vec<Validation<StandIn>>,
-    caches: &mut OwnedCaches<StandIn>,
+    caches: &mut C,
     steps: &mut Steps<L>,
-) -> Result<()> {
+    sink: &mut K,
+) -> Result<()>
+    ensures { OnOk result ((lines : List (List ℕ)) × AreTaken (codes "example. 3600 IN DNSKEY 257 3 13 AQI=") 500 lines under_way.old.items under_way.new.items
+        (record { held = C.held caches.old; lasting = C.lasting caches.old; written = K.written sink.old })
+        (record { held = C.held caches.new; lasting = C.lasting caches.new; written = K.written sink.new })) }
+{
     let alloc = rt.alloc();
-    let mut sink = Writing {
-        inner: rt.stdout(),
-        faults: 0,
-    };
     for line in rt.lines(alloc) {
-        take(alloc, line?.as_str(), under_way, caches, steps, &mut sink)?;
+        take(alloc, line?.as_str(), under_way, caches, steps, sink)?;
     }
     Ok(())
 }
@@ -313,7 +314,11 @@ fn run<L: Ledger>(rt: &HostRuntime, blank: Blank) -> Result<()>
     let mut caches = OwnedCaches::new(rt.alloc());
     let mut steps = Steps::<L>::begin(blank);
     let mut under_way = Vec::new(rt.alloc());
-    take_all(rt, &mut under_way, &mut caches, &mut steps)
+    let mut sink = Writing {
+        inner: rt.stdout(),
+        faults: 0,
+    };
+    take_all(rt, &mut under_way, &mut caches, &mut steps, &mut sink)
 }
 
 fn main(rt: HostRuntime) -> Result<()> {
