@@ -1,15 +1,44 @@
 -- How a message goes on, step by step.
-use Rattle.std.proofs.Common.{◌≡◌, ◌⊎◌, ℕ, Bool, true, false, is_ok, Some, None, Result, Ok, Err, refl, subst, inl, inr}
-use Rattle.std.specs.Result.{IsErr}
+use Rattle.std.proofs.Common.{◌≡◌, ◌⊎◌, ℕ, List, Bool, true, false, is_ok, Option, Some, None, Result, Ok, Err, slice_get, slice_set, refl, sym, subst, inl, inr}
+use Rattle.std.specs.Result.{IsErr, OnErr}
+use Rattle.dsec_crypto.specs.StandIn.{stand_in}
+use Rattle.dsec_course.specs.Advancing.{course_advanced}
 use Rattle.dsec_course.specs.Course.{CourseAnswers}
+use Rattle.dsec_core.specs.Validating.{Validating, with_course, world_by}
+use Rattle.dsec_core.specs.Views.{step_view}
+use Rattle.dsec_core.specs.declared.step.Step.{Step}
+use Rattle.dsec_spec.specs.Outside.{SentFront}
 use Rattle.dsec_walk.specs.declared.steps.Input.{Input}
 use Rattle.dsec_walk.specs.Views.{input_view}
-use Rattle.dsec_uses_steps.specs.Going.{Scene, StepsOn, Breaks, GoesOn, halts, breaks, goes, TakesInput}
+use Rattle.dsec_uses_steps.specs.Going.{Around, Scene, StepsOn, Breaks, ChecksFew, FailsOnce, sends, GoesOn, halts, breaks, goes, TakesIn, TakesInput}
+use Rattle.dsec_uses_steps.specs.Lines.{step_text}
 
 -- what has failed isn't well
 pub not_well : {A E : Type 0} (r : Result A E) → IsErr r → is_ok r ≡ false
 not_well (Ok a) h = absurd (let clash : false ≡ true = h in cc)
 not_well (Err e) h = refl
+
+-- what holds holds at an error too
+pub on_err : {A E P : Type 0} (r : Result A E) → P → OnErr r P
+on_err (Ok a) p = tt
+on_err (Err e) p = p
+
+-- where a message came to its step, and that isn't answered
+pub unanswered : {V A E : Type 0} (r : Result A E) (index : ℕ) (before after : Scene) (input : Input V) (step : Step V)
+    → (after.message.course, step_view step) ≡ course_advanced (world_by stand_in before.message) before.message.course (input_view input)
+    → SentFront before.around.written after.around.written (step_text index step) → after.message ≡ with_course before.message after.message.course
+    → ChecksFew before after input → OnErr r ((after.around.held ≡ before.around.held) × (after.around.lasting ≡ before.around.lasting))
+    → OnErr r (FailsOnce before.around.faults after.around.faults) → OnErr r (Breaks index before after input)
+unanswered (Ok a) index before after input step come front same few held counts = tt
+unanswered (Err e) index before after input step come front same few held counts =
+    record { held = held.0; lasting = held.1; same = same; ends = sends step come front; counts = counts; few = few }
+
+-- the message with an index takes an input
+pub taken_at : {V : Type 0} (index : ℕ) (well : Bool) (before : List Validating) (message left : Validating) (was is : Around) (input : Input V) → slice_get before index ≡ Some message
+    → TakesInput index well (record { message = message; around = was }) (record { message = left; around = is }) input
+    → TakesIn index well before (slice_set before index left) was is input (slice_get before index)
+taken_at index well before message left was is input there takes =
+    subst (λ (o : Option Validating). TakesIn index well before (slice_set before index left) was is input o) (sym there) (left, refl, takes)
 
 -- where a loop over the steps of a message has come to: nowhere yet; or to an input that is waited for, from which it goes on as from the first
 abbrev pub ComesBy : {V : Type 0} → ℕ → Scene → Scene → Input V → Input V → Type 0

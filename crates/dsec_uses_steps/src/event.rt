@@ -14,7 +14,8 @@ use std::alloc::Global;
 pub enum Event {
     /// A message that is to be judged.
     Message(Message),
-    /// A reply to the last question of the message with this index, or none where the question failed.
+    /// A reply to the last question of the message with this index, or none where the question failed. Nothing shows that it is one: a late reply
+    /// is taken for that to the next question.
     Reply(usize, Option<Octets>),
 }
 

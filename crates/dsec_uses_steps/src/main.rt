@@ -14,7 +14,7 @@ ghost use Rattle.std.specs.Io.KnownBytes.{Appends};
 ghost use Rattle.dsec_found.specs.Outcomes.{state_view};
 ghost use Rattle.dsec_spec.specs.Outside.{SentFront};
 ghost use Rattle.dsec_uses_steps.specs.Events.{IsEventOf};
-ghost use Rattle.dsec_uses_steps.specs.Going.{AreTaken, Breaks, IsLeft, IsTaken, StepsOn, TakesIn, TakesInput};
+ghost use Rattle.dsec_uses_steps.specs.Going.{AreTaken, Breaks, FailsOnce, IsLeft, IsTaken, StepsOn, StopsAt, TakesIn, TakesInput};
 ghost use Rattle.dsec_uses_steps.specs.declared.event.Event.{Event};
 ghost use Rattle.dsec_uses_steps.specs.Lines.{GoesTo, IsAtHand, IsBegun, IsPut, ask_text, end_text, state_text, step_text};
 
@@ -89,8 +89,8 @@ fn go_on<C: Caches<StandIn>, K: Sink, L: Ledger>(
     sink: &mut K,
 ) -> Result<()>
     ensures takes { TakesInput index (is_ok result)
-        (record { message = validation.old; around = record { held = C.held caches.old; lasting = C.lasting caches.old; written = K.written sink.old } })
-        (record { message = validation.new; around = record { held = C.held caches.new; lasting = C.lasting caches.new; written = K.written sink.new } }) input }
+        (record { message = validation.old; around = record { held = C.held caches.old; lasting = C.lasting caches.old; written = K.written sink.old; faults = K.faults sink.old; checked = steps.old } })
+        (record { message = validation.new; around = record { held = C.held caches.new; lasting = C.lasting caches.new; written = K.written sink.new; faults = K.faults sink.new; checked = steps.new } }) input }
 {
     let mut input = input;
     while validation.awaits(&input) {
@@ -114,11 +114,11 @@ fn step_on<C: Caches<StandIn>, K: Sink, L: Ledger>(
 ) -> Result<Option<Input<StandIn>>>
     requires awaited { CourseAnswers validation.old.course.waits (input_view input) }
     ensures steps { IfOk result (λ next. StepsOn index
-        (record { message = validation.old; around = record { held = C.held caches.old; lasting = C.lasting caches.old; written = K.written sink.old } })
-        (record { message = validation.new; around = record { held = C.held caches.new; lasting = C.lasting caches.new; written = K.written sink.new } }) input next) }
+        (record { message = validation.old; around = record { held = C.held caches.old; lasting = C.lasting caches.old; written = K.written sink.old; faults = K.faults sink.old; checked = steps.old } })
+        (record { message = validation.new; around = record { held = C.held caches.new; lasting = C.lasting caches.new; written = K.written sink.new; faults = K.faults sink.new; checked = steps.new } }) input next) }
     ensures breaks { OnErr result (Breaks index
-        (record { message = validation.old; around = record { held = C.held caches.old; lasting = C.lasting caches.old; written = K.written sink.old } })
-        (record { message = validation.new; around = record { held = C.held caches.new; lasting = C.lasting caches.new; written = K.written sink.new } }) input) }
+        (record { message = validation.old; around = record { held = C.held caches.old; lasting = C.lasting caches.old; written = K.written sink.old; faults = K.faults sink.old; checked = steps.old } })
+        (record { message = validation.new; around = record { held = C.held caches.new; lasting = C.lasting caches.new; written = K.written sink.new; faults = K.faults sink.new; checked = steps.new } }) input) }
     ensures awaits { IfOk result (λ next. IfSome next (λ answer. CourseAnswers validation.new.course.waits (input_view answer))) }
     ensures same { validation.new ≡ with_course validation.old validation.new.course }
     ensures nearer { steps_left (world_by stand_in validation.old) validation.new.course < steps_left (world_by stand_in validation.old) validation.old.course }
@@ -138,6 +138,8 @@ fn said<K: Sink>(
     ensures none { IfOk result (λ next. next ≡ None) }
     ensures written { OnOk result (Appends (K.written sink.old) (K.written sink.new) line.now) }
     ensures front { (text : List ℕ) → OnOk pushed (line.now ≡ text) → SentFront (K.written sink.old) (K.written sink.new) text }
+    ensures counts { OnOk result (K.faults sink.new ≡ K.faults sink.old) }
+    ensures counts_once { OnErr result (FailsOnce (K.faults sink.old) (K.faults sink.new)) }
 {
     pushed.ok().context("out of memory")?;
     send(sink, line).ok().context("a write failed")?;
@@ -156,6 +158,8 @@ fn at_hand<C: Caches<StandIn>, K: Sink>(
     ensures at_hand { IfOk result (λ next. IsAtHand (C.held caches.old) (C.held caches.new) (C.lasting caches.old) (C.lasting caches.new) step next) }
     ensures written { OnOk result (Appends (K.written sink.old) (K.written sink.new) (step_text index step)) }
     ensures front { SentFront (K.written sink.old) (K.written sink.new) (step_text index step) }
+    ensures counts { OnOk result (K.faults sink.new ≡ K.faults sink.old) }
+    ensures counts_once { OnErr result (FailsOnce (K.faults sink.old) (K.faults sink.new)) }
     ensures err { OnErr result ((C.held caches.new ≡ C.held caches.old) × (C.lasting caches.new ≡ C.lasting caches.old)) }
 {
     match step {
@@ -224,14 +228,14 @@ fn take<C: Caches<StandIn>, K: Sink, L: Ledger>(
     sink: &mut K,
 ) -> Result<()>
     ensures taken { OnOk result ((event : Event) × IsEventOf line.now event × IsTaken (codes "example. 3600 IN DNSKEY 257 3 13 AQI=") 500 event true under_way.old.items under_way.new.items
-        (record { held = C.held caches.old; lasting = C.lasting caches.old; written = K.written sink.old })
-        (record { held = C.held caches.new; lasting = C.lasting caches.new; written = K.written sink.new })) }
+        (record { held = C.held caches.old; lasting = C.lasting caches.old; written = K.written sink.old; faults = K.faults sink.old; checked = steps.old })
+        (record { held = C.held caches.new; lasting = C.lasting caches.new; written = K.written sink.new; faults = K.faults sink.new; checked = steps.new })) }
     ensures left { OnErr result (IsLeft under_way.old.items under_way.new.items
-        (record { held = C.held caches.old; lasting = C.lasting caches.old; written = K.written sink.old })
-        (record { held = C.held caches.new; lasting = C.lasting caches.new; written = K.written sink.new }) false
+        (record { held = C.held caches.old; lasting = C.lasting caches.old; written = K.written sink.old; faults = K.faults sink.old; checked = steps.old })
+        (record { held = C.held caches.new; lasting = C.lasting caches.new; written = K.written sink.new; faults = K.faults sink.new; checked = steps.new }) false
         ⊎ ((event : Event) × IsEventOf line.now event × IsTaken (codes "example. 3600 IN DNSKEY 257 3 13 AQI=") 500 event false under_way.old.items under_way.new.items
-        (record { held = C.held caches.old; lasting = C.lasting caches.old; written = K.written sink.old })
-        (record { held = C.held caches.new; lasting = C.lasting caches.new; written = K.written sink.new }))) }
+        (record { held = C.held caches.old; lasting = C.lasting caches.old; written = K.written sink.old; faults = K.faults sink.old; checked = steps.old })
+        (record { held = C.held caches.new; lasting = C.lasting caches.new; written = K.written sink.new; faults = K.faults sink.new; checked = steps.new }))) }
 {
     let event = read_event(alloc, line).context("no event")?;
     take_event(alloc, event, under_way, caches, steps, sink)
@@ -247,11 +251,11 @@ fn take_event<C: Caches<StandIn>, K: Sink, L: Ledger>(
     sink: &mut K,
 ) -> Result<()>
     ensures taken { IsTaken (codes "example. 3600 IN DNSKEY 257 3 13 AQI=") 500 event (is_ok result) under_way.old.items under_way.new.items
-        (record { held = C.held caches.old; lasting = C.lasting caches.old; written = K.written sink.old })
-        (record { held = C.held caches.new; lasting = C.lasting caches.new; written = K.written sink.new })
+        (record { held = C.held caches.old; lasting = C.lasting caches.old; written = K.written sink.old; faults = K.faults sink.old; checked = steps.old })
+        (record { held = C.held caches.new; lasting = C.lasting caches.new; written = K.written sink.new; faults = K.faults sink.new; checked = steps.new })
         ⊎ IsLeft under_way.old.items under_way.new.items
-        (record { held = C.held caches.old; lasting = C.lasting caches.old; written = K.written sink.old })
-        (record { held = C.held caches.new; lasting = C.lasting caches.new; written = K.written sink.new }) (is_ok result) }
+        (record { held = C.held caches.old; lasting = C.lasting caches.old; written = K.written sink.old; faults = K.faults sink.old; checked = steps.old })
+        (record { held = C.held caches.new; lasting = C.lasting caches.new; written = K.written sink.new; faults = K.faults sink.new; checked = steps.new }) (is_ok result) }
 {
     let (index, input) = taken(alloc, event, under_way)?;
     take_at(alloc, index, under_way, caches, steps, input, sink)
@@ -268,8 +272,8 @@ fn take_at<C: Caches<StandIn>, K: Sink, L: Ledger>(
     sink: &mut K,
 ) -> Result<()>
     ensures takes { TakesIn index (is_ok result) under_way.old.items under_way.new.items
-        (record { held = C.held caches.old; lasting = C.lasting caches.old; written = K.written sink.old })
-        (record { held = C.held caches.new; lasting = C.lasting caches.new; written = K.written sink.new }) input (slice_get under_way.old.items index) }
+        (record { held = C.held caches.old; lasting = C.lasting caches.old; written = K.written sink.old; faults = K.faults sink.old; checked = steps.old })
+        (record { held = C.held caches.new; lasting = C.lasting caches.new; written = K.written sink.new; faults = K.faults sink.new; checked = steps.new }) input (slice_get under_way.old.items index) }
 {
     if index < under_way.len() {
         go_on(
@@ -294,9 +298,12 @@ fn take_all<C: Caches<StandIn>, K: Sink, L: Ledger>(
     steps: &mut Steps<L>,
     sink: &mut K,
 ) -> Result<()>
-    ensures { OnOk result ((lines : List (List ℕ)) × AreTaken (codes "example. 3600 IN DNSKEY 257 3 13 AQI=") 500 lines under_way.old.items under_way.new.items
-        (record { held = C.held caches.old; lasting = C.lasting caches.old; written = K.written sink.old })
-        (record { held = C.held caches.new; lasting = C.lasting caches.new; written = K.written sink.new })) }
+    ensures taken { OnOk result ((lines : List (List ℕ)) × AreTaken (codes "example. 3600 IN DNSKEY 257 3 13 AQI=") 500 lines under_way.old.items under_way.new.items
+        (record { held = C.held caches.old; lasting = C.lasting caches.old; written = K.written sink.old; faults = K.faults sink.old; checked = steps.old })
+        (record { held = C.held caches.new; lasting = C.lasting caches.new; written = K.written sink.new; faults = K.faults sink.new; checked = steps.new })) }
+    ensures stops { OnErr result (StopsAt (codes "example. 3600 IN DNSKEY 257 3 13 AQI=") 500 under_way.old.items under_way.new.items
+        (record { held = C.held caches.old; lasting = C.lasting caches.old; written = K.written sink.old; faults = K.faults sink.old; checked = steps.old })
+        (record { held = C.held caches.new; lasting = C.lasting caches.new; written = K.written sink.new; faults = K.faults sink.new; checked = steps.new })) }
 {
     let alloc = rt.alloc();
     for line in rt.lines(alloc) {
