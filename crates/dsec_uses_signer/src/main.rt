@@ -3,13 +3,14 @@
 
 mod device;
 mod keys;
+mod refusal;
 mod signing;
 mod writing;
 
 use anyhow::Result;
 use dsec_outside::Writing;
 use std::io;
-use writing::write_signed;
+use writing::write;
 
 fn main(rt: HostRuntime) -> Result<()> {
     let alloc = rt.alloc();
@@ -18,5 +19,5 @@ fn main(rt: HostRuntime) -> Result<()> {
         inner: rt.stdout(),
         faults: 0,
     };
-    write_signed(alloc, text.as_bytes(), &mut sink)
+    write(alloc, text.as_bytes(), &mut sink)
 }

@@ -1,19 +1,20 @@
 //! A zone, signed by its own key.
 
-ghost use Rattle.std.specs.Prelude.{◌≡◌, ◌∷◌, [], IfOk, None, OnOk};
+ghost use Rattle.std.specs.Prelude.{◌≡◌, ◌∷◌, [], IfErr, IfOk, None, OnOk};
 ghost use Rattle.dsec_rrsig.specs.Asks.{AsksRefusal, asked_of};
 ghost use Rattle.dsec_rrsig.specs.Failures.{CountsRefusal};
 ghost use Rattle.dsec_rrsig.specs.Keys.{stand_in_signs};
-ghost use Rattle.dsec_rrsig.specs.Made.{message_for};
+ghost use Rattle.dsec_rrsig.specs.Made.{IsSetRefusal, message_for};
 ghost use Rattle.dsec_rrsig.specs.Signers.{signer_of};
 ghost use Rattle.dsec_sign.specs.ZoneSigning.{SignsZone, zone_period};
-ghost use Rattle.dsec_spec.specs.Outside.{risen};
+ghost use Rattle.dsec_spec.specs.Outside.{Rose, risen};
 ghost use Rattle.dsec_spec.specs.Signatures.{IsSignature};
+ghost use Rattle.dsec_uses_signer.specs.Refusals.{LeavesUnsigned, RefusesKeySet, RefusesText, RefusesZone, SaysNone};
 ghost use Rattle.dsec_uses_signer.specs.Whole.{SaysZone, SignsKey, SignsText, SignsWhole};
 
 use crate::device::Device;
 use crate::keys::{OwnKey, own_key};
-use anyhow::{Context, Error, Result, ensure};
+use crate::refusal::Refusal;
 use dsec_name::Name;
 use dsec_number::Timestamp;
 use dsec_sign::{SignableZoneInPlace, SigningConfig, SigningError, SigningKey, sign_rrset};
@@ -30,15 +31,18 @@ fn sign(
     zone: &mut SortedRecords,
     config: &SigningConfig,
     key: &mut SigningKey<Device>,
-) -> Result<()>
+) -> Result<(), Refusal>
     ensures signed { OnOk result (SignsZone stand_in_signs config.now (signer_of (λ device. device.key) key.old ∷ []) apex.now zone.old zone.old zone.new) }
     ensures kept { signer_of (λ device. device.key) key.new ≡ signer_of (λ device. device.key) key.old }
     ensures flags { key.new.flags ≡ key.old.flags }
     ensures faultless { OnOk result (key.new.inner.faults ≡ key.old.inner.faults) }
+    ensures why { IfErr result (RefusesZone config.now (signer_of (λ device. device.key) key.old) apex.now zone.old zone.new) }
 {
-    ensure!(is_of_one_class(zone.as_slice()), "several classes");
-    let signed = SignableZoneInPlace::sign_zone(zone, alloc, apex, config, slice::from_mut(key));
-    signed.map_err(Error::msg)
+    if !is_of_one_class(zone.as_slice()) {
+        return Err(Refusal::SeveralClasses);
+    }
+    SignableZoneInPlace::sign_zone(zone, alloc, apex, config, slice::from_mut(key))?;
+    Ok(())
 }
 
 /// Adds to a zone the signature over the record of its key by that key.
@@ -48,15 +52,16 @@ fn sign_key(
     config: &SigningConfig,
     own: &Record,
     key: &mut SigningKey<Device>,
-) -> Result<()>
+) -> Result<(), Refusal>
     ensures signed { OnOk result (SignsKey (zone_period config.now) own.now (signer_of (λ device. device.key) key.old) zone.old zone.new) }
     ensures kept { signer_of (λ device. device.key) key.new ≡ signer_of (λ device. device.key) key.old }
     ensures flags { key.new.flags ≡ key.old.flags }
     ensures faultless { OnOk result (key.new.inner.faults ≡ key.old.inner.faults) }
     ensures asks { OnOk result (key.new.inner.asked ≡ risen key.old.inner.asked) }
+    ensures why { IfErr result (RefusesKeySet config.now own.now) }
 {
-    let signature = key_signature(alloc, config, own, key).map_err(Error::msg)?;
-    zone.extend(vec![in alloc; signature]?).map_err(Error::msg)?;
+    let signature = key_signature(alloc, config, own, key)?;
+    zone.extend(vec![in alloc; signature]?)?;
     Ok(())
 }
 
@@ -71,6 +76,7 @@ fn key_signature(
     ensures kept { signer_of (λ device. device.key) key.new ≡ signer_of (λ device. device.key) key.old }
     ensures flags { key.new.flags ≡ key.old.flags }
     ensures counts { CountsRefusal key.old.inner.faults key.new.inner.faults result }
+    ensures why { IfErr result (IsSetRefusal own.now.rtype (zone_period config.now) (Rose key.old.inner.faults key.new.inner.faults)) }
     ensures asks { AsksRefusal (message_for (signer_of (λ device. device.key) key.old) (zone_period config.now) (own.now ∷ [])) (asked_of (λ device. device.key) (λ device. device.asked) (λ _. None) key.old) (asked_of (λ device. device.key) (λ device. device.asked) (λ _. None) key.new) result }
 {
     let set = Rrset::new_from_owned(slice::from_ref(own))?;
@@ -78,8 +84,9 @@ fn key_signature(
 }
 
 /// Signs a zone by its own key, the set of the key too.
-fn sign_whole(alloc: Global, zone: &mut SortedRecords) -> Result<()>
-    ensures { OnOk result (SignsWhole zone.old zone.new) }
+fn sign_whole(alloc: Global, zone: &mut SortedRecords) -> Result<(), Refusal>
+    ensures signed { OnOk result (SignsWhole zone.old zone.new) }
+    ensures why { IfErr result (LeavesUnsigned zone.old) }
 {
     let OwnKey { record, mut key } = own_key(zone.as_slice())?;
     let (inception, expiration) = (Timestamp::from_int(0), Timestamp::from_int(1000));
@@ -90,18 +97,20 @@ fn sign_whole(alloc: Global, zone: &mut SortedRecords) -> Result<()>
 }
 
 /// The records of a zone text, in canonical order, of duplicates the first.
-fn zone_of(alloc: Global, text: &[u8]) -> Result<SortedRecords>
-    ensures { IfOk result (λ zone. SaysZone text.now zone) }
+fn zone_of(alloc: Global, text: &[u8]) -> Result<SortedRecords, Refusal>
+    ensures says { IfOk result (λ zone. SaysZone text.now zone) }
+    ensures why { IfErr result (SaysNone text.now) }
 {
-    let records = read_zone(alloc, text).ok().context("no zone text")?;
+    let records = read_zone(alloc, text)?;
     let mut zone = SortedRecords::new(alloc);
-    zone.extend(records).map_err(Error::msg)?;
+    zone.extend(records)?;
     Ok(zone)
 }
 
 /// The zone of a text, signed.
-pub fn signed_zone(alloc: Global, text: &[u8]) -> Result<SortedRecords>
-    ensures { IfOk result (λ made. SignsText text.now made) }
+pub fn signed_zone(alloc: Global, text: &[u8]) -> Result<SortedRecords, Refusal>
+    ensures signed { IfOk result (λ made. SignsText text.now made) }
+    ensures why { IfErr result (RefusesText text.now) }
 {
     let mut zone = zone_of(alloc, text)?;
     sign_whole(alloc, &mut zone)?;
