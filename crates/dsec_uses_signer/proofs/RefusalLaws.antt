@@ -96,7 +96,7 @@ by_sets c signers cause apex zone left error h =
 -- a zone's refusal is told, but for want of memory
 told_zone : (c : SigningConfig) (by : Signer) (cause : Type 0) (apex : Labels) (zone left : List Record) (error : SigningError)
     → IsZoneRefusal c (by ∷ []) cause apex zone zone left error → RefusesZone c by apex zone left (of_signing error)
-told_zone c by cause apex zone left signing.OutOfMemory h = tt
+told_zone c by cause apex zone left signing.OutOfMemory h = h
 told_zone c by cause apex zone left signing.SoaRecordCouldNotBeDetermined h = h
 told_zone c by cause apex zone left (signing.Nsec3HashingError error) h = h
 told_zone c by cause apex zone left signing.MultipleTtlValues h = by_sets c (by ∷ []) cause apex zone left signing.MultipleTtlValues h

@@ -1,5 +1,5 @@
 -- Why the zone of a text isn't signed by its own key.
-use Rattle.std.specs.Prelude.{◌≡◌, ◌<◌, ◌∷◌, [], ⊤, ℕ, List, Option, Some, Err, filter, length}
+use Rattle.std.specs.Prelude.{◌≡◌, ◌<◌, ◌⊎◌, ◌∷◌, [], ⊤, ℕ, List, Option, Some, Err, filter, length}
 use Rattle.std.specs.Io.KnownBytes.{Keeps}
 use Rattle.dsec_spec.specs.CanonicalRecords.{AreOfOneClass}
 use Rattle.dsec_spec.specs.Names.{Labels}
@@ -11,7 +11,7 @@ use Rattle.dsec_rrsig.specs.Keys.{HasAlgorithm, HasProtocol, IsShort}
 use Rattle.dsec_rrsig.specs.Made.{IsSetRefusal}
 use Rattle.dsec_rrsig.specs.declared.error.SigningError.{SigningError}
 use Rattle.dsec_rrsig.specs.declared.error.SigningError.TheVariants as signing
-use Rattle.dsec_sign.specs.ZoneSigning.{IsZoneRefusal, zone_period}
+use Rattle.dsec_sign.specs.ZoneSigning.{AddsChain, IsZoneRefusal, zone_period}
 use Rattle.dsec_sign.specs.declared.config.SigningConfig.{SigningConfig}
 use Rattle.dsec_signing.specs.Zone.{SaysSource}
 use Rattle.dsec_signing.specs.declared.error.SourceError.{SourceError}
@@ -63,11 +63,12 @@ RefusesKey zone refusals.SeveralKeys = 1 < length (filter is_key zone)
 RefusesKey zone refusals.NoMemory = ⊤
 RefusesKey zone why = RefusesOnly zone why
 
--- why the sets of a zone but its keys aren't signed, and these records are left; a signer may fail
+-- why the sets of a zone but its keys aren't signed, and these records are left; a signer may fail. Where memory was wanted the zone is left, or its
+-- whole chain was added
 abbrev pub RefusesZone : SigningConfig → Signer → Labels → List Record → List Record → Refusal → Type 0
-RefusesZone c by apex zone left refusals.SeveralClasses = AreOfOneClass zone → ⊥
+RefusesZone c by apex zone left refusals.SeveralClasses = (AreOfOneClass zone → ⊥) × (left ≡ zone)
 RefusesZone c by apex zone left (refusals.Unsigned error) = IsZoneRefusal c (by ∷ []) ⊤ apex zone zone left error
-RefusesZone c by apex zone left refusals.NoMemory = ⊤
+RefusesZone c by apex zone left refusals.NoMemory = (left ≡ zone) ⊎ AddsChain c.denial apex zone zone left
 RefusesZone c by apex zone left _ = ⊥
 
 -- why the record of the key isn't; a signer may fail here too
